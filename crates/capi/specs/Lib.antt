@@ -1,0 +1,2 @@
+-- The definitions that the contracts for C cite besides those of the crates below.
+pub mod Stored

@@ -1,0 +1,29 @@
+-- Evaluations of the definition of the square root: the root of 2, of the smallest double, and a few more.
+use mathlib.Core.Path.{_≡_, refl}
+use lib.Ieee.{nan}
+use Rattle.math.specs.Sqrt.{sqrtBits, sqrtOf}
+
+pub record SqrtExamples : Type 0 where
+  -- the root of 2, and of 2 ^ −1074, which is 2 ^ −537
+  pub root-of-two : sqrtBits 0x4000_0000_0000_0000 ≡ 0x3FF6_A09E_667F_3BCD
+  pub root-of-smallest : sqrtBits 1 ≡ 0x1E60_0000_0000_0000
+  pub root-of-four : sqrtBits 0x4010_0000_0000_0000 ≡ 0x4000_0000_0000_0000
+  pub root-of-largest : sqrtBits 0x7FEF_FFFF_FFFF_FFFF ≡ 0x5FEF_FFFF_FFFF_FFFF
+  -- 1 + 2 ^ −52: the remainder is the root itself, and is not enough to round up
+  pub root-next-to-one : sqrtBits 0x3FF0_0000_0000_0001 ≡ 0x3FF0_0000_0000_0000
+  pub negative-is-nan : sqrtBits 0xBFF0_0000_0000_0000 ≡ 0x7FF8_0000_0000_0000
+  pub nan-is-nan : sqrtBits 0xFFFF_FFFF_FFFF_FFFF ≡ 0x7FF8_0000_0000_0000
+  pub value-nan : sqrtOf nan ≡ nan
+
+pub sqrt-examples : SqrtExamples
+unfolding sqrtBits sqrtOf
+sqrt-examples = record {
+  root-of-two = refl;
+  root-of-smallest = refl;
+  root-of-four = refl;
+  root-of-largest = refl;
+  root-next-to-one = refl;
+  negative-is-nan = refl;
+  nan-is-nan = refl;
+  value-nan = refl;
+}

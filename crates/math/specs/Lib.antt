@@ -1,0 +1,4 @@
+-- The definitions that the contracts of the number leaves cite.
+pub mod Scalar
+pub mod Sqrt
+pub mod Vector2

@@ -1,0 +1,141 @@
+// The square root of a double, correctly rounded, by whole numbers alone.
+ghost use mathlib.Core.Path.{_≡_};
+ghost use Prim.Native.Nat.{_+_, _*_, _^_, _≤_, _<_};
+ghost use Rattle.math.specs.Sqrt.{root, shift, significand, exponent, rounded, positiveRoot, infinityPattern, sqrtBits, sqrtOf};
+
+// 2^52: the weight of the exponent's field, and of a significand's leading digit.
+const LEADING: u64 = 0x10_0000_0000_0000;
+
+const SIGN: u64 = 0x8000_0000_0000_0000;
+
+const INFINITY: u64 = 0x7FF0_0000_0000_0000;
+
+const NAN: u64 = 0x7FF8_0000_0000_0000;
+
+// How far a subnormal's first significant bit stands below place 52.
+fn shift(bits: u64) -> u64
+    requires { ⌜ (0 < bits) × (bits < 2 ^ 52) ⌝ }
+    ensures { λ r. ⌜ r ≡ shift bits ⌝ }
+{
+    (u64::leading_zeros(bits) - 11) as u64
+}
+
+// The significand of a positive finite pattern, its leading digit at place 52.
+fn significand(bits: u64) -> u64
+    requires { ⌜ (0 < bits) × (bits < infinityPattern) ⌝ }
+    ensures { λ r. ⌜ r ≡ significand bits ⌝ }
+{
+    if bits < LEADING {
+        bits << shift(bits)
+    } else {
+        LEADING + bits % LEADING
+    }
+}
+
+// The exponent that goes with it, counted from 0.
+fn exponent(bits: u64) -> u64
+    requires { ⌜ (0 < bits) × (bits < infinityPattern) ⌝ }
+    ensures { λ r. ⌜ r ≡ exponent bits ⌝ }
+{
+    if bits < LEADING {
+        52 - shift(bits)
+    } else {
+        bits / LEADING + 51
+    }
+}
+
+// A root in the making: its digits so far, what their square leaves of the digits taken from the
+// number, and the digits not taken yet, the next two at places 52 and 53.
+struct Partial {
+    root: u64,
+    rem: u64,
+    rest: u64,
+}
+
+// One more digit of the root, from two more of the number.
+fn next_digit(s: Partial) -> Partial
+    requires { ⌜ (s .root < 2 ^ 52) × (s .rem ≤ 2 * s .root) × (s .rest < 2 ^ 54) ⌝ }
+    ensures { λ t. ⌜ ((t .root * t .root + t .rem) * 2 ^ 54 + t .rest ≡ 4 * ((s .root * s .root + s .rem) * 2 ^ 54 + s .rest)) × (t .root ≤ 2 * s .root + 1) × (t .rem ≤ 2 * t .root) × (t .rest < 2 ^ 54) ⌝ }
+{
+    let rem = s.rem * 4 + s.rest / LEADING;
+    let rest = s.rest % LEADING * 4;
+    let odd = s.root * 4 + 1;
+    if odd <= rem {
+        Partial {
+            root: s.root * 2 + 1,
+            rem: rem - odd,
+            rest,
+        }
+    } else {
+        Partial {
+            root: s.root * 2,
+            rem,
+            rest,
+        }
+    }
+}
+
+// The floor root of n * 2^52 and its remainder: 27 digits from n, 26 more from the zeros below it.
+fn floor_root(n: u64) -> Partial
+    requires { ⌜ n < 2 ^ 54 ⌝ }
+    ensures { λ t. ⌜ (t .root ≡ root 53 (n * 2 ^ 52)) × (t .root * t .root + t .rem ≡ n * 2 ^ 52) × (t .root < 2 ^ 53) ⌝ }
+{
+    let mut s = Partial {
+        root: 0,
+        rem: 0,
+        rest: n,
+    };
+    for _ in 0..53u64 {
+        s = next_digit(s);
+    }
+    s
+}
+
+// To the nearest: up where the remainder is above the root.
+fn rounded(n: u64) -> u64
+    requires { ⌜ n < 2 ^ 54 ⌝ }
+    ensures { λ r. ⌜ r ≡ rounded (n * 2 ^ 52) ⌝ }
+{
+    let s = floor_root(n);
+    if s.rem > s.root { s.root + 1 } else { s.root }
+}
+
+// The root of a positive finite pattern: half the exponent, and the root of the significand.
+fn positive_root(bits: u64) -> u64
+    requires { ⌜ (0 < bits) × (bits < infinityPattern) ⌝ }
+    ensures { λ r. ⌜ r ≡ positiveRoot bits ⌝ }
+{
+    let e = exponent(bits);
+    let n = significand(bits) << (e % 2);
+    (e / 2 + 485) * LEADING + rounded(n)
+}
+
+// On bit patterns: either zero, and +infinity, stays; a NaN or a negative number gives NAN.
+pub fn sqrt_bits(bits: u64) -> u64
+    ensures { λ r. ⌜ r ≡ sqrtBits bits ⌝ }
+{
+    if bits % SIGN == 0 {
+        return bits;
+    }
+    if bits == INFINITY {
+        return INFINITY;
+    }
+    if bits > INFINITY {
+        return NAN;
+    }
+    positive_root(bits)
+}
+
+// On values. A NaN has no pattern that the logic knows, so none is read or made through one.
+pub fn sqrt(x: f64) -> f64
+    ensures { λ r. ⌜ r ≡ sqrtOf x ⌝ }
+{
+    if x != x {
+        return 0.0 / 0.0;
+    }
+    let r = sqrt_bits(f64::to_bits(x));
+    if r == NAN {
+        return 0.0 / 0.0;
+    }
+    f64::from_bits(r)
+}

@@ -1,0 +1,2 @@
+-- The proofs on recorded answers.
+mod Nan

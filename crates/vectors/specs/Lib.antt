@@ -1,0 +1,2 @@
+-- The definitions that the contracts on recorded answers cite.
+pub mod Words

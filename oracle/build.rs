@@ -1,0 +1,107 @@
+// Makes, in OUT_DIR, copies of the two colouring files with the few changes that a comparison
+// needs, and says where the static library of the proved code is. Each change is a replacement of
+// a text that must occur as often as said, so that a change of the source stops the build.
+
+use std::path::{Path, PathBuf};
+use std::{env, fs};
+
+const SINE: &str = "let cross_threshold = angle_threshold.sin();";
+const GIVEN: &str = "let cross_threshold = angle_threshold;";
+
+// What is private in coloring/mod.rs, for the comparison.
+const PROBE: &str = "
+pub mod by_distance_counted;
+
+pub mod probe {
+    use super::*;
+
+    pub fn trichotomy(position: i32, n: i32) -> i32 {
+        symmetrical_trichotomy(position, n)
+    }
+
+    pub fn corners(contour: &Contour, threshold: f64) -> Vec<usize> {
+        identify_corners(contour, threshold)
+    }
+
+    pub fn offer(coloring: &mut [i32], matrix: &mut [i32], n: usize, a: usize, b: usize) {
+        by_distance::offer(coloring, matrix, n, a, b)
+    }
+}
+";
+
+// What is private in coloring/by_distance.rs.
+const OFFER: &str = "
+pub fn offer(coloring: &mut [i32], matrix: &mut [i32], n: usize, a: usize, b: usize) {
+    let mut buffer = vec![0i32; n];
+    try_add_edge(coloring, matrix, n, a, b, &mut buffer)
+}
+";
+
+const OFFER_COUNTED: &str = "
+pub fn offer(coloring: &mut [i32], matrix: &mut [i32], n: usize, a: usize, b: usize) -> i32 {
+    let mut buffer = vec![0i32; n];
+    let mut steps = 0;
+    try_add_edge(coloring, matrix, n, a, b, &mut buffer, &mut steps);
+    steps
+}
+";
+
+fn replace(text: &str, times: usize, from: &str, to: &str) -> String {
+    assert_eq!(text.matches(from).count(), times, "text not found as expected: {from}");
+    text.replace(from, to)
+}
+
+// The offer with its step counter handed out: `step` is declared before the walk's block and
+// copied to `steps` after it.
+fn counted(by_distance: &str) -> String {
+    let t = replace(
+        by_distance,
+        1,
+        "    coloring_buffer: &mut [i32],\n) {",
+        "    coloring_buffer: &mut [i32],\n    steps: &mut i32,\n) {",
+    );
+    let t = replace(&t, 1, "        let mut step = 0;\n", "");
+    let t = replace(
+        &t,
+        1,
+        "    let mut uncolored: VecDeque<usize> = VecDeque::new();\n",
+        "    let mut uncolored: VecDeque<usize> = VecDeque::new();\n    let mut step = 0;\n",
+    );
+    let t = replace(
+        &t,
+        1,
+        "    if !uncolored.is_empty() {",
+        "    *steps = step;\n    if !uncolored.is_empty() {",
+    );
+    replace(&t, 1, "            &mut buffer,\n", "            &mut buffer,\n            &mut 0,\n")
+}
+
+fn main() {
+    let here = PathBuf::from(env::var("CARGO_MANIFEST_DIR").unwrap());
+    let out = PathBuf::from(env::var("OUT_DIR").unwrap());
+    let source = here.join("../docs/src/crates/bymsdfgen-core/src/coloring");
+    let read = |name: &str| -> String {
+        let path = source.join(name);
+        println!("cargo:rerun-if-changed={}", path.display());
+        fs::read_to_string(&path).unwrap()
+    };
+    let coloring = replace(&read("mod.rs"), 2, SINE, GIVEN);
+    let by_distance = replace(&read("by_distance.rs"), 1, SINE, GIVEN);
+
+    let copy = out.join("coloring");
+    fs::create_dir_all(&copy).unwrap();
+    let write = |name: &str, text: String| fs::write(Path::join(&copy, name), text).unwrap();
+    write("mod.rs", coloring + PROBE);
+    write("by_distance_counted.rs", counted(&by_distance) + OFFER_COUNTED);
+    write("by_distance.rs", by_distance + OFFER);
+    fs::write(
+        out.join("given.rs"),
+        format!("#[path = {:?}]\npub mod given;\n", copy.join("mod.rs")),
+    )
+    .unwrap();
+
+    let library = here.join("../target/staticlib");
+    println!("cargo:rustc-link-search=native={}", library.display());
+    println!("cargo:rerun-if-changed={}", library.join("libcapi.a").display());
+    println!("cargo:rerun-if-changed=build.rs");
+}

@@ -1,0 +1,202 @@
+//! The functions of math/ as functions on words, so that one loop makes vectors of them all and one
+//! compares them all.
+
+use crate::math::scalar;
+use crate::math::{Vector2, cross, dot};
+use crate::numbers::{Random, same};
+use crate::roots;
+
+pub type Inputs = [u64; 5];
+pub type Outputs = [u64; 2];
+
+/// What a word holds.
+#[derive(Clone, Copy, PartialEq)]
+pub enum Word {
+    /// A double's bits.
+    F,
+    /// A bool, 0 or 1.
+    B,
+    /// An i32, widened to 64 bits with its sign.
+    I,
+    /// A bit pattern, compared as a number also where it is a NaN's.
+    P,
+}
+
+use Word::*;
+
+pub struct Leaf {
+    pub name: &'static str,
+    pub inputs: &'static [Word],
+    pub outputs: &'static [Word],
+    pub reference: fn(&Inputs) -> Outputs,
+    /// Whether Rust leaves the answer open or panics.
+    pub open: fn(&Inputs) -> bool,
+}
+
+impl Leaf {
+    pub fn random_inputs(&self, r: &mut Random) -> Inputs {
+        let mut inputs = [0; 5];
+        for (i, kind) in self.inputs.iter().enumerate() {
+            inputs[i] = match kind {
+                F | P => r.double().to_bits(),
+                B | I => r.below(2),
+            };
+        }
+        // Equal arguments and arguments of like size are rare at random.
+        if r.below(4) == 0 && self.inputs.len() > 1 && self.inputs[1] == F {
+            inputs[1] = inputs[0];
+        }
+        if r.below(4) == 0 && self.inputs.len() > 2 && self.inputs[2] == F {
+            inputs[2] = inputs[0] ^ (r.below(2) << 63);
+        }
+        if r.below(4) == 0 && self.inputs.len() > 3 && self.inputs[3] == F {
+            inputs[3] = inputs[1] ^ (r.below(2) << 63);
+        }
+        inputs
+    }
+
+    /// The reference's answer, with one pattern for every NaN.
+    pub fn answer(&self, inputs: &Inputs) -> Outputs {
+        let mut outputs = (self.reference)(inputs);
+        for (i, kind) in self.outputs.iter().enumerate() {
+            if *kind == F && f64::from_bits(outputs[i]).is_nan() {
+                outputs[i] = NAN;
+            }
+        }
+        outputs
+    }
+
+    pub fn agree(&self, a: &Outputs, b: &Outputs) -> bool {
+        self.outputs.iter().enumerate().all(|(i, kind)| match kind {
+            F => same(f64::from_bits(a[i]), f64::from_bits(b[i])),
+            _ => a[i] == b[i],
+        })
+    }
+}
+
+pub fn f(i: &Inputs, at: usize) -> f64 {
+    f64::from_bits(i[at])
+}
+
+fn v(i: &Inputs, at: usize) -> Vector2 {
+    Vector2::new(f(i, at), f(i, at + 1))
+}
+
+pub fn b(i: &Inputs, at: usize) -> bool {
+    i[at] != 0
+}
+
+pub fn of_f(x: f64) -> Outputs {
+    [x.to_bits(), 0]
+}
+
+pub fn of_i(x: i32) -> Outputs {
+    [x as i64 as u64, 0]
+}
+
+pub fn of_b(x: bool) -> Outputs {
+    [x as u64, 0]
+}
+
+pub fn of_v(x: Vector2) -> Outputs {
+    [x.x.to_bits(), x.y.to_bits()]
+}
+
+fn never(_: &Inputs) -> bool {
+    false
+}
+
+/// `min` and `max` leave the sign open where both zeros are among the arguments.
+fn two_zeros(i: &Inputs) -> bool {
+    let zeros = &i[..3];
+    zeros.contains(&0) && zeros.contains(&(1 << 63))
+}
+
+/// `clamp` panics where the bounds are reversed or one is a NaN.
+fn bad_bounds(i: &Inputs) -> bool {
+    !(f(i, 1) <= f(i, 2))
+}
+
+pub const NAN: u64 = 0x7FF8_0000_0000_0000;
+
+/// The hardware's root, with the one NaN of document 01.
+pub fn root_of_pattern(bits: u64) -> u64 {
+    let root = f64::from_bits(bits).sqrt();
+    if root.is_nan() { NAN } else { root.to_bits() }
+}
+
+const FF: &[Word] = &[F, F];
+const FFF: &[Word] = &[F, F, F];
+const FFFF: &[Word] = &[F, F, F, F];
+
+macro_rules! leaf {
+    ($name:expr, $inputs:expr, $outputs:expr, $reference:expr) => {
+        leaf!($name, $inputs, $outputs, $reference, never)
+    };
+    ($name:expr, $inputs:expr, $outputs:expr, $reference:expr, $open:expr) => {
+        Leaf {
+            name: $name,
+            inputs: $inputs,
+            outputs: $outputs,
+            reference: $reference,
+            open: $open,
+        }
+    };
+}
+
+/// In this order they have their numbers in the vectors.
+pub const LEAVES: [Leaf; 28] = [
+    leaf!("sqrt_bits", &[P], &[P], |i| [root_of_pattern(i[0]), 0]),
+    leaf!("sqrt", &[F], &[F], |i| of_f(f(i, 0).sqrt())),
+    leaf!("median", FFF, &[F], |i| of_f(scalar::median(f(i, 0), f(i, 1), f(i, 2))), two_zeros),
+    leaf!("mix", FFF, &[F], |i| of_f(scalar::mix(f(i, 0), f(i, 1), f(i, 2)))),
+    leaf!("clamp01", &[F], &[F], |i| of_f(scalar::clamp01(f(i, 0)))),
+    leaf!("clamp", FFF, &[F], |i| of_f(scalar::clamp(f(i, 0), f(i, 1), f(i, 2))), bad_bounds),
+    leaf!("sign", &[F], &[I], |i| of_i(scalar::sign(f(i, 0)))),
+    leaf!("non_zero_sign", &[F], &[I], |i| of_i(scalar::non_zero_sign(f(i, 0)))),
+    leaf!("zero", &[], FF, |_| of_v(Vector2::ZERO)),
+    leaf!("new", FF, FF, |i| of_v(v(i, 0))),
+    leaf!("splat", &[F], FF, |i| of_v(Vector2::splat(f(i, 0)))),
+    leaf!("squared_length", FF, &[F], |i| of_f(v(i, 0).squared_length())),
+    leaf!("length", FF, &[F], |i| of_f(v(i, 0).length())),
+    leaf!("normalize", &[F, F, B], FF, |i| of_v(v(i, 0).normalize(b(i, 2)))),
+    leaf!("orthogonal", &[F, F, B], FF, |i| of_v(v(i, 0).orthogonal(b(i, 2)))),
+    leaf!("orthonormal", &[F, F, B, B], FF, |i| of_v(v(i, 0).orthonormal(b(i, 2), b(i, 3)))),
+    leaf!("is_nonzero", FF, &[B], |i| of_b(v(i, 0).is_nonzero())),
+    leaf!("eq", FFFF, &[B], |i| of_b(v(i, 0) == v(i, 2))),
+    leaf!("dot", FFFF, &[F], |i| of_f(dot(v(i, 0), v(i, 2)))),
+    leaf!("cross", FFFF, &[F], |i| of_f(cross(v(i, 0), v(i, 2)))),
+    leaf!("add", FFFF, FF, |i| of_v(v(i, 0) + v(i, 2))),
+    leaf!("sub", FFFF, FF, |i| of_v(v(i, 0) - v(i, 2))),
+    leaf!("neg", FF, FF, |i| of_v(-v(i, 0))),
+    leaf!("mul", FFFF, FF, |i| of_v(v(i, 0) * v(i, 2))),
+    leaf!("div", FFFF, FF, |i| of_v(v(i, 0) / v(i, 2))),
+    leaf!("mul_scalar", FFF, FF, |i| of_v(v(i, 0) * f(i, 2))),
+    leaf!("div_scalar", FFF, FF, |i| of_v(v(i, 0) / f(i, 2))),
+    leaf!("scale", FFF, FF, |i| of_v(f(i, 2) * v(i, 0))),
+];
+
+/// The vectors of one leaf: document 01's examples and the special values first.
+pub fn sample(number: usize) -> Vec<(Inputs, Outputs)> {
+    let leaf = &LEAVES[number];
+    let r = &mut Random(number as u64);
+    let mut inputs: Vec<Inputs> = Vec::new();
+    if leaf.inputs.is_empty() {
+        inputs.push([0; 5]);
+    } else if number == 0 {
+        for (_, kind) in roots::KINDS {
+            let mut all = Vec::new();
+            kind(r, 1, &mut |bits| all.push(bits));
+            let stride = all.len() / 200 + 1;
+            inputs.extend(all.iter().step_by(stride).map(|&bits| [bits, 0, 0, 0, 0]));
+        }
+    } else {
+        while inputs.len() < 96 {
+            let i = leaf.random_inputs(r);
+            if !(leaf.open)(&i) {
+                inputs.push(i);
+            }
+        }
+    }
+    inputs.iter().map(|i| (*i, leaf.answer(i))).collect()
+}

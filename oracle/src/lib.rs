@@ -1,0 +1,22 @@
+//! The Rust of docs/src, built as it is, with what makes inputs for it.
+//!
+//! `math`, `geometry` and `coloring` are the source; `given` is the copy of `coloring` that build.rs
+//! makes, in which the threshold is the one that is given and not its sine.
+#![allow(dead_code, unused_imports, clippy::all)]
+
+// `use arrayvec::ArrayVec` of equation_solver.rs finds the stand-in below.
+extern crate self as arrayvec;
+pub use glue::ArrayVec;
+
+pub mod geometry;
+pub mod glue;
+pub mod math;
+
+#[path = "../../docs/src/crates/bymsdfgen-core/src/coloring/mod.rs"]
+pub mod coloring;
+
+include!(concat!(env!("OUT_DIR"), "/given.rs"));
+
+pub mod leaves;
+pub mod numbers;
+pub mod roots;
