@@ -1,0 +1,49 @@
+-- `geometry::edge_segment::EdgeSegment::direction` meets its contract.
+use Rattle.geometry.specs.EdgeSegment.{direction}
+use borrow.Author.Needs.{needs}
+use Rattle.geometry.proofs.edge_segment.EdgeSegment.direction.Statement.{statement}
+use Rattle.geometry.proofs.edge_segment.EdgeSegment.direction.Tie as tie
+
+enum-known-self : tie.Need-enum-known-self
+enum-known-self c = search needs
+
+sub-requires : tie.Need-sub-requires
+sub-requires c κs = search needs
+
+enum-known-self-2 : tie.Need-enum-known-self-2
+enum-known-self-2 c = search needs
+
+quadratic-direction-requires : tie.Need-quadratic-direction-requires
+quadratic-direction-requires c κs = search needs
+
+enum-known-self-3 : tie.Need-enum-known-self-3
+enum-known-self-3 c = search needs
+
+cubic-direction-requires : tie.Need-cubic-direction-requires
+cubic-direction-requires c κs = search needs
+
+returns : tie.Need-returns
+unfolding direction
+returns c = rw (c .before .before .self .given .1) (c .sub .ensures)
+
+returns-2 : tie.Need-returns-2
+unfolding direction
+returns-2 c = rw (c .before .before .self2 .given .1) (c .quadratic-direction .ensures)
+
+returns-3 : tie.Need-returns-3
+unfolding direction
+returns-3 c = rw (c .before .before .self3 .given .1) (c .cubic-direction .ensures)
+
+pub direction-spec : {M : Type 1} → statement M
+direction-spec =
+    tie.close
+    (tie.spec
+    enum-known-self
+    sub-requires
+    enum-known-self-2
+    quadratic-direction-requires
+    enum-known-self-3
+    cubic-direction-requires
+    returns
+    returns-2
+    returns-3)

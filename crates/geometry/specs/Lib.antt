@@ -1,0 +1,4 @@
+-- The definitions that the contracts of edges and their colors cite.
+pub mod EdgeColor
+pub mod EdgeSegment
+pub mod Examples

@@ -1,0 +1,3 @@
+// Geometry: edge colors and edge segments.
+pub mod edge_color;
+pub mod edge_segment;
