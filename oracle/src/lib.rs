@@ -17,6 +17,7 @@ pub mod coloring;
 
 include!(concat!(env!("OUT_DIR"), "/given.rs"));
 
+pub mod edges;
 pub mod leaves;
 pub mod numbers;
 pub mod roots;

@@ -1,2 +1,3 @@
 -- The definitions that the contracts for C cite besides those of the crates below.
 pub mod Stored
+pub mod Edges

@@ -1,7 +1,7 @@
 //! Writes the files `stdin` and `stdout` of the replay programs, in the folder of crates that is
 //! named: `vectors ../crates`.
 
-use oracle::leaves;
+use oracle::{edges, leaves};
 use std::path::Path;
 
 /// The records of one program, and the counts that it prints when every answer is right.
@@ -61,10 +61,28 @@ fn math() -> Recording {
     out
 }
 
+/// Records of 20 words: the function's number; a kind, eight places and a parameter; a number and
+/// eight places.
+fn geometry() -> Recording {
+    let mut out = Recording::new(160);
+    for (number, function) in edges::FUNCTIONS.iter().enumerate() {
+        let vectors = function.vectors(number);
+        out.heading(function.name, vectors.len());
+        for (inputs, outputs) in vectors {
+            out.words(&[number as u64, inputs.kind]);
+            out.words(&inputs.places);
+            out.words(&[inputs.parameter, outputs.number]);
+            out.words(&outputs.places);
+        }
+    }
+    out
+}
+
 fn main() {
     let Some(crates) = std::env::args().nth(1) else {
         eprintln!("usage: vectors CRATES");
         std::process::exit(2);
     };
     math().write(Path::new(&crates), "replay_math");
+    geometry().write(Path::new(&crates), "replay_geometry");
 }

@@ -1,6 +1,7 @@
 //! Runs the proved code, through target/staticlib/libcapi.a, beside the Rust of docs/src, and counts
 //! the answers that differ. The last line is the verdict.
 
+mod edges;
 mod leaves;
 
 /// How many answers were compared, and how many of them differ.
@@ -33,6 +34,7 @@ impl Tally {
 fn main() {
     let mut all = Tally::default();
     leaves::compare(&mut all);
+    edges::compare(&mut all);
     println!("{} compared, {} differ", all.compared, all.differ);
     if all.differ != 0 {
         std::process::exit(1);

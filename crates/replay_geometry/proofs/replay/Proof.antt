@@ -1,0 +1,63 @@
+-- `replay_geometry::replay` is safe and ends: what is left of the records falls. Assumes nothing.
+use borrow.Author.Needs.{needs}
+use Prim.Native.Nat.{_≤_, _-_}
+use lib.ListN.{length}
+use Rattle.replay_geometry.proofs.replay.Statement.{statement}
+use Rattle.replay_geometry.proofs.replay.Tie as tie
+
+abbrev Inv-loop : tie.InvT-loop
+Inv-loop s counts₀ at₀ counts at = at ≤ length s
+
+abbrev μ-loop : tie.MeasureT-loop
+μ-loop s counts₀ at₀ counts at = length s - at
+
+loop-holds : tie.Need-loop-holds Inv-loop μ-loop
+loop-holds c = search needs
+
+sub-loop : tie.Need-sub-loop Inv-loop μ-loop
+sub-loop c = search needs
+
+sub-step : tie.Need-sub-step Inv-loop μ-loop
+sub-step c = search needs
+
+part-step-start : tie.Need-part-step-start Inv-loop μ-loop
+part-step-start c = search needs
+
+part-step-end : tie.Need-part-step-end Inv-loop μ-loop
+part-step-end c = search needs
+
+step-requires : tie.Need-step-requires Inv-loop μ-loop
+step-requires c κs = search needs
+
+add-at : tie.Need-add-at Inv-loop μ-loop
+add-at c = search needs
+
+loop-less : tie.Need-loop-less Inv-loop μ-loop
+loop-less c = search needs
+
+loop-again : tie.Need-loop-again Inv-loop μ-loop
+loop-again c = search needs
+
+print-counts-requires : tie.Need-print-counts-requires Inv-loop μ-loop
+print-counts-requires c κs = search needs
+
+returns : tie.Need-returns Inv-loop μ-loop
+returns c = search needs
+
+pub replay-spec : {M : Type 1} → statement M
+replay-spec =
+    tie.close
+    (tie.spec
+    Inv-loop
+    μ-loop
+    loop-holds
+    sub-loop
+    sub-step
+    part-step-start
+    part-step-end
+    step-requires
+    add-at
+    loop-less
+    loop-again
+    print-counts-requires
+    returns)
