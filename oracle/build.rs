@@ -8,9 +8,13 @@ use std::{env, fs};
 const SINE: &str = "let cross_threshold = angle_threshold.sin();";
 const GIVEN: &str = "let cross_threshold = angle_threshold;";
 
+const LIMIT: &str = "const MAX_RECOLOR_STEPS: i32 = 16;";
+const LONGER: &str = "const MAX_RECOLOR_STEPS: i32 = 18;";
+
 // What is private in coloring/mod.rs, for the comparison.
 const PROBE: &str = "
 pub mod by_distance_counted;
+pub mod by_distance_longer;
 
 pub mod probe {
     use super::*;
@@ -26,6 +30,10 @@ pub mod probe {
     pub fn offer(coloring: &mut [i32], matrix: &mut [i32], n: usize, a: usize, b: usize) {
         by_distance::offer(coloring, matrix, n, a, b)
     }
+
+    pub fn offers(coloring: &mut [i32], matrix: &mut [i32], n: usize, pairs: &[(usize, usize)]) {
+        by_distance::offers(coloring, matrix, n, pairs)
+    }
 }
 ";
 
@@ -34,6 +42,13 @@ const OFFER: &str = "
 pub fn offer(coloring: &mut [i32], matrix: &mut [i32], n: usize, a: usize, b: usize) {
     let mut buffer = vec![0i32; n];
     try_add_edge(coloring, matrix, n, a, b, &mut buffer)
+}
+
+pub fn offers(coloring: &mut [i32], matrix: &mut [i32], n: usize, pairs: &[(usize, usize)]) {
+    let mut buffer = vec![0i32; n];
+    for &(a, b) in pairs {
+        try_add_edge(coloring, matrix, n, a, b, &mut buffer);
+    }
 }
 ";
 
@@ -92,7 +107,9 @@ fn main() {
     fs::create_dir_all(&copy).unwrap();
     let write = |name: &str, text: String| fs::write(Path::join(&copy, name), text).unwrap();
     write("mod.rs", coloring + PROBE);
-    write("by_distance_counted.rs", counted(&by_distance) + OFFER_COUNTED);
+    let counted = counted(&by_distance) + OFFER_COUNTED;
+    write("by_distance_longer.rs", replace(&counted, 1, LIMIT, LONGER));
+    write("by_distance_counted.rs", counted);
     write("by_distance.rs", by_distance + OFFER);
     fs::write(
         out.join("given.rs"),

@@ -21,3 +21,4 @@ pub mod edges;
 pub mod leaves;
 pub mod numbers;
 pub mod roots;
+pub mod tables;

@@ -1,12 +1,13 @@
 //! Writes the files `stdin` and `stdout` of the replay programs, in the folder of crates that is
 //! named: `vectors ../crates`.
 
+use oracle::tables::{self, Run, Table};
 use oracle::{edges, leaves};
 use std::path::Path;
 
 /// The records of one program, and the counts that it prints when every answer is right.
 struct Recording {
-    /// Bytes a record, a multiple of eight.
+    /// Bytes a record, a multiple of eight; 1 where records have no common size.
     size: usize,
     records: Vec<u8>,
     counts: String,
@@ -21,6 +22,11 @@ impl Recording {
         for w in words {
             self.records.extend(w.to_le_bytes());
         }
+    }
+
+    fn buffers(&mut self, t: &Table) {
+        self.records.extend(&t.coloring);
+        self.records.extend(&t.edge_matrix);
     }
 
     /// Fills the last record with zeros.
@@ -78,6 +84,25 @@ fn geometry() -> Recording {
     out
 }
 
+/// Runs of offers: how many colours, entries and offers; the two buffers; a, b and the answer of each
+/// offer; the two buffers after the last.
+fn table() -> Recording {
+    let mut out = Recording::new(1);
+    for (name, runs) in tables::sample() {
+        out.heading(&name, runs.iter().map(|run| run.offers.len() + 1).sum());
+        for Run { before, offers, after } in runs {
+            let (n, m) = (before.coloring.len(), before.edge_matrix.len());
+            out.words(&[n as u64, m as u64, offers.len() as u64]);
+            out.buffers(&before);
+            for ((a, b), answer) in offers {
+                out.words(&[a as u64, b as u64, answer.code()]);
+            }
+            out.buffers(&after);
+        }
+    }
+    out
+}
+
 fn main() {
     let Some(crates) = std::env::args().nth(1) else {
         eprintln!("usage: vectors CRATES");
@@ -85,4 +110,5 @@ fn main() {
     };
     math().write(Path::new(&crates), "replay_math");
     geometry().write(Path::new(&crates), "replay_geometry");
+    table().write(Path::new(&crates), "replay_table");
 }

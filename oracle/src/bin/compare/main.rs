@@ -1,14 +1,18 @@
 //! Runs the proved code, through target/staticlib/libcapi.a, beside the Rust of docs/src, and counts
-//! the answers that differ. The last line is the verdict.
+//! the answers that differ. The last line is the verdict. A word names one part alone: `leaves`,
+//! `edges`, `tables`; `speed` measures and compares nothing.
 
 mod edges;
 mod leaves;
+mod tables;
 
-/// How many answers were compared, and how many of them differ.
+/// How many answers were compared, how many of them differ, and how many kinds of input that are asked
+/// for were not met.
 #[derive(Default)]
 pub struct Tally {
     pub compared: u64,
     pub differ: u64,
+    pub empty: u64,
 }
 
 impl Tally {
@@ -23,6 +27,14 @@ impl Tally {
         }
     }
 
+    /// A kind of input that must have been met.
+    pub fn met(&mut self, count: u64, what: impl FnOnce() -> String) {
+        if count == 0 {
+            self.empty += 1;
+            println!("not met: {}", what());
+        }
+    }
+
     /// Prints the count of one part and adds it to the whole.
     pub fn close(&mut self, name: &str, part: Tally) {
         println!("{name}: {} compared, {} differ", part.compared, part.differ);
@@ -32,11 +44,29 @@ impl Tally {
 }
 
 fn main() {
+    let word = std::env::args().nth(1);
     let mut all = Tally::default();
-    leaves::compare(&mut all);
-    edges::compare(&mut all);
-    println!("{} compared, {} differ", all.compared, all.differ);
-    if all.differ != 0 {
+    match word.as_deref() {
+        None => {
+            leaves::compare(&mut all);
+            edges::compare(&mut all);
+            tables::compare(&mut all);
+        }
+        Some("leaves") => leaves::compare(&mut all),
+        Some("edges") => edges::compare(&mut all),
+        Some("tables") => tables::compare(&mut all),
+        Some("speed") => return tables::speed(),
+        Some(_) => {
+            eprintln!("usage: compare [leaves | edges | tables | speed]");
+            std::process::exit(2);
+        }
+    }
+    print!("{} compared, {} differ", all.compared, all.differ);
+    if all.empty != 0 {
+        print!(", {} kinds of input not met", all.empty);
+    }
+    println!();
+    if all.differ != 0 || all.empty != 0 {
         std::process::exit(1);
     }
 }

@@ -1,0 +1,21 @@
+-- Laws that several proofs share, and the theorems about the definitions.
+
+-- one offer: its code
+pub mod ListLaws
+pub mod RowLaws
+pub mod FreeColorLaws
+pub mod QueueLaws
+pub mod UncolorLaws
+pub mod WalkLaws
+pub mod TurnLaws
+pub mod StartLaws
+pub mod RuleLaws
+pub mod SoundLaws
+pub mod OfferCheckLaws
+-- lists of offers: the sequence rule
+pub mod TableLaws
+pub mod NeighborLaws
+pub mod WalkProper
+pub mod OfferNoClash
+pub mod OfferLaws
+pub mod SequenceRule

@@ -1,0 +1,82 @@
+-- `uncolor_from` meets its contract: what is left to do from here equals the whole, and the ring holds the queue.
+use mathlib.Core.Path.{_≡_, refl, sym, ap, _∙_}
+use Prim.Native.Nat.{_-_}
+use native.Mathlib.Omega.{arith}
+use lib.ListN.{length}
+use Rattle.coloring.specs.SplineTable.{uncolorFrom}
+use Rattle.coloring.specs.Queue.{Uncoloring, recoloring}
+use Rattle.coloring.proofs.UncolorLaws.{uncolor-step, uncolor-end, uncoloring-one}
+use Rattle.coloring.proofs.spline_table.uncolor_from.Statement.{statement}
+use Rattle.coloring.proofs.spline_table.uncolor_from.Tie as tie
+use Rattle.coloring.proofs.spline_table.uncolor_from.Reads as reads
+use Rattle.coloring.proofs.spline_table.uncolor_from.Lts as lts
+use Rattle.coloring.proofs.spline_table.uncolor_one.Reads as uncolor-one-reads
+
+abbrev Inv-loop : tie.InvT-loop
+Inv-loop coloring₀ queue₀ entries c from to head waiting count₀ i₀ coloring queue count i =
+    Uncoloring coloring queue entries head count c
+    × (length coloring ≡ length coloring₀)
+    × (length queue ≡ length queue₀)
+    × (uncolorFrom entries c i (to - i) (recoloring coloring queue head count) ≡ uncolorFrom entries c from (to - from) (recoloring coloring₀ queue₀ head waiting))
+
+abbrev μ-loop : tie.MeasureT-loop
+μ-loop coloring₀ queue₀ entries c from to head waiting count₀ i₀ coloring queue count i = to - i
+
+-- src/spline_table.rt:117:5
+loop-holds : tie.Need-loop-holds Inv-loop μ-loop
+loop-holds c = (c .before .before .before .pre .0, refl, refl, refl)
+
+-- src/spline_table.rt:118:9
+uncolor-one-requires : tie.Need-uncolor-one-requires Inv-loop μ-loop
+uncolor-one-requires c κs = (c .before .before .before .loop .inv .0, omega arith)
+
+-- src/spline_table.rt:119:9
+add-i : tie.Need-add-i Inv-loop μ-loop
+add-i c = omega arith
+
+-- src/spline_table.rt:117:5
+loop-less : tie.Need-loop-less Inv-loop μ-loop
+loop-less c = omega arith
+
+-- src/spline_table.rt:117:5
+loop-again : tie.Need-loop-again Inv-loop μ-loop
+loop-again c =
+    let one = c .before .before .before .before .uncolor-one in
+    let at = c .before .before .before .before .before .before .before .before in
+    let args = at .before .before .before .before .args in
+    let step = uncolor-step (args .entries .now) (args .c) (at .loop .i) (args .to) (recoloring (at .loop .coloring) (at .loop .queue) (args .head) (at .loop .count)) (omega arith) in (
+      uncoloring-one (at .loop .inv .0) (at .loop .i) (one .last .0) (one .last .1 .0) (one .result) (one .ensures) (one .kept .1 .0),
+      one .kept .0 ∙ at .loop .inv .1,
+      one .kept .1 .0 ∙ at .loop .inv .2,
+      rw (one .ensures) (sym step ∙ at .loop .inv .3),
+    )
+
+-- src/spline_table.rt:102:1
+same-length : tie.Need-same-length Inv-loop μ-loop
+same-length c = omega arith
+
+-- src/spline_table.rt:102:1
+same-length-2 : tie.Need-same-length-2 Inv-loop μ-loop
+same-length-2 c = omega arith
+
+-- src/spline_table.rt:102:1
+returns : tie.Need-returns Inv-loop μ-loop
+returns c =
+    let args = c .before .before .before .before .before .args in
+    let loop = c .before .loop in
+    sym (uncolor-end (args .entries .now) (args .c) (loop .i) (args .to) (recoloring (loop .coloring) (loop .queue) (args .head) (loop .count)) (omega arith)) ∙ loop .inv .3
+
+pub uncolor-from-spec : {M : Type 1} → statement M
+uncolor-from-spec =
+    tie.close
+    (tie.spec
+    Inv-loop
+    μ-loop
+    loop-holds
+    uncolor-one-requires
+    add-i
+    loop-less
+    loop-again
+    same-length
+    same-length-2
+    returns)

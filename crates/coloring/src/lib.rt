@@ -1,0 +1,3 @@
+// The colouring itself, after the source's coloring/: so far the spline table and its offers.
+pub mod refusal;
+pub mod spline_table;

@@ -1,0 +1,289 @@
+//! The spline table: single offers, refusals, lists of offers, and how long a list takes.
+
+use crate::Tally;
+use oracle::given::probe;
+use oracle::numbers::Random;
+use oracle::tables::{Answer, FAULTS, Pair, Table, Way};
+use oracle::tables::{all_pairs, list, offer, pair, ring, size, sound, start, way};
+use std::hint::black_box;
+use std::time::{Duration, Instant};
+
+#[link(name = "capi", kind = "static")]
+unsafe extern "C" {
+    fn capi_try_add_edge(
+        coloring: *mut u8,
+        n: usize,
+        edge_matrix: *mut u8,
+        entries: usize,
+        a: usize,
+        b: usize,
+    ) -> u64;
+}
+
+fn try_add_edge(coloring: &mut [u8], edge_matrix: &mut [u8], (a, b): Pair) -> u64 {
+    let (c, n) = (coloring.as_mut_ptr(), coloring.len());
+    let (e, m) = (edge_matrix.as_mut_ptr(), edge_matrix.len());
+    unsafe { capi_try_add_edge(c, n, e, m, a, b) }
+}
+
+/// A buffer as it is lent: with bytes before and after it that must stay as they are.
+struct Lent(Vec<u8>);
+
+impl Lent {
+    const MARGIN: [u8; 16] = [0xA5; 16];
+
+    fn new(bytes: &[u8]) -> Self {
+        Lent([&Self::MARGIN, bytes, &Self::MARGIN].concat())
+    }
+
+    fn part(&mut self) -> &mut [u8] {
+        let end = self.0.len() - 16;
+        &mut self.0[16..end]
+    }
+
+    fn is(&self, bytes: &[u8]) -> bool {
+        let end = self.0.len() - 16;
+        self.0[..16] == Self::MARGIN && &self.0[16..end] == bytes && self.0[end..] == Self::MARGIN
+    }
+}
+
+/// Makes an offer to the proved code and to the source, the latter on `t` itself, and compares
+/// answer, counter and every byte. The answer is the source's.
+fn compare_offer(part: &mut Tally, t: &mut Table, p: Pair) -> Answer {
+    let (mut coloring, mut edge_matrix) = (Lent::new(&t.coloring), Lent::new(&t.edge_matrix));
+    let code = try_add_edge(coloring.part(), edge_matrix.part(), p);
+    let before = t.clone();
+    let answer = offer(t, p);
+    let agree = code == answer.code() && coloring.is(&t.coloring) && edge_matrix.is(&t.edge_matrix);
+    part.note(agree, || format!("offer {p:?} to {before:?}: {answer:?}, proved {code:#x}"));
+    answer
+}
+
+/// How many offers went which way: without a clash, with one, and where the pair was kept before.
+#[derive(Default)]
+struct Histogram([[u64; 3]; 20]);
+
+impl Histogram {
+    fn row(way: Way, answer: Answer) -> usize {
+        match (way, answer) {
+            (Way::ColorsDiffer, Answer::Kept(0)) => 0,
+            (Way::FreeColor, Answer::Kept(0)) => 1,
+            (Way::Walk, Answer::Kept(steps)) if steps <= 15 => 2 + steps as usize,
+            (Way::Walk, Answer::Declined(16)) => 18,
+            (Way::Walk, Answer::Declined(17)) => 19,
+            _ => panic!("no such answer: {way:?}, {answer:?}"),
+        }
+    }
+
+    fn name(row: usize) -> String {
+        match row {
+            0 => "colours differ".into(),
+            1 => "a free colour".into(),
+            18.. => format!("walk, declined at {}", row - 2),
+            _ => format!("walk, kept at {}", row - 2),
+        }
+    }
+
+    fn note(&mut self, row: usize, clash: bool, kept: bool) {
+        self.0[row][if kept { 2 } else { clash as usize }] += 1;
+    }
+
+    fn print(&self) {
+        println!("{:24}{:>12}{:>12}{:>12}", "", "no clash", "a clash", "kept before");
+        for (row, [no_clash, clash, kept]) in self.0.iter().enumerate() {
+            println!("{:24}{no_clash:>12}{clash:>12}{kept:>12}", Self::name(row));
+        }
+    }
+}
+
+/// Single offers, half of them to tables that may have a clash.
+fn offers(all: &mut Tally) {
+    let mut part = Tally::default();
+    let mut histogram = Histogram::default();
+    let mut sizes = [0u64; 65];
+    let r = &mut Random(200);
+    while part.compared < 1_200_000 {
+        let n = size(r);
+        let mut t = sound(r, n, part.compared % 2 == 1);
+        let p = pair(r, &t);
+        sizes[n] += 1;
+        if n < 2 {
+            compare_offer(&mut part, &mut t, p);
+            continue;
+        }
+        let (way, clash, kept) = (way(&t, p), t.clashes(), t.kept(p));
+        let answer = compare_offer(&mut part, &mut t, p);
+        histogram.note(Histogram::row(way, answer), clash, kept);
+    }
+    histogram.print();
+    for (row, columns) in histogram.0.iter().enumerate() {
+        // Where a pair was kept before and the colours are equal, the pair itself is the clash.
+        for (column, count) in columns.iter().enumerate() {
+            all.met(*count, || format!("{}, column {column}", Histogram::name(row)));
+        }
+    }
+    for (n, count) in sizes.iter().enumerate() {
+        all.met(*count, || format!("{n} splines"));
+    }
+    all.close("offers", part);
+}
+
+/// Offers with up to three faults: what is refused, by which number, and no byte changed.
+fn refusals(all: &mut Tally) {
+    let mut part = Tally::default();
+    let mut alone = [[0u64; 4]; FAULTS.len()];
+    let mut together = [0u64; 4];
+    let mut sizes = [0u64; 80];
+    let r = &mut Random(201);
+    for _ in 0..400_000 {
+        let n = if r.coin() { size(r) } else { r.below(6) as usize };
+        let mut t = sound(r, n, true);
+        let mut p = pair(r, &t);
+        let faults = r.below(4);
+        let mut fault = 0;
+        for _ in 0..faults {
+            fault = r.below(FAULTS.len() as u64) as usize;
+            FAULTS[fault].1(r, &mut t, &mut p);
+        }
+        sizes[t.n()] += 1;
+        let which = match compare_offer(&mut part, &mut t, p) {
+            Answer::Refused(4) => 1,
+            Answer::Refused(8) => 2,
+            Answer::Refused(10) => 3,
+            _ => 0,
+        };
+        together[which] += 1;
+        if faults == 1 && n > 2 {
+            alone[fault][which] += 1;
+        }
+    }
+    println!("{:32}{:>10}{:>10}{:>10}{:>10}", "", "accepted", "4", "8", "10");
+    for ((name, _), [accepted, four, eight, ten]) in FAULTS.iter().zip(alone) {
+        println!("{name:32}{accepted:>10}{four:>10}{eight:>10}{ten:>10}");
+        all.met(four + eight + ten, || format!("refused: {name}"));
+    }
+    let [accepted, four, eight, ten] = together;
+    println!("{:32}{accepted:>10}{four:>10}{eight:>10}{ten:>10}", "up to three together");
+    for (which, number) in [4, 8, 10].iter().enumerate() {
+        all.met(together[1 + which], || format!("refused {number}"));
+    }
+    for n in [0, 1, 2, 63, 64, 65] {
+        all.met(sizes[n], || format!("refusals, {n} splines"));
+    }
+    all.close("refusals", part);
+}
+
+/// Whole lists of offers, each made to the buffers as the one before left them.
+fn lists(all: &mut Tally) {
+    let mut part = Tally::default();
+    let mut counts = [0u64; 3];
+    let r = &mut Random(202);
+    for number in 0..1600 {
+        let n = size(r);
+        let mut t = start(r, n, number % 4 == 0);
+        let mut p = (0, 1);
+        if number % 16 == 1 {
+            // a table at fault in itself
+            FAULTS[r.below(4) as usize].1(r, &mut t, &mut p);
+        }
+        let (mut coloring, mut edge_matrix) = (t.coloring.clone(), t.edge_matrix.clone());
+        for p in list(r, n) {
+            let code = try_add_edge(&mut coloring, &mut edge_matrix, p);
+            let answer = offer(&mut t, p);
+            counts[match answer {
+                Answer::Kept(_) => 0,
+                Answer::Declined(_) => 1,
+                Answer::Refused(_) => 2,
+            }] += 1;
+            let agree =
+                code == answer.code() && coloring == t.coloring && edge_matrix == t.edge_matrix;
+            part.note(agree, || {
+                format!("list {number}, offer {p:?}: {answer:?}, proved {code:#x}")
+            });
+            if !agree {
+                break;
+            }
+        }
+    }
+    let [kept, declined, refused] = counts;
+    println!("lists: {kept} kept, {declined} declined, {refused} refused");
+    for count in counts {
+        all.met(count, || "an answer in the lists".into());
+    }
+    all.close("lists of offers", part);
+}
+
+pub fn compare(all: &mut Tally) {
+    offers(all);
+    refusals(all);
+    lists(all);
+}
+
+// ---- speed
+
+/// The best of several runs.
+fn best(mut run: impl FnMut()) -> Duration {
+    let time = |_| {
+        let from = Instant::now();
+        run();
+        from.elapsed()
+    };
+    (0..15).map(time).min().unwrap()
+}
+
+/// A job's worth of offers: 64 splines, the neighbours of a ring kept, then all 2,016 pairs.
+pub fn speed() {
+    let r = &mut Random(203);
+    let jobs: Vec<(Table, Vec<Pair>)> = (0..20).map(|_| (ring(r, 64), all_pairs(r, 64))).collect();
+    let mut ends: Vec<Table> = Vec::new();
+    let proved = best(|| {
+        ends.clear();
+        for (t, pairs) in &jobs {
+            let mut t = t.clone();
+            for &p in pairs {
+                black_box(try_add_edge(&mut t.coloring, &mut t.edge_matrix, p));
+            }
+            ends.push(t);
+        }
+    });
+    // a kept pair of two colours: the checks, and next to nothing else
+    let checks = best(|| {
+        for (t, (_, pairs)) in ends.iter_mut().zip(&jobs) {
+            let kept = pairs.iter().find(|&&p| t.kept(p)).unwrap();
+            for _ in pairs {
+                black_box(try_add_edge(&mut t.coloring, &mut t.edge_matrix, *kept));
+            }
+        }
+    });
+    let mut sums = (0, 0);
+    let source = best(|| {
+        sums = (0, 0);
+        for (t, pairs) in &jobs {
+            let mut coloring: Vec<i32> = t.coloring.iter().map(|&c| c as i32).collect();
+            let mut matrix: Vec<i32> = t.edge_matrix.iter().map(|&e| e as i32).collect();
+            probe::offers(&mut coloring, &mut matrix, 64, pairs);
+            sums.0 += coloring.iter().sum::<i32>();
+            sums.1 += matrix.iter().sum::<i32>();
+        }
+    });
+    let sum = |bytes: &[u8]| bytes.iter().map(|&x| x as i32).sum::<i32>();
+    let colors: i32 = ends.iter().map(|t| sum(&t.coloring)).sum();
+    let entries: i32 = ends.iter().map(|t| sum(&t.edge_matrix)).sum();
+    assert_eq!((colors, entries), sums, "the two ended in different tables");
+    let ms = |d: Duration| d.as_secs_f64() * 1e3 / jobs.len() as f64;
+    println!(
+        "64 splines, 2016 offers, in milliseconds, the best of 15 runs over {} lists",
+        jobs.len()
+    );
+    println!(
+        "proved {:.3} (checks of the table {:.3}), Rust {:.3}",
+        ms(proved),
+        ms(checks),
+        ms(source)
+    );
+    println!(
+        "proved / Rust {:.2}, without the checks {:.2}",
+        ms(proved) / ms(source),
+        (ms(proved) - ms(checks)) / ms(source)
+    );
+}
