@@ -26,14 +26,14 @@ fn try_add_edge(coloring: &mut [u8], edge_matrix: &mut [u8], (a, b): Pair) -> u6
     unsafe { capi_try_add_edge(c, n, e, m, a, b) }
 }
 
-/// A buffer as it is lent: with bytes before and after it that must stay as they are.
-struct Lent(Vec<u8>);
+/// A buffer with bytes before and after it that must stay as they are.
+struct Guarded(Vec<u8>);
 
-impl Lent {
+impl Guarded {
     const MARGIN: [u8; 16] = [0xA5; 16];
 
     fn new(bytes: &[u8]) -> Self {
-        Lent([&Self::MARGIN, bytes, &Self::MARGIN].concat())
+        Guarded([&Self::MARGIN, bytes, &Self::MARGIN].concat())
     }
 
     fn part(&mut self) -> &mut [u8] {
@@ -50,7 +50,7 @@ impl Lent {
 /// Makes an offer to the proved code and to the source, the latter on `t` itself, and compares
 /// answer, counter and every byte. The answer is the source's.
 fn compare_offer(part: &mut Tally, t: &mut Table, p: Pair) -> Answer {
-    let (mut coloring, mut edge_matrix) = (Lent::new(&t.coloring), Lent::new(&t.edge_matrix));
+    let (mut coloring, mut edge_matrix) = (Guarded::new(&t.coloring), Guarded::new(&t.edge_matrix));
     let code = try_add_edge(coloring.part(), edge_matrix.part(), p);
     let before = t.clone();
     let answer = offer(t, p);
@@ -221,69 +221,60 @@ pub fn compare(all: &mut Tally) {
 
 // ---- speed
 
-/// The best of several runs.
-fn best(mut run: impl FnMut()) -> Duration {
-    let time = |_| {
-        let from = Instant::now();
-        run();
-        from.elapsed()
-    };
-    (0..15).map(time).min().unwrap()
+/// How long something takes, where that is less than `least`.
+fn time<T>(least: &mut Duration, run: impl FnOnce() -> T) -> T {
+    let from = Instant::now();
+    let result = run();
+    *least = from.elapsed().min(*least);
+    result
 }
 
-/// A job's worth of offers: 64 splines, the neighbours of a ring kept, then all 2,016 pairs.
+fn offers_proved(t: &Table, pairs: &[Pair]) -> Table {
+    let mut t = t.clone();
+    for &p in pairs {
+        black_box(try_add_edge(&mut t.coloring, &mut t.edge_matrix, p));
+    }
+    t
+}
+
+fn offers_source(t: &Table, pairs: &[Pair]) -> (Vec<i32>, Vec<i32>) {
+    let mut coloring: Vec<i32> = t.coloring.iter().map(|&c| c as i32).collect();
+    let mut matrix: Vec<i32> = t.edge_matrix.iter().map(|&e| e as i32).collect();
+    probe::offers(&mut coloring, &mut matrix, t.n(), pairs);
+    (coloring, matrix)
+}
+
+/// A job's worth of offers: 64 splines, the neighbours of a ring kept, then all 2,016 pairs. Each of 20
+/// lists is run 25 times on both sides by turns, and the best time of each is taken.
 pub fn speed() {
     let r = &mut Random(203);
-    let jobs: Vec<(Table, Vec<Pair>)> = (0..20).map(|_| (ring(r, 64), all_pairs(r, 64))).collect();
-    let mut ends: Vec<Table> = Vec::new();
-    let proved = best(|| {
-        ends.clear();
-        for (t, pairs) in &jobs {
-            let mut t = t.clone();
-            for &p in pairs {
-                black_box(try_add_edge(&mut t.coloring, &mut t.edge_matrix, p));
-            }
-            ends.push(t);
+    let mut sums = [Duration::ZERO; 3];
+    for _ in 0..20 {
+        let (t, pairs) = (ring(r, 64), all_pairs(r, 64));
+        let end = offers_proved(&t, &pairs);
+        let wide = |bytes: &[u8]| bytes.iter().map(|&x| x as i32).collect::<Vec<i32>>();
+        let ends = (wide(&end.coloring), wide(&end.edge_matrix));
+        assert!(ends == offers_source(&t, &pairs), "the two end in different tables");
+        // a kept pair of two colours: the checks, and next to nothing else
+        let kept = vec![*pairs.iter().find(|&&p| end.kept(p)).unwrap(); pairs.len()];
+        let mut best = [Duration::MAX; 3];
+        for _ in 0..25 {
+            time(&mut best[0], || black_box(offers_proved(&t, &pairs)));
+            time(&mut best[1], || black_box(offers_proved(&end, &kept)));
+            time(&mut best[2], || black_box(offers_source(&t, &pairs)));
         }
-    });
-    // a kept pair of two colours: the checks, and next to nothing else
-    let checks = best(|| {
-        for (t, (_, pairs)) in ends.iter_mut().zip(&jobs) {
-            let kept = pairs.iter().find(|&&p| t.kept(p)).unwrap();
-            for _ in pairs {
-                black_box(try_add_edge(&mut t.coloring, &mut t.edge_matrix, *kept));
-            }
+        for (sum, best) in sums.iter_mut().zip(best) {
+            *sum += best;
         }
-    });
-    let mut sums = (0, 0);
-    let source = best(|| {
-        sums = (0, 0);
-        for (t, pairs) in &jobs {
-            let mut coloring: Vec<i32> = t.coloring.iter().map(|&c| c as i32).collect();
-            let mut matrix: Vec<i32> = t.edge_matrix.iter().map(|&e| e as i32).collect();
-            probe::offers(&mut coloring, &mut matrix, 64, pairs);
-            sums.0 += coloring.iter().sum::<i32>();
-            sums.1 += matrix.iter().sum::<i32>();
-        }
-    });
-    let sum = |bytes: &[u8]| bytes.iter().map(|&x| x as i32).sum::<i32>();
-    let colors: i32 = ends.iter().map(|t| sum(&t.coloring)).sum();
-    let entries: i32 = ends.iter().map(|t| sum(&t.edge_matrix)).sum();
-    assert_eq!((colors, entries), sums, "the two ended in different tables");
-    let ms = |d: Duration| d.as_secs_f64() * 1e3 / jobs.len() as f64;
+    }
+    let [proved, checks, source] = sums.map(|sum| sum.as_secs_f64() * 1e3 / 20.0);
     println!(
-        "64 splines, 2016 offers, in milliseconds, the best of 15 runs over {} lists",
-        jobs.len()
+        "64 splines, 2016 offers, in milliseconds, the mean of 20 lists, each the best of 25 runs"
     );
-    println!(
-        "proved {:.3} (checks of the table {:.3}), Rust {:.3}",
-        ms(proved),
-        ms(checks),
-        ms(source)
-    );
+    println!("proved {proved:.3} (checks of the table {checks:.3}), Rust {source:.3}");
     println!(
         "proved / Rust {:.2}, without the checks {:.2}",
-        ms(proved) / ms(source),
-        (ms(proved) - ms(checks)) / ms(source)
+        proved / source,
+        (proved - checks) / source
     );
 }
