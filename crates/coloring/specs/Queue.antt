@@ -4,8 +4,8 @@ use mathlib.Core.List.{List, [], _∷_}
 use Prim.Native.Nat.{ℕ, zero, suc, _+_, _*_, _%_, _≤_, _<_}
 use lib.ListN.{length, getD, set}
 use Rattle.coloring.specs.SplineTable.{Recoloring, uncolored, Walk, recolored, stopped}
-use Rattle.coloring.specs.declared.spline_table.Walked.{Walked}
-use Rattle.coloring.specs.declared.spline_table.Walked.the-variants.{Recolored, Stopped}
+use Rattle.coloring.specs.declared.recolor.Walked.{Walked}
+use Rattle.coloring.specs.declared.recolor.Walked.the-variants.{Recolored, Stopped}
 
 -- the splines that wait, the first at `head`
 unfoldable pub ring : List ℕ → ℕ → ℕ → List ℕ

@@ -11,10 +11,6 @@ use Rattle.coloring.specs.Offering.{settled}
 use borrow.Author.Needs.{needs}
 use Rattle.coloring.proofs.spline_table.add_edge_by_walk.Statement.{statement}
 use Rattle.coloring.proofs.spline_table.add_edge_by_walk.Tie as tie
-use Rattle.coloring.proofs.spline_table.add_edge_by_walk.Reads as reads
-use Rattle.coloring.proofs.spline_table.add_edge_by_walk.Lts as lts
-use Rattle.coloring.proofs.spline_table.recolor.Reads as recolor-reads
-use Rattle.coloring.proofs.spline_table.settle.Reads as settle-reads
 
 -- ---- the copy before the walk and after it
 
@@ -41,43 +37,34 @@ module _ (c : tie.After-recolor) where
   front : take (n start) (after ++ drop (n start) zeros) ≡ after
   front = take-at after (drop (n start) zeros) (n start) after-size
 
--- src/spline_table.rt:250:26
 array-borrow-prefix-buffer : tie.Need-array-borrow-prefix-buffer
 array-borrow-prefix-buffer c = search needs
 
--- src/spline_table.rt:250:26
 slice-aggregate-recolor : tie.Need-slice-aggregate-recolor
 slice-aggregate-recolor c = sym (copy-size (c .before .before .before))
 
--- src/spline_table.rt:250:9
 recolor-requires : tie.Need-recolor-requires
 recolor-requires c κs = (c .before .before .before .before .before .pre, copy-size (c .before .before .before .before .before))
 
--- src/spline_table.rt:251:20
 array-share-prefix-buffer : tie.Need-array-share-prefix-buffer
 array-share-prefix-buffer c =
     let r = c .before in
     omega (arith, length-append (after r) (drop (n (start r)) zeros), after-size r)
 
--- src/spline_table.rt:251:20
 slice-aggregate-settle : tie.Need-slice-aggregate-settle
 slice-aggregate-settle c = sym (ap length (front (c .before .before)) ∙ after-size (c .before .before))
 
--- src/spline_table.rt:251:5
 settle-requires : tie.Need-settle-requires
 settle-requires c κs =
     let r = c .before .before .before .before in
     (start r .pre, ap length (front r) ∙ after-size r)
 
--- src/spline_table.rt:244:1
 same-length : tie.Need-same-length
 same-length c = search needs
 
--- src/spline_table.rt:244:1
 same-length-2 : tie.Need-same-length-2
 same-length-2 c = search needs
 
--- src/spline_table.rt:244:1
 returns : tie.Need-returns
 returns c =
     let r = c .before .before .before .before .before .before .before .before .before in

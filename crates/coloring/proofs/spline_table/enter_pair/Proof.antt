@@ -7,38 +7,28 @@ use Rattle.coloring.proofs.RowLaws.{square-below}
 use borrow.Author.Needs.{needs}
 use Rattle.coloring.proofs.spline_table.enter_pair.Statement.{statement}
 use Rattle.coloring.proofs.spline_table.enter_pair.Tie as tie
-use Rattle.coloring.proofs.spline_table.enter_pair.Reads as reads
-use Rattle.coloring.proofs.spline_table.enter_pair.Lts as lts
 
--- src/spline_table.rt:66:17
 mul-edge-matrix : tie.Need-mul-edge-matrix
 mul-edge-matrix c = omega (arith, digits-lt (c .pre .1) (c .pre .2), square-below (c .pre .3))
 
--- src/spline_table.rt:66:17
 add-edge-matrix : tie.Need-add-edge-matrix
 add-edge-matrix c = omega (arith, digits-lt (c .pre .1) (c .pre .2), square-below (c .pre .3))
 
--- src/spline_table.rt:66:5
 slice-write-edge-matrix : tie.Need-slice-write-edge-matrix
 slice-write-edge-matrix c = omega (arith, digits-lt (c .pre .1) (c .pre .2), square-below (c .pre .3))
 
--- src/spline_table.rt:67:17
 mul-edge-matrix-2 : tie.Need-mul-edge-matrix-2
 mul-edge-matrix-2 c = omega (arith, digits-lt (c .pre .2) (c .pre .1), square-below (c .pre .3))
 
--- src/spline_table.rt:67:17
 add-edge-matrix-2 : tie.Need-add-edge-matrix-2
 add-edge-matrix-2 c = omega (arith, digits-lt (c .pre .2) (c .pre .1), square-below (c .pre .3))
 
--- src/spline_table.rt:67:5
 slice-write-edge-matrix-2 : tie.Need-slice-write-edge-matrix-2
 slice-write-edge-matrix-2 c = simp length-set (omega (arith, digits-lt (c .pre .2) (c .pre .1), square-below (c .pre .3)))
 
--- src/spline_table.rt:62:1
 same-length : tie.Need-same-length
 same-length c = search needs
 
--- src/spline_table.rt:62:1
 returns : tie.Need-returns
 unfolding enter
 returns c = search needs

@@ -6,22 +6,16 @@ use Rattle.coloring.specs.SplineTable as table
 use Rattle.coloring.proofs.RowLaws.{square-below}
 use Rattle.coloring.proofs.spline_table.entry.Statement.{statement}
 use Rattle.coloring.proofs.spline_table.entry.Tie as tie
-use Rattle.coloring.proofs.spline_table.entry.Reads as reads
-use Rattle.coloring.proofs.spline_table.entry.Lts as lts
 
--- src/spline_table.rt:285:17
 mul-result : tie.Need-mul-result
 mul-result c = omega (arith, digits-lt (c .pre .1) (c .pre .2), square-below (c .pre .3))
 
--- src/spline_table.rt:285:17
 add-result : tie.Need-add-result
 add-result c = omega (arith, digits-lt (c .pre .1) (c .pre .2), square-below (c .pre .3))
 
--- src/spline_table.rt:285:5
 shared-slice-read-result : tie.Need-shared-slice-read-result
 shared-slice-read-result c = omega (arith, digits-lt (c .before .pre .1) (c .before .pre .2))
 
--- src/spline_table.rt:281:1
 returns : tie.Need-returns
 unfolding table.entry
 returns c = refl

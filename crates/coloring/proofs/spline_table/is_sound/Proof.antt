@@ -10,10 +10,6 @@ use Rattle.coloring.specs.Offering.{soundSpline}
 use Rattle.coloring.proofs.SoundLaws.{all-none, all-more, all-fails, color-large, row-fails, diagonal-fails, spline-passes}
 use Rattle.coloring.proofs.spline_table.is_sound.Statement.{statement}
 use Rattle.coloring.proofs.spline_table.is_sound.Tie as tie
-use Rattle.coloring.proofs.spline_table.is_sound.Reads as reads
-use Rattle.coloring.proofs.spline_table.is_sound.Lts as lts
-use Rattle.coloring.proofs.spline_table.entry.Reads as entry-reads
-use Rattle.coloring.proofs.spline_table.row_is_sound.Reads as row-is-sound-reads
 
 abbrev Inv-loop : tie.InvT-loop
 Inv-loop coloring edge-matrix n i₀ i = (i ≤ length coloring) × (allBelow i (soundSpline coloring edge-matrix) ≡ true)
@@ -21,15 +17,12 @@ Inv-loop coloring edge-matrix n i₀ i = (i ≤ length coloring) × (allBelow i 
 abbrev μ-loop : tie.MeasureT-loop
 μ-loop coloring edge-matrix n i₀ i = length coloring - i
 
--- src/spline_table.rt:314:5
 loop-holds : tie.Need-loop-holds Inv-loop μ-loop
 loop-holds c = (omega arith, all-none _)
 
--- src/spline_table.rt:315:16
 shared-slice-read-if1 : tie.Need-shared-slice-read-if1 Inv-loop μ-loop
 shared-slice-read-if1 c = omega arith
 
--- src/spline_table.rt:316:13
 returns : tie.Need-returns Inv-loop μ-loop
 unfolding sound
 returns c =
@@ -37,11 +30,9 @@ returns c =
     let args = at .before .before .before .args in
     sym (all-fails (length (args .coloring .now)) _ (at .loop .i) (omega arith) (color-large (args .coloring .now) (args .edge-matrix .now) (at .loop .i) (c .if1 .taken)))
 
--- src/spline_table.rt:318:13
 row-is-sound-requires : tie.Need-row-is-sound-requires Inv-loop μ-loop
 row-is-sound-requires c κs = omega arith
 
--- src/spline_table.rt:319:13
 returns-2 : tie.Need-returns-2 Inv-loop μ-loop
 unfolding sound
 returns-2 c =
@@ -50,11 +41,9 @@ returns-2 c =
     let fails = sym (c .before .row-is-sound .ensures) ∙ not-true _ (c .if2 .taken) in
     sym (all-fails (length (args .coloring .now)) _ (at .loop .i) (omega arith) (row-fails (args .coloring .now) (args .edge-matrix .now) (at .loop .i) fails))
 
--- src/spline_table.rt:321:12
 entry-requires : tie.Need-entry-requires Inv-loop μ-loop
 entry-requires c κs = omega arith
 
--- src/spline_table.rt:322:13
 returns-3 : tie.Need-returns-3 Inv-loop μ-loop
 unfolding sound
 returns-3 c =
@@ -62,15 +51,12 @@ returns-3 c =
     let args = at .before .before .before .args in
     sym (all-fails (length (args .coloring .now)) _ (at .loop .i) (omega arith) (diagonal-fails (args .coloring .now) (args .edge-matrix .now) (at .loop .i) (λ e. c .if3 .taken (c .before .entry .ensures ∙ e))))
 
--- src/spline_table.rt:324:9
 add-i : tie.Need-add-i Inv-loop μ-loop
 add-i c = omega arith
 
--- src/spline_table.rt:314:5
 loop-less : tie.Need-loop-less Inv-loop μ-loop
 loop-less c = omega arith
 
--- src/spline_table.rt:314:5
 loop-again : tie.Need-loop-again Inv-loop μ-loop
 loop-again c =
     let row = c .before .before .before in
@@ -79,7 +65,6 @@ loop-again c =
     let passes = sym (row .row-is-sound .ensures) ∙ not-false _ (c .before .before .if2 .left) in
     (omega arith, all-more (at .loop .i) _ (at .loop .inv .1) (spline-passes (args .coloring .now) (args .edge-matrix .now) (at .loop .i) (omega (arith, row .before .if1 .left)) passes (sym (c .before .entry .ensures) ∙ c .if3 .left)))
 
--- src/spline_table.rt:308:1
 returns-4 : tie.Need-returns-4 Inv-loop μ-loop
 unfolding sound
 returns-4 c =

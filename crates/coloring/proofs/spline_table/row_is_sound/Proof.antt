@@ -10,9 +10,6 @@ use Rattle.coloring.specs.Offering.{soundEntry}
 use Rattle.coloring.proofs.SoundLaws.{all-none, all-more, all-fails, entry-large, entry-differs, entry-passes}
 use Rattle.coloring.proofs.spline_table.row_is_sound.Statement.{statement}
 use Rattle.coloring.proofs.spline_table.row_is_sound.Tie as tie
-use Rattle.coloring.proofs.spline_table.row_is_sound.Reads as reads
-use Rattle.coloring.proofs.spline_table.row_is_sound.Lts as lts
-use Rattle.coloring.proofs.spline_table.entry.Reads as entry-reads
 
 abbrev Inv-loop : tie.InvT-loop
 Inv-loop edge-matrix n i j₀ j = (j ≤ n) × (allBelow j (soundEntry n edge-matrix i) ≡ true)
@@ -20,26 +17,21 @@ Inv-loop edge-matrix n i j₀ j = (j ≤ n) × (allBelow j (soundEntry n edge-ma
 abbrev μ-loop : tie.MeasureT-loop
 μ-loop edge-matrix n i j₀ j = n - j
 
--- src/spline_table.rt:294:5
 loop-holds : tie.Need-loop-holds Inv-loop μ-loop
 loop-holds c = (omega arith, all-none _)
 
--- src/spline_table.rt:295:13
 entry-requires : tie.Need-entry-requires Inv-loop μ-loop
 entry-requires c κs = omega arith
 
--- src/spline_table.rt:297:13
 returns : tie.Need-returns Inv-loop μ-loop
 returns c =
     let at = c .before .before .before in
     let args = at .before .before .args in
     sym (all-fails (args .n) _ (at .loop .j) (omega arith) (entry-large (args .n) (args .edge-matrix .now) (args .i) (at .loop .j) (omega (arith, c .before .entry .ensures))))
 
--- src/spline_table.rt:299:17
 entry-requires-2 : tie.Need-entry-requires-2 Inv-loop μ-loop
 entry-requires-2 c κs = omega arith
 
--- src/spline_table.rt:300:13
 returns-2 : tie.Need-returns-2 Inv-loop μ-loop
 returns-2 c =
     let at = c .before .before .before .before .before in
@@ -48,15 +40,12 @@ returns-2 c =
     λ e. c .if2 .taken (c .before .before .before .entry .ensures ∙ e ∙ sym (c .before .entry2 .ensures)) in
     sym (all-fails (args .n) _ (at .loop .j) (omega arith) (entry-differs (args .n) (args .edge-matrix .now) (args .i) (at .loop .j) differs))
 
--- src/spline_table.rt:302:9
 add-j : tie.Need-add-j Inv-loop μ-loop
 add-j c = omega arith
 
--- src/spline_table.rt:294:5
 loop-less : tie.Need-loop-less Inv-loop μ-loop
 loop-less c = omega arith
 
--- src/spline_table.rt:294:5
 loop-again : tie.Need-loop-again Inv-loop μ-loop
 loop-again c =
     let at = c .before .before .before .before .before in
@@ -65,7 +54,6 @@ loop-again c =
     let same = sym first ∙ c .if2 .left ∙ c .before .entry2 .ensures in
     (omega arith, all-more (at .loop .j) _ (at .loop .inv .1) (entry-passes (args .n) (args .edge-matrix .now) (args .i) (at .loop .j) (omega (arith, first)) same))
 
--- src/spline_table.rt:289:1
 returns-3 : tie.Need-returns-3 Inv-loop μ-loop
 returns-3 c =
     let at = c .before in

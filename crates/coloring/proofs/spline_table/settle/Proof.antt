@@ -5,37 +5,27 @@ use Prim.Native.Nat.{ℕ}
 use Rattle.coloring.specs.Queue.{ended}
 use Rattle.coloring.specs.Offering.{outcome, settled}
 use Rattle.coloring.specs.declared.spline_table.Offer.the-variants.{Kept, Declined}
-use Rattle.coloring.specs.declared.spline_table.Walked.{Walked}
+use Rattle.coloring.specs.declared.recolor.Walked.{Walked}
 use Rattle.coloring.proofs.StartLaws.{copied}
 use borrow.Author.Needs.{needs}
 use Rattle.coloring.proofs.spline_table.settle.Statement.{statement}
 use Rattle.coloring.proofs.spline_table.settle.Tie as tie
-use Rattle.coloring.proofs.spline_table.settle.Reads as reads
-use Rattle.coloring.proofs.spline_table.settle.Lts as lts
-use Rattle.bytes.proofs.copy.Reads as copy-reads
-use Rattle.coloring.proofs.spline_table.enter_pair.Reads as enter-pair-reads
 
--- src/spline_table.rt:232:27
 enum-known-walked : tie.Need-enum-known-walked
 enum-known-walked c = search needs
 
--- src/spline_table.rt:233:13
 copy-requires : tie.Need-copy-requires
 copy-requires c κs = search needs
 
--- src/spline_table.rt:236:25
 enum-known-walked-2 : tie.Need-enum-known-walked-2
 enum-known-walked-2 c = search needs
 
--- src/spline_table.rt:237:13
 enter-pair-requires : tie.Need-enter-pair-requires
 enter-pair-requires c κs = search needs
 
--- src/spline_table.rt:220:1
 same-length : tie.Need-same-length
 same-length c = search needs
 
--- src/spline_table.rt:220:1
 returns : tie.Need-returns
 returns c =
     let start = c .before .before .before .before .before .before .before .before .before .before in
@@ -45,11 +35,9 @@ returns c =
     ap (λ (l : List ℕ). outcome (Kept (walked .0 .0)) l (args .edge-matrix .now)) taken
     ∙ ap (λ (w : Walked). settled (ended w (args .buffer .now)) (args .coloring .now) (args .edge-matrix .now) (args .a) (args .b)) (sym (walked .1))
 
--- src/spline_table.rt:220:1
 same-length-2 : tie.Need-same-length-2
 same-length-2 c = search needs
 
--- src/spline_table.rt:220:1
 returns-2 : tie.Need-returns-2
 returns-2 c =
     let start = c .before .before .before .before .before .before .before .before .before .before in

@@ -12,10 +12,6 @@ use Rattle.coloring.proofs.OfferCheckLaws.{offer-many, offer-lengths, o
 use borrow.Author.Needs.{needs}
 use Rattle.coloring.proofs.spline_table.try_add_edge.Statement.{statement}
 use Rattle.coloring.proofs.spline_table.try_add_edge.Tie as tie
-use Rattle.coloring.proofs.spline_table.try_add_edge.Reads as reads
-use Rattle.coloring.proofs.spline_table.try_add_edge.Lts as lts
-use Rattle.coloring.proofs.spline_table.is_sound.Reads as is-sound-reads
-use Rattle.coloring.proofs.spline_table.try_add_edge_unchecked.Reads as try-add-edge-unchecked-reads
 
 -- a table of a size that fits
 
@@ -35,49 +31,39 @@ module _ (c : tie.Else6) where
   passes : sound (record { coloring = start tested .args .coloring .now; edgeMatrix = start tested .args .edge-matrix .now }) ≡ true
   passes = sym (tested .is-sound .ensures) ∙ not-false _ (c .before .before .before .if3 .left)
 
--- src/spline_table.rt:335:9
 returns : tie.Need-returns
 returns c =
     let args = c .before .before .before .args in
     sym (offer-many (args .coloring .now) (args .edge-matrix .now) (args .a) (args .b) (c .if1 .taken))
 
--- src/spline_table.rt:337:29
 mul-if2 : tie.Need-mul-if2
 mul-if2 c = omega (arith, square-below (c .if1 .left))
 
--- src/spline_table.rt:338:9
 returns-2 : tie.Need-returns-2
 returns-2 c =
     let args = c .before .before .before .before .args in
     sym (offer-lengths (args .coloring .now) (args .edge-matrix .now) (args .a) (args .b) (c .before .if1 .left) (c .if2 .taken))
 
--- src/spline_table.rt:340:9
 is-sound-requires : tie.Need-is-sound-requires
 is-sound-requires c κs = search needs
 
--- src/spline_table.rt:341:9
 same-length : tie.Need-same-length
 same-length c = search needs
 
--- src/spline_table.rt:341:9
 same-length-2 : tie.Need-same-length-2
 same-length-2 c = search needs
 
--- src/spline_table.rt:341:9
 returns-3 : tie.Need-returns-3
 returns-3 c =
     let args = start (c .before) .args in
     sym (offer-unsound (args .coloring .now) (args .edge-matrix .now) (args .a) (args .b) (sized (c .before) .before .if1 .left) (sized (c .before) .if2 .left) (sym (c .before .is-sound .ensures) ∙ not-true _ (c .if3 .taken)))
 
--- src/spline_table.rt:344:9
 same-length-3 : tie.Need-same-length-3
 same-length-3 c = search needs
 
--- src/spline_table.rt:344:9
 same-length-4 : tie.Need-same-length-4
 same-length-4 c = search needs
 
--- src/spline_table.rt:344:9
 returns-4 : tie.Need-returns-4
 returns-4 c =
     let r = c .before .before in
@@ -88,7 +74,6 @@ returns-4 c =
     (λ w. offer-equal (args .coloring .now) (args .edge-matrix .now) (args .a) (args .b) (sized r .before .if1 .left) (sized r .if2 .left) (eqb-true _ _ (w .2 .taken))))
     (c .if4 .came))
 
--- src/spline_table.rt:346:5
 try-add-edge-unchecked-requires : tie.Need-try-add-edge-unchecked-requires
 try-add-edge-unchecked-requires c κs =
     let pair = c .before .before in
@@ -102,15 +87,12 @@ try-add-edge-unchecked-requires c κs =
       color = sound-color (start r .args .coloring .now) (start r .args .edge-matrix .now) (passes pair) (start r .args .a) first;
     }
 
--- src/spline_table.rt:330:1
 same-length-5 : tie.Need-same-length-5
 same-length-5 c = search needs
 
--- src/spline_table.rt:330:1
 same-length-6 : tie.Need-same-length-6
 same-length-6 c = search needs
 
--- src/spline_table.rt:330:1
 returns-5 : tie.Need-returns-5
 returns-5 c =
     let pair = c .before .before .before .before .before .before .before in

@@ -13,12 +13,6 @@ use Rattle.coloring.proofs.RuleLaws.{entered, freeOfB, rule-differ, rul
 use borrow.Author.Needs.{needs}
 use Rattle.coloring.proofs.spline_table.try_add_edge_unchecked.Statement.{statement}
 use Rattle.coloring.proofs.spline_table.try_add_edge_unchecked.Tie as tie
-use Rattle.coloring.proofs.spline_table.try_add_edge_unchecked.Reads as reads
-use Rattle.coloring.proofs.spline_table.try_add_edge_unchecked.Lts as lts
-use Rattle.coloring.proofs.spline_table.add_edge_by_walk.Reads as add-edge-by-walk-reads
-use Rattle.coloring.proofs.spline_table.enter_pair.Reads as enter-pair-reads
-use Rattle.coloring.proofs.spline_table.first_possible_color.Reads as first-possible-color-reads
-use Rattle.coloring.proofs.spline_table.vertex_possible_colors.Reads as vertex-possible-colors-reads
 
 -- ---- the pair is entered
 
@@ -71,71 +65,55 @@ module _ (c : tie.After-vertex-possible-colors) where
   free : c .vertex-possible-colors .result ≡ freeOfB (coloring pair) (before pair) (a pair) (b pair)
   free = c .vertex-possible-colors .ensures ∙ ap (vertexPossibleColors (coloring pair)) (cut pair)
 
--- src/spline_table.rt:265:5
 enter-pair-requires : tie.Need-enter-pair-requires
 enter-pair-requires c κs = search needs
 
--- src/spline_table.rt:266:8
 slice-read-if1 : tie.Need-slice-read-if1
 slice-read-if1 c = search needs
 
--- src/spline_table.rt:266:23
 slice-read-if1-2 : tie.Need-slice-read-if1-2
 slice-read-if1-2 c = search needs
 
--- src/spline_table.rt:267:9
 same-length : tie.Need-same-length
 same-length c = search needs
 
--- src/spline_table.rt:267:9
 returns : tie.Need-returns
 returns c =
     let p = c .before in
     ap (outcome (Kept 0) (coloring p)) (after-same p) ∙ sym (rule-differ (coloring p) (before p) (a p) (b p) (c .if1 .taken))
 
--- src/spline_table.rt:269:17
 mul-start : tie.Need-mul-start
 mul-start c = omega (arith, inside (c .before))
 
--- src/spline_table.rt:270:15
 add-end : tie.Need-add-end
 add-end c = omega (arith, inside (c .before))
 
--- src/spline_table.rt:271:53
 sub-vertex-possible-colors : tie.Need-sub-vertex-possible-colors
 sub-vertex-possible-colors c = search needs
 
--- src/spline_table.rt:271:53
 part-vertex-possible-colors-start : tie.Need-part-vertex-possible-colors-start
 part-vertex-possible-colors-start c = search needs
 
--- src/spline_table.rt:271:53
 part-vertex-possible-colors-end : tie.Need-part-vertex-possible-colors-end
 part-vertex-possible-colors-end c = omega (arith, inside (c .before .before .before))
 
--- src/spline_table.rt:271:9
 vertex-possible-colors-requires : tie.Need-vertex-possible-colors-requires
 vertex-possible-colors-requires c κs = search needs
 
--- src/spline_table.rt:273:23
 first-possible-color-requires : tie.Need-first-possible-color-requires
 first-possible-color-requires c κs =
     let p = pair (c .before) in
     omega (arith, free (c .before), possible-below (coloring p) (row (n p) (entered (coloring p) (before p) (a p) (b p)) (b p)))
 
--- src/spline_table.rt:273:9
 slice-write-coloring : tie.Need-slice-write-coloring
 slice-write-coloring c = search needs
 
--- src/spline_table.rt:274:9
 same-length-2 : tie.Need-same-length-2
 same-length-2 c = search needs
 
--- src/spline_table.rt:274:9
 same-length-3 : tie.Need-same-length-3
 same-length-3 c = search needs
 
--- src/spline_table.rt:274:9
 returns-2 : tie.Need-returns-2
 returns-2 c =
     let v = c .before .before in
@@ -145,19 +123,15 @@ returns-2 c =
     ∙ ap (outcome (Kept 0) (set (coloring p) (b p) (firstPossibleColor (freeOfB (coloring p) (before p) (a p) (b p))))) (after-same p)
     ∙ sym (rule-free (coloring p) (before p) (a p) (b p) (same v) (λ e. c .before .if2 .taken (free v ∙ e)))
 
--- src/spline_table.rt:276:5
 add-edge-by-walk-requires : tie.Need-add-edge-by-walk-requires
 add-edge-by-walk-requires c κs = offerable (pair (c .before .before .before))
 
--- src/spline_table.rt:255:1
 same-length-4 : tie.Need-same-length-4
 same-length-4 c = search needs
 
--- src/spline_table.rt:255:1
 same-length-5 : tie.Need-same-length-5
 same-length-5 c = search needs
 
--- src/spline_table.rt:255:1
 returns-3 : tie.Need-returns-3
 returns-3 c =
     let v = c .before .before .before .before .before .before .before .before in

@@ -1,20 +1,15 @@
 -- `other_colors` meets its contract: a shift by at most 2 loses no bit.
 use Rattle.coloring.proofs.FreeColorLaws.{shifted, others}
 use borrow.Author.Needs.{needs}
-use Rattle.coloring.proofs.spline_table.other_colors.Statement.{statement}
-use Rattle.coloring.proofs.spline_table.other_colors.Tie as tie
-use Rattle.coloring.proofs.spline_table.other_colors.Reads as reads
-use Rattle.coloring.proofs.spline_table.other_colors.Lts as lts
+use Rattle.coloring.proofs.recolor.other_colors.Statement.{statement}
+use Rattle.coloring.proofs.recolor.other_colors.Tie as tie
 
--- src/spline_table.rt:197:10
 shl-result : tie.Need-shl-result
 shl-result c = search needs
 
--- src/spline_table.rt:197:5
 sub-result : tie.Need-sub-result
 sub-result c = rw (shifted (c .args .c) (c .pre)) (others (c .args .c) (c .pre) .0)
 
--- src/spline_table.rt:193:1
 returns : tie.Need-returns
 returns c = rw (shifted (c .args .c) (c .pre))
 

@@ -6,24 +6,18 @@ use borrow.Author.Tests.{eqb-true, eqb-false}
 use Rattle.coloring.specs.SplineTable.{uncolored}
 use Rattle.coloring.proofs.UncolorLaws.{ring-room, put-one, skip-entry, skip-color}
 use borrow.Author.Needs.{needs}
-use Rattle.coloring.proofs.spline_table.uncolor_one.Statement.{statement}
-use Rattle.coloring.proofs.spline_table.uncolor_one.Tie as tie
-use Rattle.coloring.proofs.spline_table.uncolor_one.Reads as reads
-use Rattle.coloring.proofs.spline_table.uncolor_one.Lts as lts
+use Rattle.coloring.proofs.recolor.uncolor_one.Statement.{statement}
+use Rattle.coloring.proofs.recolor.uncolor_one.Tie as tie
 
--- src/spline_table.rt:93:8
 shared-slice-read-if1 : tie.Need-shared-slice-read-if1
 shared-slice-read-if1 c = search needs
 
--- src/spline_table.rt:93:27
 slice-read-if2 : tie.Need-slice-read-if2
 slice-read-if2 c = search needs
 
--- src/spline_table.rt:94:9
 slice-write-coloring : tie.Need-slice-write-coloring
 slice-write-coloring c = search needs
 
--- src/spline_table.rt:95:40
 cast-queue : tie.Need-cast-queue
 cast-queue c = search needs
 

@@ -11,15 +11,8 @@ use Rattle.coloring.proofs.FreeColorLaws.{others}
 use Rattle.coloring.proofs.UncolorLaws.{neighbors-kept}
 use Rattle.coloring.proofs.StartLaws.{copied, start-uncoloring, start-same, start-walk}
 use borrow.Author.Needs.{needs}
-use Rattle.coloring.proofs.spline_table.recolor.Statement.{statement}
-use Rattle.coloring.proofs.spline_table.recolor.Tie as tie
-use Rattle.coloring.proofs.spline_table.recolor.Reads as reads
-use Rattle.coloring.proofs.spline_table.recolor.Lts as lts
-use Rattle.bytes.proofs.copy.Reads as copy-reads
-use Rattle.coloring.proofs.spline_table.first_possible_color.Reads as first-possible-color-reads
-use Rattle.coloring.proofs.spline_table.other_colors.Reads as other-colors-reads
-use Rattle.coloring.proofs.spline_table.uncolor_same_neighbors.Reads as uncolor-same-neighbors-reads
-use Rattle.coloring.proofs.spline_table.walk.Reads as walk-reads
+use Rattle.coloring.proofs.recolor.recolor.Statement.{statement}
+use Rattle.coloring.proofs.recolor.recolor.Tie as tie
 
 -- ---- b has its new colour
 
@@ -91,71 +84,55 @@ module _ (c : tie.After-uncolor-same-neighbors) where
       (c .uncolor-same-neighbors .kept .1 .0) in
       record { queued = kept .queued; entries = rw walking-size (start first .pre .0 .entries); inside = omega (arith, walking-size, start first .pre .0 .first) }
 
--- src/spline_table.rt:213:5
 copy-requires : tie.Need-copy-requires
 copy-requires c κs = search needs
 
--- src/spline_table.rt:214:13
 shared-slice-read-c : tie.Need-shared-slice-read-c
 shared-slice-read-c c = search needs
 
--- src/spline_table.rt:215:34
 other-colors-requires : tie.Need-other-colors-requires
 other-colors-requires c κs = search needs
 
--- src/spline_table.rt:215:9
 first-possible-color-requires : tie.Need-first-possible-color-requires
 first-possible-color-requires c κs = search needs
 
--- src/spline_table.rt:216:5
 slice-write-buffer : tie.Need-slice-write-buffer
 slice-write-buffer c = search needs
 
--- src/spline_table.rt:217:17
 mul-start : tie.Need-mul-start
 mul-start c = omega (arith, inside c)
 
--- src/spline_table.rt:218:15
 add-end : tie.Need-add-end
 add-end c = omega (arith, inside c)
 
--- src/spline_table.rt:219:19
 sub-entries : tie.Need-sub-entries
 sub-entries c = search needs
 
--- src/spline_table.rt:219:19
 part-entries-start : tie.Need-part-entries-start
 part-entries-start c = search needs
 
--- src/spline_table.rt:219:19
 part-entries-end : tie.Need-part-entries-end
 part-entries-end c = omega (arith, inside c)
 
--- src/spline_table.rt:221:50
 slice-aggregate-uncolor-same-neighbors : tie.Need-slice-aggregate-uncolor-same-neighbors
 slice-aggregate-uncolor-same-neighbors c = search needs
 
--- src/spline_table.rt:221:9
 uncolor-same-neighbors-requires : tie.Need-uncolor-same-neighbors-requires
 uncolor-same-neighbors-requires c κs =
     let f = c .before .before .before in
     (ready f, omega (arith, size f, start f .pre .0 .second))
 
--- src/spline_table.rt:222:18
 slice-aggregate-walk : tie.Need-slice-aggregate-walk
 slice-aggregate-walk c = search needs
 
--- src/spline_table.rt:222:5
 walk-requires : tie.Need-walk-requires
 walk-requires c κs = walking (c .before .before .before .before .before)
 
--- src/spline_table.rt:202:1
 same-length : tie.Need-same-length
 same-length c =
     let u = c .before .before .before .before .before .before .before .before .before in
     c .before .before .before .walk .kept .0 ∙ walking-size u ∙ sym (start (first u) .pre .1)
 
--- src/spline_table.rt:202:1
 returns : tie.Need-returns
 returns c =
     let u = c .before .before .before .before .before .before .before .before .before in

@@ -4,16 +4,12 @@ use native.Mathlib.Omega.{arith}
 use Rattle.coloring.specs.SplineTable.{firstPossibleColor}
 use Rattle.coloring.proofs.ListLaws.{getD-inside}
 use borrow.Author.Needs.{needs}
-use Rattle.coloring.proofs.spline_table.first_possible_color.Statement.{statement}
-use Rattle.coloring.proofs.spline_table.first_possible_color.Tie as tie
-use Rattle.coloring.proofs.spline_table.first_possible_color.Reads as reads
-use Rattle.coloring.proofs.spline_table.first_possible_color.Lts as lts
+use Rattle.coloring.proofs.recolor.first_possible_color.Statement.{statement}
+use Rattle.coloring.proofs.recolor.first_possible_color.Tie as tie
 
--- src/spline_table.rt:59:5
 array-read-result : tie.Need-array-read-result
 array-read-result c = search needs
 
--- src/spline_table.rt:55:1
 returns : tie.Need-returns
 unfolding firstPossibleColor
 returns c = getD-inside (3 ∷ 0 ∷ 1 ∷ 0 ∷ 2 ∷ 2 ∷ 1 ∷ 0 ∷ []) (c .args .possible) 0 3 (omega arith)

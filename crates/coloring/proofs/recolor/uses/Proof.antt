@@ -8,10 +8,8 @@ use lib.ListN.{length, drop, getD}
 use lib.Seq.{drop-cons}
 use Rattle.coloring.specs.SplineTable as table
 use Rattle.coloring.proofs.FreeColorLaws.{uses-step, uses-end}
-use Rattle.coloring.proofs.spline_table.uses.Statement.{statement}
-use Rattle.coloring.proofs.spline_table.uses.Tie as tie
-use Rattle.coloring.proofs.spline_table.uses.Reads as reads
-use Rattle.coloring.proofs.spline_table.uses.Lts as lts
+use Rattle.coloring.proofs.recolor.uses.Statement.{statement}
+use Rattle.coloring.proofs.recolor.uses.Tie as tie
 
 abbrev Inv-loop : tie.InvT-loop
 Inv-loop coloring entries c found₀ i₀ found i =

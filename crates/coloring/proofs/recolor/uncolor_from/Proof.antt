@@ -6,11 +6,8 @@ use lib.ListN.{length}
 use Rattle.coloring.specs.SplineTable.{uncolorFrom}
 use Rattle.coloring.specs.Queue.{Uncoloring, recoloring}
 use Rattle.coloring.proofs.UncolorLaws.{uncolor-step, uncolor-end, uncoloring-one}
-use Rattle.coloring.proofs.spline_table.uncolor_from.Statement.{statement}
-use Rattle.coloring.proofs.spline_table.uncolor_from.Tie as tie
-use Rattle.coloring.proofs.spline_table.uncolor_from.Reads as reads
-use Rattle.coloring.proofs.spline_table.uncolor_from.Lts as lts
-use Rattle.coloring.proofs.spline_table.uncolor_one.Reads as uncolor-one-reads
+use Rattle.coloring.proofs.recolor.uncolor_from.Statement.{statement}
+use Rattle.coloring.proofs.recolor.uncolor_from.Tie as tie
 
 abbrev Inv-loop : tie.InvT-loop
 Inv-loop coloring₀ queue₀ entries c from to head waiting count₀ i₀ coloring queue count i =
@@ -22,23 +19,18 @@ Inv-loop coloring₀ queue₀ entries c from to head waiting count₀ i₀ color
 abbrev μ-loop : tie.MeasureT-loop
 μ-loop coloring₀ queue₀ entries c from to head waiting count₀ i₀ coloring queue count i = to - i
 
--- src/spline_table.rt:117:5
 loop-holds : tie.Need-loop-holds Inv-loop μ-loop
 loop-holds c = (c .before .before .before .pre .0, refl, refl, refl)
 
--- src/spline_table.rt:118:9
 uncolor-one-requires : tie.Need-uncolor-one-requires Inv-loop μ-loop
 uncolor-one-requires c κs = (c .before .before .before .loop .inv .0, omega arith)
 
--- src/spline_table.rt:119:9
 add-i : tie.Need-add-i Inv-loop μ-loop
 add-i c = omega arith
 
--- src/spline_table.rt:117:5
 loop-less : tie.Need-loop-less Inv-loop μ-loop
 loop-less c = omega arith
 
--- src/spline_table.rt:117:5
 loop-again : tie.Need-loop-again Inv-loop μ-loop
 loop-again c =
     let one = c .before .before .before .before .uncolor-one in
@@ -51,15 +43,12 @@ loop-again c =
       rw (one .ensures) (sym step ∙ at .loop .inv .3),
     )
 
--- src/spline_table.rt:102:1
 same-length : tie.Need-same-length Inv-loop μ-loop
 same-length c = omega arith
 
--- src/spline_table.rt:102:1
 same-length-2 : tie.Need-same-length-2 Inv-loop μ-loop
 same-length-2 c = omega arith
 
--- src/spline_table.rt:102:1
 returns : tie.Need-returns Inv-loop μ-loop
 returns c =
     let args = c .before .before .before .before .before .args in

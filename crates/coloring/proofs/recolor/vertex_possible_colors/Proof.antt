@@ -3,34 +3,24 @@ use native.Mathlib.Omega.{arith}
 use Rattle.coloring.specs.SplineTable.{vertexPossibleColors}
 use Rattle.coloring.proofs.FreeColorLaws.{possible-below}
 use borrow.Author.Needs.{needs}
-use Rattle.coloring.proofs.spline_table.vertex_possible_colors.Statement.{statement}
-use Rattle.coloring.proofs.spline_table.vertex_possible_colors.Tie as tie
-use Rattle.coloring.proofs.spline_table.vertex_possible_colors.Reads as reads
-use Rattle.coloring.proofs.spline_table.vertex_possible_colors.Lts as lts
-use Rattle.coloring.proofs.spline_table.unless_used.Reads as unless-used-reads
-use Rattle.coloring.proofs.spline_table.uses.Reads as uses-reads
+use Rattle.coloring.proofs.recolor.vertex_possible_colors.Statement.{statement}
+use Rattle.coloring.proofs.recolor.vertex_possible_colors.Tie as tie
 
--- src/spline_table.rt:56:29
 uses-requires : tie.Need-uses-requires
 uses-requires c κs = search needs
 
--- src/spline_table.rt:56:9
 unless-used-requires : tie.Need-unless-used-requires
 unless-used-requires c κs = search needs
 
--- src/spline_table.rt:57:30
 uses-requires-2 : tie.Need-uses-requires-2
 uses-requires-2 c κs = search needs
 
--- src/spline_table.rt:57:9
 unless-used-requires-2 : tie.Need-unless-used-requires-2
 unless-used-requires-2 c κs = search needs
 
--- src/spline_table.rt:58:29
 uses-requires-3 : tie.Need-uses-requires-3
 uses-requires-3 c κs = search needs
 
--- src/spline_table.rt:58:9
 unless-used-requires-3 : tie.Need-unless-used-requires-3
 unless-used-requires-3 c κs = search needs
 

@@ -17,13 +17,8 @@ use Rattle.coloring.proofs.RowLaws.{row-inside, row-length, row-part, s
 use Rattle.coloring.proofs.FreeColorLaws.{possible-below, forced-here, forced-next}
 use Rattle.coloring.proofs.WalkLaws.{left, step-rises, stepOf, forced}
 use Rattle.coloring.proofs.TurnLaws.{Goes, goes-empty, goes-stop, goes-first, goes-free, less-free, goes-uncolor, goes-forced, less-forced, forced-same}
-use Rattle.coloring.proofs.spline_table.walk.Statement.{statement}
-use Rattle.coloring.proofs.spline_table.walk.Tie as tie
-use Rattle.coloring.proofs.spline_table.walk.Reads as reads
-use Rattle.coloring.proofs.spline_table.walk.Lts as lts
-use Rattle.coloring.proofs.spline_table.first_possible_color.Reads as first-possible-color-reads
-use Rattle.coloring.proofs.spline_table.uncolor_same_neighbors.Reads as uncolor-same-neighbors-reads
-use Rattle.coloring.proofs.spline_table.vertex_possible_colors.Reads as vertex-possible-colors-reads
+use Rattle.coloring.proofs.recolor.walk.Statement.{statement}
+use Rattle.coloring.proofs.recolor.walk.Tie as tie
 
 abbrev Inv-loop : tie.InvT-loop
 Inv-loop coloring queue edge-matrix a c first n head waiting step₀ i start end entries possible joined step =
@@ -150,121 +145,97 @@ module _ (c : tie.After-uncolor-same-neighbors Inv-loop μ-loop Inv-walk μ-walk
       c .uncolor-same-neighbors .ensures
       ∙ forced-same (n off) (edgeMatrix off) (spline off) (at off .walk .coloring) (at off .walk .queue) (entries off) ((at off .walk .head + 1) % 64) (at off .walk .waiting - 1) forced-step (tested .before .loop .step) (at off .walk .inv .0 .size) (cut off) reached
 
--- src/spline_table.rt:158:5
 walk-holds : tie.Need-walk-holds Inv-loop μ-loop Inv-walk μ-walk
 walk-holds c =
     let start = c .before .before .before in
     (record { queued = start .pre .queued; size = refl; low = omega arith; rest = refl }, refl)
 
--- src/spline_table.rt:162:17
 slice-read-i : tie.Need-slice-read-i Inv-loop μ-loop Inv-walk μ-walk
 slice-read-i c = omega arith
 
--- src/spline_table.rt:162:17
 cast-i : tie.Need-cast-i Inv-loop μ-loop Inv-walk μ-walk
 cast-i c = omega (arith, first c)
 
--- src/spline_table.rt:163:17
 add-head : tie.Need-add-head Inv-loop μ-loop Inv-walk μ-walk
 add-head c = omega arith
 
--- src/spline_table.rt:164:9
 sub-waiting : tie.Need-sub-waiting Inv-loop μ-loop Inv-walk μ-walk
 sub-waiting c = omega arith
 
--- src/spline_table.rt:165:21
 mul-start : tie.Need-mul-start Inv-loop μ-loop Inv-walk μ-walk
 mul-start c = omega (arith, inside c)
 
--- src/spline_table.rt:166:19
 add-end : tie.Need-add-end Inv-loop μ-loop Inv-walk μ-walk
 add-end c = omega (arith, inside c)
 
--- src/spline_table.rt:167:23
 sub-entries : tie.Need-sub-entries Inv-loop μ-loop Inv-walk μ-walk
 sub-entries c = omega arith
 
--- src/spline_table.rt:167:23
 part-entries-start : tie.Need-part-entries-start Inv-loop μ-loop Inv-walk μ-walk
 part-entries-start c = omega arith
 
--- src/spline_table.rt:167:23
 part-entries-end : tie.Need-part-entries-end Inv-loop μ-loop Inv-walk μ-walk
 part-entries-end c = omega (arith, inside c)
 
--- src/spline_table.rt:168:13
 vertex-possible-colors-requires :
     tie.Need-vertex-possible-colors-requires Inv-loop μ-loop Inv-walk μ-walk
 vertex-possible-colors-requires c κs = at (c .before .before) .walk .inv .0 .size ∙ sym (cut-size (c .before .before))
 
--- src/spline_table.rt:170:27
 first-possible-color-requires :
     tie.Need-first-possible-color-requires Inv-loop μ-loop Inv-walk μ-walk
 first-possible-color-requires c κs =
     let t = taken (c .before) in
     omega (arith, free (c .before), possible-below (at t .walk .coloring) (row (n t) (edgeMatrix t) (spline t)))
 
--- src/spline_table.rt:170:13
 slice-write-coloring : tie.Need-slice-write-coloring Inv-loop μ-loop Inv-walk μ-walk
 slice-write-coloring c = omega (arith, first (taken (c .before .before)), at (taken (c .before .before)) .walk .inv .0 .size)
 
--- src/spline_table.rt:158:5
 walk-less : tie.Need-walk-less Inv-loop μ-loop Inv-walk μ-walk
 walk-less c = less-free (at (taken (c .before .before)) .walk .inv .0) (some (taken (c .before .before)))
 
--- src/spline_table.rt:158:5
 walk-again : tie.Need-walk-again Inv-loop μ-loop Inv-walk μ-walk
 walk-again c =
     let t = taken (c .before .before) in
     let color = c .first-possible-color .ensures ∙ ap firstPossibleColor (free (c .before .before)) in
     (rw color (goes-free (at t .walk .inv .0) (some t) (t .before .if1 .left) (λ e. c .before .if2 .taken (free (c .before .before) ∙ e))), at t .walk .inv .1)
 
--- src/spline_table.rt:173:22
 shared-slice-read-joined : tie.Need-shared-slice-read-joined Inv-loop μ-loop Inv-walk μ-walk
 shared-slice-read-joined c = omega (arith, cut-size (taken (c .before .before)), start (taken (c .before .before)) .pre .inside)
 
--- src/spline_table.rt:175:9
 loop-holds : tie.Need-loop-holds Inv-loop μ-loop Inv-walk μ-walk
 unfolding joined
 loop-holds c = (step-rises _ _ _ .0, refl)
 
--- src/spline_table.rt:177:13
 add-step : tie.Need-add-step Inv-loop μ-loop Inv-walk μ-walk
 unfolding joined
 add-step c =
     let t = taken (c .before .before .before) in
     omega (arith, c .loop .inv .0, step-rises (joined (entries t) (start t .args .a)) (start t .args .c) (at t .walk .step) .1, t .before .if1 .left)
 
--- src/spline_table.rt:175:9
 loop-less : tie.Need-loop-less Inv-loop μ-loop Inv-walk μ-walk
 unfolding joined
 loop-less c = omega (arith, next (c .before) (not-false _ (c .if4 .left)) .0)
 
--- src/spline_table.rt:175:9
 loop-again : tie.Need-loop-again Inv-loop μ-loop Inv-walk μ-walk
 unfolding joined
 loop-again c =
     let r = next (c .before) (not-false _ (c .if4 .left)) in
     (omega (arith, r .0), r .1)
 
--- src/spline_table.rt:182:9
 slice-write-coloring-2 : tie.Need-slice-write-coloring-2 Inv-loop μ-loop Inv-walk μ-walk
 slice-write-coloring-2 c = omega (arith, first (forcing (c .before)), at (forcing (c .before)) .walk .inv .0 .size)
 
--- src/spline_table.rt:183:9
 uncolor-same-neighbors-requires :
     tie.Need-uncolor-same-neighbors-requires Inv-loop μ-loop Inv-walk μ-walk
 uncolor-same-neighbors-requires c κs =
     let t = forcing (c .before .before .before) in
     (rw (cut t) (goes-uncolor (at t .walk .inv .0) (some t) (size t) (c .before .before .before .before .loop .step % 3) (omega arith)), rw length-set (omega (arith, first t, at t .walk .inv .0 .size)))
 
--- src/spline_table.rt:158:5
 walk-less-2 : tie.Need-walk-less-2 Inv-loop μ-loop Inv-walk μ-walk
 walk-less-2 c =
     let u = c .before .before .before .before in
     rw (next-step u) (less-forced (at (off u) .walk .inv .0) (some (off u)) (off u .before .if1 .left) (none u) (u .uncolor-same-neighbors .last .0) (u .uncolor-same-neighbors .last .1 .0) (u .uncolor-same-neighbors .result) (moved u))
 
--- src/spline_table.rt:158:5
 walk-again-2 : tie.Need-walk-again-2 Inv-loop μ-loop Inv-walk μ-walk
 walk-again-2 c =
     let u = c .before .before .before .before in (
@@ -272,27 +243,21 @@ walk-again-2 c =
       u .uncolor-same-neighbors .kept .1 .0 ∙ at (off u) .walk .inv .1,
     )
 
--- src/spline_table.rt:143:1
 same-length : tie.Need-same-length Inv-loop μ-loop Inv-walk μ-walk
 same-length c = c .before .before .walk .inv .0 .size
 
--- src/spline_table.rt:143:1
 same-length-2 : tie.Need-same-length-2 Inv-loop μ-loop Inv-walk μ-walk
 same-length-2 c = c .before .before .walk .inv .1
 
--- src/spline_table.rt:143:1
 returns : tie.Need-returns Inv-loop μ-loop Inv-walk μ-walk
 returns c = goes-empty (c .before .before .walk .inv .0) (c .if5 .taken)
 
--- src/spline_table.rt:143:1
 same-length-3 : tie.Need-same-length-3 Inv-loop μ-loop Inv-walk μ-walk
 same-length-3 c = c .before .before .walk .inv .0 .size
 
--- src/spline_table.rt:143:1
 same-length-4 : tie.Need-same-length-4 Inv-loop μ-loop Inv-walk μ-walk
 same-length-4 c = c .before .before .walk .inv .1
 
--- src/spline_table.rt:143:1
 returns-2 : tie.Need-returns-2 Inv-loop μ-loop Inv-walk μ-walk
 returns-2 c =
     let at-end = c .before .before in
