@@ -1,0 +1,90 @@
+-- `coloring::outline::check` meets its contract: each test that passes decides one test of the definition.
+use mathlib.Core.Path.{_≡_, sym, _∙_}
+use mathlib.Core.Bool.{true, _&&_}
+use Prim.Native.Nat.{_*_}
+use native.Mathlib.Omega.{arith}
+use lib.Dec.{leb, eqb}
+use lib.ListN.{length}
+use borrow.Author.Tests.{le-leb, lt-leb, eq-eqb, ne-eqb, not-true, not-false}
+use Rattle.coloring.specs.Outline.{check, maxContours, maxEdges, total, all, knownKind, coordinatesFit}
+use borrow.Author.Needs.{needs}
+use Rattle.coloring.proofs.outline.check.Statement.{statement}
+use Rattle.coloring.proofs.outline.check.Tie as tie
+
+few : (c : tie.Else2) → (leb (length (c .before .before .before .before .before .before .args .lengths .now)) 64 && leb (total (c .before .before .before .before .before .before .args .lengths .now)) 256) ≡ true
+few c = rw (le-leb (length (c .before .before .before .before .before .before .args .lengths .now)) 64 (c .before .before .if1 .left), ← c .before .total .ensures, le-leb (c .before .total .result) 256 (c .if2 .left))
+
+returns : tie.Need-returns
+unfolding check maxContours
+returns c = rw (lt-leb _ 64 (c .if1 .taken))
+
+total-requires : tie.Need-total-requires
+total-requires c κs = search needs
+
+returns-2 : tie.Need-returns-2
+unfolding check maxContours maxEdges
+returns-2 c = rw (le-leb (length (c .before .before .before .before .before .before .args .lengths .now)) 64 (c .before .before .if1 .left), ← c .before .total .ensures, lt-leb (c .before .total .result) 256 (c .if2 .taken))
+
+returns-3 : tie.Need-returns-3
+unfolding check maxContours maxEdges
+returns-3 c = rw (few (c .before), ← c .before .before .total .ensures, ne-eqb (length (c .before .before .before .before .before .before .before .args .kinds .now)) (c .before .before .total .result) (c .if3 .taken))
+
+mul-if4 : tie.Need-mul-if4
+mul-if4 c = search needs
+
+returns-4 : tie.Need-returns-4
+unfolding check maxContours maxEdges
+returns-4 c = rw (few (c .before .before), ← c .before .before .before .total .ensures, eq-eqb (length (c .before .before .before .before .before .before .before .before .args .kinds .now)) (c .before .before .before .total .result) (c .before .if3 .left), ne-eqb (length (c .before .before .before .before .before .before .before .before .args .points .now)) (8 * c .before .before .before .total .result) (c .if4 .taken))
+
+agree : (c : tie.Else4) → (eqb (length (c .before .before .before .before .before .before .before .before .args .kinds .now)) (total (c .before .before .before .before .before .before .before .before .args .lengths .now))
+    && eqb (length (c .before .before .before .before .before .before .before .before .args .points .now)) (8 * total (c .before .before .before .before .before .before .before .before .args .lengths .now))) ≡ true
+agree c = rw (← c .before .before .before .total .ensures, eq-eqb (length (c .before .before .before .before .before .before .before .before .args .kinds .now)) (c .before .before .before .total .result) (c .before .if3 .left), eq-eqb (length (c .before .before .before .before .before .before .before .before .args .points .now)) (8 * c .before .before .before .total .result) (c .if4 .left))
+
+kinds-known-requires : tie.Need-kinds-known-requires
+kinds-known-requires c κs = search needs
+
+returns-5 : tie.Need-returns-5
+unfolding check maxContours maxEdges
+returns-5 c = rw (few (c .before .before .before .before), agree (c .before .before), ← c .before .kinds-known .ensures, not-true (c .before .kinds-known .result) (c .if5 .taken))
+
+known : (c : tie.Else5) → all knownKind (c .before .before .before .before .before .before .before .before .before .before .args .kinds .now) ≡ true
+known c = sym (c .before .kinds-known .ensures) ∙ not-false _ (c .if5 .left)
+
+coordinates-fit-requires : tie.Need-coordinates-fit-requires
+coordinates-fit-requires c κs = (omega arith, known c)
+
+returns-6 : tie.Need-returns-6
+unfolding check maxContours maxEdges
+returns-6 c = rw (few (c .before .before .before .before .before .before), agree (c .before .before .before .before), known (c .before .before), ← c .before .coordinates-fit .ensures, not-true (c .before .coordinates-fit .result) (c .if6 .taken))
+
+fit : (c : tie.Else6) → coordinatesFit (c .before .before .before .before .before .before .before .before .before .before .before .before .args .kinds .now) (c .before .before .before .before .before .before .before .before .before .before .before .before .args .points .now) ≡ true
+fit c = sym (c .before .coordinates-fit .ensures) ∙ not-false _ (c .if6 .left)
+
+between-requires : tie.Need-between-requires
+between-requires c κs = search needs
+
+returns-7 : tie.Need-returns-7
+unfolding check maxContours maxEdges
+returns-7 c = rw (few (c .before .before .before .before .before .before .before .before), agree (c .before .before .before .before .before .before), known (c .before .before .before .before), fit (c .before .before), ← c .before .between .ensures, not-true (c .before .between .result) (c .if7 .taken))
+
+returns-8 : tie.Need-returns-8
+unfolding check maxContours maxEdges
+returns-8 c = rw (few (c .before .before .before .before .before .before .before .before), agree (c .before .before .before .before .before .before), known (c .before .before .before .before), fit (c .before .before), ← c .before .between .ensures, not-false (c .before .between .result) (c .if7 .left))
+
+pub check-spec : {M : Type 1} → statement M
+check-spec =
+    tie.close
+    (tie.spec
+    returns
+    total-requires
+    returns-2
+    returns-3
+    mul-if4
+    returns-4
+    kinds-known-requires
+    returns-5
+    coordinates-fit-requires
+    returns-6
+    between-requires
+    returns-7
+    returns-8)

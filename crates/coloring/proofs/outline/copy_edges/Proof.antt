@@ -1,0 +1,72 @@
+-- `coloring::outline::copy_edges` meets its contract: after i edges, both parts hold the stored forms of those.
+use mathlib.Core.Path.{_≡_, refl, sym, _∙_}
+use mathlib.Core.List.{[], _∷_, map}
+use Prim.Native.Nat.{_≤_, _+_, _-_}
+use native.Mathlib.Omega.{arith}
+use native.Mathlib.Numerals.{add-one}
+use lib.ListN.{length, drop, drop-of-length-le}
+use lib.Seq.{drop-cons}
+use Rattle.coloring.specs.Outline.{anyEdge, edgesOf, kindOf, placesOf, concat}
+use Rattle.coloring.proofs.OutlineLaws.{edges-length}
+use Rattle.coloring.proofs.StoreLaws.{Storing, storing-all, storing-one, storing-ends}
+use Rattle.coloring.proofs.outline.copy_edges.Statement.{statement}
+use Rattle.coloring.proofs.outline.copy_edges.Tie as tie
+
+abbrev Inv-loop : tie.InvT-loop
+Inv-loop kinds points out-kinds₀ out-points₀ i₀ out-kinds out-points i =
+    (i ≤ length kinds) × (length out-kinds ≡ length kinds)
+    × Storing (map kindOf (edgesOf kinds points)) (concat (map placesOf (edgesOf kinds points))) i out-kinds out-points (drop i (edgesOf kinds points))
+
+abbrev μ-loop : tie.MeasureT-loop
+μ-loop kinds points out-kinds₀ out-points₀ i₀ out-kinds out-points i = length kinds - i
+
+loop-holds : tie.Need-loop-holds Inv-loop μ-loop
+loop-holds c = (omega arith, c .before .before .before .before .pre .1, storing-all _ _ _ (c .before .before .before .before .pre .1 ∙ sym (edges-length (c .before .before .before .before .args .kinds .now) (c .before .before .before .before .args .points .now))) (omega (arith, edges-length (c .before .before .before .before .args .kinds .now) (c .before .before .before .before .args .points .now))))
+
+edge-at-requires : tie.Need-edge-at-requires Inv-loop μ-loop
+edge-at-requires c κs = omega arith
+
+write-edge-requires : tie.Need-write-edge-requires Inv-loop μ-loop
+write-edge-requires c κs = omega (arith, edges-length (c .before .before .before .before .before .before .before .before .before .args .kinds .now) (c .before .before .before .before .before .before .before .before .before .args .points .now), c .before .before .before .loop-test .taken)
+
+add-i : tie.Need-add-i Inv-loop μ-loop
+add-i c = omega arith
+
+loop-less : tie.Need-loop-less Inv-loop μ-loop
+loop-less c = omega arith
+
+loop-again : tie.Need-loop-again Inv-loop μ-loop
+loop-again c =
+    let edges = edgesOf (c .before .before .before .before .before .before .before .before .before .before .before .before .before .before .args .kinds .now) (c .before .before .before .before .before .before .before .before .before .before .before .before .before .before .args .points .now) in
+    let i = c .before .before .before .before .before .before .before .before .before .loop .i in
+    let next : drop i edges ≡ c .before .before .before .before .before .before .before .edge-at .result ∷ drop (i + 1) edges =
+    rw (add-one, c .before .before .before .before .before .before .before .edge-at .ensures) (drop-cons edges i anyEdge (omega (arith, edges-length (c .before .before .before .before .before .before .before .before .before .before .before .before .before .before .args .kinds .now) (c .before .before .before .before .before .before .before .before .before .before .before .before .before .before .args .points .now)))) in
+    (omega arith, c .before .before .before .before .write-edge .kept .1 .1 .0 ∙ c .before .before .before .before .before .before .before .before .before .loop .inv .1, rw (c .before .before .before .before .write-edge .ensures .0, c .before .before .before .before .write-edge .ensures .1) (storing-one _ (drop (i + 1) edges) (i + 1) refl (rw next at (c .before .before .before .before .before .before .before .before .before .loop .inv .2))))
+
+same-length : tie.Need-same-length Inv-loop μ-loop
+same-length c = omega arith
+
+same-length-2 : tie.Need-same-length-2 Inv-loop μ-loop
+same-length-2 c = omega arith
+
+returns : tie.Need-returns Inv-loop μ-loop
+returns c =
+    let edges = edgesOf (c .before .before .before .before .before .before .args .kinds .now) (c .before .before .before .before .before .before .args .points .now) in
+    let none : drop (c .before .loop .i) edges ≡ [] = drop-of-length-le edges {i = c .before .loop .i} (omega (arith, edges-length (c .before .before .before .before .before .before .args .kinds .now) (c .before .before .before .before .before .before .args .points .now))) in
+    storing-ends (rw none at (c .before .loop .inv .2))
+
+pub copy-edges-spec : {M : Type 1} → statement M
+copy-edges-spec =
+    tie.close
+    (tie.spec
+    Inv-loop
+    μ-loop
+    loop-holds
+    edge-at-requires
+    write-edge-requires
+    add-i
+    loop-less
+    loop-again
+    same-length
+    same-length-2
+    returns)

@@ -1,0 +1,89 @@
+-- `coloring::outline::edge_at` meets its contract.
+use mathlib.Core.Path.{_≡_, sym, ap, _∙_}
+use Prim.Native.Nat.{_+_, _*_, _-_}
+use native.Mathlib.Omega.{arith}
+use lib.ListN.{getD, take, drop}
+use Rattle.coloring.specs.Outline.{anyEdge, decoded, edgeOf, edgesOf}
+use Rattle.coloring.proofs.OutlineLaws.{edges-at}
+use borrow.Author.Needs.{needs}
+use Rattle.coloring.proofs.outline.edge_at.Statement.{statement}
+use Rattle.coloring.proofs.outline.edge_at.Tie as tie
+
+mul-at : tie.Need-mul-at
+mul-at c = search needs
+
+add-end : tie.Need-add-end
+add-end c = search needs
+
+mul-copy : tie.Need-mul-copy
+mul-copy c = search needs
+
+sub-copy : tie.Need-sub-copy
+sub-copy c = search needs
+
+part-copy-start : tie.Need-part-copy-start
+part-copy-start c = search needs
+
+part-copy-end : tie.Need-part-copy-end
+part-copy-end c = search needs
+
+slice-aggregate-copy : tie.Need-slice-aggregate-copy
+slice-aggregate-copy c = search needs
+
+copy-requires : tie.Need-copy-requires
+copy-requires c κs = search needs
+
+shared-slice-read-from-stored : tie.Need-shared-slice-read-from-stored
+shared-slice-read-from-stored c = search needs
+
+from-stored-requires : tie.Need-from-stored-requires
+from-stored-requires c κs = search needs
+
+enum-known-e : tie.Need-enum-known-e
+enum-known-e c = search needs
+
+enum-told : tie.Need-enum-told
+enum-told c = search needs
+
+zero-requires : tie.Need-zero-requires
+zero-requires c κs = search needs
+
+zero-requires-2 : tie.Need-zero-requires-2
+zero-requires-2 c κs = search needs
+
+-- what was decoded is the edge at place i
+stands : (c : tie.After-from-stored) → decoded (c .from-stored .result)
+    ≡ getD (edgesOf (c .before .before .before .before .before .before .before .before .args .kinds .now) (c .before .before .before .before .before .before .before .before .args .points .now)) (c .before .before .before .before .before .before .before .before .args .i) anyEdge
+unfolding edgeOf
+stands c =
+    let i = c .before .before .before .before .before .before .before .before .args .i in
+    let eight : 8 * i + 8 - 8 * i ≡ 8 = omega arith in
+    let places : c .before .before .before .copy .last .1 .0 ≡ take 8 (drop (8 * i) (c .before .before .before .before .before .before .before .before .args .points .now)) = c .before .before .before .copy .ensures ∙ rw eight in
+    ap decoded (c .from-stored .ensures) ∙ rw places (sym (edges-at _ _ i anyEdge (c .before .before .before .before .before .before .before .before .pre .0)))
+
+returns : tie.Need-returns
+returns c = sym (ap decoded (c .before .e .given .1)) ∙ stands (c .before .before .before)
+
+returns-2 : tie.Need-returns-2
+returns-2 c = rw (c .before .zero .ensures, c .zero2 .ensures) (sym (ap decoded (c .before .before .enum-told .given .1)) ∙ stands (c .before .before .before .before))
+
+pub edge-at-spec : {M : Type 1} → statement M
+edge-at-spec =
+    tie.close
+    (tie.spec
+    mul-at
+    add-end
+    mul-copy
+    sub-copy
+    part-copy-start
+    part-copy-end
+    slice-aggregate-copy
+    copy-requires
+    shared-slice-read-from-stored
+    from-stored-requires
+    enum-known-e
+    enum-told
+    zero-requires
+    zero-requires-2
+    returns
+    returns-2)

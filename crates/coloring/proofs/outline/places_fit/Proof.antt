@@ -1,0 +1,61 @@
+-- `coloring::outline::places_fit` meets its contract.
+use mathlib.Core.Path.{_≡_, refl, sym, _∙_}
+use Prim.Native.Nat.{_≤_, _+_, _-_}
+use native.Mathlib.Omega.{arith}
+use borrow.Author.Needs.{needs}
+use borrow.Author.Tests.{not-true, not-false}
+use lib.Ieee.{nan}
+use lib.ListN.{length, take, drop}
+use Rattle.coloring.specs.Outline.{all, inRange}
+use Rattle.coloring.proofs.OutlineCheckLaws.{scan-fail, scan-more, scan-end}
+use Rattle.coloring.proofs.outline.places_fit.Statement.{statement}
+use Rattle.coloring.proofs.outline.places_fit.Tie as tie
+
+abbrev Inv-loop : tie.InvT-loop
+Inv-loop points i₀ i = (i ≤ length points) × (all inRange points ≡ all inRange (drop i points))
+
+abbrev μ-loop : tie.MeasureT-loop
+μ-loop points i₀ i = length points - i
+
+loop-holds : tie.Need-loop-holds Inv-loop μ-loop
+loop-holds c = (omega arith, refl)
+
+mul-in-range : tie.Need-mul-in-range Inv-loop μ-loop
+mul-in-range c = omega arith
+
+shared-slice-read-in-range : tie.Need-shared-slice-read-in-range Inv-loop μ-loop
+shared-slice-read-in-range c = omega arith
+
+in-range-requires : tie.Need-in-range-requires Inv-loop μ-loop
+in-range-requires c κs = search needs
+
+returns : tie.Need-returns Inv-loop μ-loop
+returns c = scan-fail inRange nan _ _ (c .before .before .before .before .loop .inv .1) (c .before .before .before .loop-test .taken) (sym (c .before .in-range .ensures) ∙ not-true _ (c .if1 .taken))
+
+add-i : tie.Need-add-i Inv-loop μ-loop
+add-i c = omega arith
+
+loop-less : tie.Need-loop-less Inv-loop μ-loop
+loop-less c = omega arith
+
+loop-again : tie.Need-loop-again Inv-loop μ-loop
+loop-again c = (omega arith, scan-more inRange nan _ _ (c .before .before .before .before .loop .inv .1) (c .before .before .before .loop-test .taken) (sym (c .before .in-range .ensures) ∙ not-false _ (c .if1 .left)))
+
+returns-2 : tie.Need-returns-2 Inv-loop μ-loop
+returns-2 c = scan-end inRange nan _ _ (c .before .loop .inv .1) (c .loop-test .left)
+
+pub places-fit-spec : {M : Type 1} → statement M
+places-fit-spec =
+    tie.close
+    (tie.spec
+    Inv-loop
+    μ-loop
+    loop-holds
+    mul-in-range
+    shared-slice-read-in-range
+    in-range-requires
+    returns
+    add-i
+    loop-less
+    loop-again
+    returns-2)

@@ -1,0 +1,56 @@
+-- Seed draws and colour switching, after `seed_extract2` to `switch_color_banned` of coloring/mod.rs (document 01, leaf 6).
+use Prim.Native.Nat.{ℕ, _+_, _-_, _*_, _/_, _%_, _^_}
+use mathlib.Core.Bool.{Bool, _||_, cond}
+use mathlib.Core.List.{[], _∷_}
+use lib.ListN.{getD}
+use lib.Dec.{eqb}
+use Rattle.geometry.specs.EdgeColor.{bitsOf, fromBits}
+use Rattle.geometry.specs.declared.edge_color.EdgeColor.{EdgeColor}
+use Rattle.geometry.specs.declared.edge_color.EdgeColor.the-variants.{Yellow, Magenta, Cyan}
+use Rattle.coloring.specs.declared.switching.Pen.{Pen}
+use Rattle.coloring.specs.declared.switching.Draw.{Draw}
+
+-- the seed mod 2, and its half
+abbrev pub seedExtract2 : ℕ → Draw
+seedExtract2 seed = record { value = seed % 2; seed = seed / 2 }
+
+-- the seed mod 3, and its third
+abbrev pub seedExtract3 : ℕ → Draw
+seedExtract3 seed = record { value = seed % 3; seed = seed / 3 }
+
+-- the first colour, by the seed mod 3: Cyan, Magenta, Yellow
+unfoldable pub initColor : ℕ → Pen
+initColor seed =
+    let draw = seedExtract3 seed in
+    record { color = getD (Cyan ∷ Magenta ∷ Yellow ∷ []) (draw .value) Cyan; seed = draw .seed }
+
+-- the three bits of a colour turned left by k places, 1 or 2
+unfoldable pub turnLeft : ℕ → EdgeColor → EdgeColor
+turnLeft k color =
+    let shifted = bitsOf color * 2 ^ k in
+    fromBits (shifted % 8 + shifted / 8)
+
+-- the colour turned left by 1 + the draw
+unfoldable pub switchColor : Pen → Pen
+unfolding turnLeft
+switchColor pen =
+    let draw = seedExtract2 (pen .seed) in
+    record { color = turnLeft (1 + draw .value) (pen .color); seed = draw .seed }
+
+-- the channels that two colours share, bit by bit: a & b
+unfoldable pub shared : EdgeColor → EdgeColor → ℕ
+shared a b =
+    (bitsOf a % 2) * (bitsOf b % 2)
+    + 2 * ((bitsOf a / 2 % 2) * (bitsOf b / 2 % 2))
+    + 4 * ((bitsOf a / 4) * (bitsOf b / 4))
+
+-- whether a set of channels, as a number, has one member
+abbrev pub oneChannel : ℕ → Bool
+oneChannel channels = eqb channels 1 || eqb channels 2 || eqb channels 4
+
+-- The two other channels, and no draw, where the colour shares exactly one channel with the banned one; else a switch.
+unfoldable pub switchColorBanned : EdgeColor → Pen → Pen
+unfolding shared switchColor
+switchColorBanned banned pen =
+    let combined = shared (pen .color) banned in
+    cond (oneChannel combined) (record { color = fromBits (7 - combined); seed = pen .seed }) (switchColor pen)

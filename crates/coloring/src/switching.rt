@@ -1,0 +1,91 @@
+// Seed draws and colour switching of coloring/mod.rs. Colour and seed pass through by value, as one `Pen`.
+use geometry::edge_color::EdgeColor;
+ghost use mathlib.Core.Path.{_≡_};
+ghost use Rattle.coloring.specs.Switching.{seedExtract2, seedExtract3, initColor, switchColor, oneChannel, switchColorBanned};
+
+// The colour that is being drawn with, and the seed that is left.
+pub struct Pen {
+    pub color: EdgeColor,
+    pub seed: u64,
+}
+
+// A draw from a seed: the number drawn, and the seed that is left.
+pub struct Draw {
+    pub value: u64,
+    pub seed: u64,
+}
+
+pub(crate) fn seed_extract2(seed: u64) -> Draw
+    ensures { λ r. ⌜ r ≡ seedExtract2 seed ⌝ }
+{
+    Draw {
+        value: seed % 2,
+        seed: seed / 2,
+    }
+}
+
+pub(crate) fn seed_extract3(seed: u64) -> Draw
+    ensures { λ r. ⌜ r ≡ seedExtract3 seed ⌝ }
+{
+    Draw {
+        value: seed % 3,
+        seed: seed / 3,
+    }
+}
+
+pub(crate) fn init_color(seed: u64) -> Pen
+    ensures { λ r. ⌜ r ≡ initColor seed ⌝ }
+{
+    let draw = seed_extract3(seed);
+    let value = draw.value;
+    let color = match value {
+        0 => EdgeColor::Cyan,
+        1 => EdgeColor::Magenta,
+        _ => EdgeColor::Yellow,
+    };
+    Pen {
+        color,
+        seed: draw.seed,
+    }
+}
+
+pub(crate) fn switch_color(pen: Pen) -> Pen
+    ensures { λ r. ⌜ r ≡ switchColor pen ⌝ }
+{
+    let color = pen.color;
+    let draw = seed_extract2(pen.seed);
+    let shifted = color.bits() << (1 + draw.value);
+    Pen {
+        color: EdgeColor::from_bits((shifted | (shifted >> 3)) & 7),
+        seed: draw.seed,
+    }
+}
+
+// A set of channels has one member.
+fn one_channel(channels: u8) -> bool
+    ensures { λ r. ⌜ r ≡ oneChannel channels ⌝ }
+{
+    match channels {
+        1 => true,
+        2 => true,
+        4 => true,
+        _ => false,
+    }
+}
+
+// With a banned colour that shares exactly one channel: the two other channels, and no draw.
+pub(crate) fn switch_color_banned(pen: Pen, banned: EdgeColor) -> Pen
+    ensures { λ r. ⌜ r ≡ switchColorBanned banned pen ⌝ }
+{
+    let color = pen.color;
+    let seed = pen.seed;
+    let combined = color.bits() & banned.bits();
+    if one_channel(combined) {
+        Pen {
+            color: EdgeColor::from_bits(combined ^ 7),
+            seed,
+        }
+    } else {
+        switch_color(pen)
+    }
+}
