@@ -1,7 +1,7 @@
 -- How many edges a result has, counted contour by contour along the buffers.
-use mathlib.Core.Path.{_≡_, refl, sym, ap, _∙_}
+use mathlib.Core.Path.{_≡_, refl, _∙_}
 use mathlib.Core.Bool.{Bool, true, false, _&&_, cond}
-use mathlib.Core.List.{List, [], _∷_}
+use mathlib.Core.List.{List}
 use Prim.Native.Nat.{ℕ, _+_, _*_, _≤_, _<_}
 use native.Mathlib.Omega.{arith}
 use lib.Dec.{leb, eqb}
@@ -35,7 +35,7 @@ threefold : (b : Bool) (m : ℕ) → cond b (3 * m) m ≤ 3 * m
 threefold true m = omega arith
 threefold false m = omega arith
 
-pub contour-bound : (threshold : Float) (edges : List EdgeSegment) → contourEdges threshold edges ≤ 3 * length edges
+contour-bound : (threshold : Float) (edges : List EdgeSegment) → contourEdges threshold edges ≤ 3 * length edges
 unfolding contourEdges
 contour-bound threshold edges = threefold (eqb (length (identifyCorners threshold edges)) 1 && leb (length edges) 2) (length edges)
 

@@ -2,7 +2,7 @@
 -- contours are delivered one after the other.
 use mathlib.Core.Path.{_≡_, refl, sym, ap, _∙_}
 use mathlib.Core.Bool.{Bool, true, false, _&&_}
-use mathlib.Core.List.{List, [], _∷_, _++_, map}
+use mathlib.Core.List.{List, [], _∷_, map}
 use Prim.Native.Nat.{ℕ, _+_, _*_, _≤_, _<_}
 use native.Mathlib.Omega.{arith}
 use lib.Dec.{leb, eqb}
@@ -14,9 +14,9 @@ use Rattle.geometry.specs.declared.edge_segment.EdgeSegment.{EdgeSegment}
 use Rattle.coloring.specs.declared.switching.Pen.{Pen}
 use Rattle.coloring.specs.declared.refusal.Refusal.{Refusal}
 use Rattle.coloring.specs.declared.outline.Checked.{Checked}
-use Rattle.coloring.specs.declared.outline.Checked.the-variants.{Passed, Failed}
+use Rattle.coloring.specs.declared.outline.Checked.the-variants.{Passed}
 use Rattle.coloring.specs.Contour.{ColoredEdge}
-use Rattle.coloring.specs.Outline.{Outline, Result, edgesOf, contours, cut, total, maxContours, maxEdges, require, check, encode, over, overFrom, kindOf, placesOf, edgesIn, colorsIn, concat, fits, delivered, Agrees, Room}
+use Rattle.coloring.specs.Outline.{Outline, Result, edgesOf, contours, cut, total, maxContours, maxEdges, require, check, encode, over, overFrom, kindOf, placesOf, edgesIn, colorsIn, concat, fits, Agrees, Room}
 use Rattle.coloring.specs.Coloring.{colorContour, colorContours, contourEdges, resultEdges}
 use Rattle.coloring.proofs.OutlineCheckLaws.{and-left, and-right}
 use Rattle.coloring.proofs.OutlineLaws.{points-length}
@@ -45,8 +45,12 @@ passed-agrees o threshold e =
 
 -- ---- the count decides
 
+-- whether four buffers have room for so many contours and edges, as a test
+abbrev pub hasRoom : ℕ → ℕ → Result → Bool
+hasRoom contours edges old = leb contours (length (old .lengths)) && leb edges (length (old .kinds)) && leb (8 * edges) (length (old .points)) && leb edges (length (old .colors))
+
 fits-sized : (written old : Result) (contours edges : ℕ) → Sized written contours edges
-    → fits written old ≡ (leb contours (length (old .lengths)) && leb edges (length (old .kinds)) && leb (8 * edges) (length (old .points)) && leb edges (length (old .colors)))
+    → fits written old ≡ hasRoom contours edges old
 unfolding fits
 fits-sized written old contours edges s = rw (s .lengths-long, s .kinds-long, s .points-long, s .colors-long)
 
@@ -59,10 +63,6 @@ result-sized ink threshold pen shape =
     let many : length colored ≡ length shape =
     sym (length-map colored (λ (contour : List ColoredEdge). length contour)) ∙ ap length lengths ∙ length-map shape (contourEdges threshold) in
     rw (many, lengths) at (encode-sized colored)
-
--- whether four buffers have room for so many contours and edges, as a test
-abbrev pub hasRoom : ℕ → ℕ → Result → Bool
-hasRoom contours edges old = leb contours (length (old .lengths)) && leb edges (length (old .kinds)) && leb (8 * edges) (length (old .points)) && leb edges (length (old .colors))
 
 pub result-fits : (ink : Bool) (threshold : Float) (pen : Pen) (o : Outline) (old : Result)
     → fits (encode (colorContours (colorContour ink threshold) pen (contours o))) old ≡ hasRoom (length (o .lengths)) (resultEdges threshold (contours o)) old

@@ -1,5 +1,5 @@
 -- The free colours of a spline: how `uses` goes along a row, the range of `vertexPossibleColors`, and the colours taken of a set.
-use mathlib.Core.Path.{_≡_, refl, sym, ap, _∙_}
+use mathlib.Core.Path.{_≡_, refl}
 use mathlib.Core.Bool.{Bool, true, false, not, _&&_, _||_, cond, false≢true}
 use mathlib.Core.List.{List, [], _∷_}
 use Prim.Native.Nat.{ℕ, zero, suc, _+_, _-_, _*_, _%_, _^_, _≤_, _<_}
@@ -33,18 +33,6 @@ below-eight false false false = omega arith
 pub possible-below : (coloring entries : List ℕ) → vertexPossibleColors coloring entries < 8
 unfolding vertexPossibleColors
 possible-below coloring entries = below-eight (uses 0 coloring entries) (uses 1 coloring entries) (uses 2 coloring entries)
-
-pub first-below : (p : ℕ) → 0 < p → p < 8 → firstPossibleColor p < 3
-unfolding firstPossibleColor
-first-below zero h k = omega arith
-first-below (suc zero) h k = omega arith
-first-below (suc (suc zero)) h k = omega arith
-first-below (suc (suc (suc zero))) h k = omega arith
-first-below (suc (suc (suc (suc zero)))) h k = omega arith
-first-below (suc (suc (suc (suc (suc zero))))) h k = omega arith
-first-below (suc (suc (suc (suc (suc (suc zero)))))) h k = omega arith
-first-below (suc (suc (suc (suc (suc (suc (suc zero))))))) h k = omega arith
-first-below (suc (suc (suc (suc (suc (suc (suc (suc p)))))))) h k = omega arith
 
 -- where no colour is free, each is used
 pub none-free : (coloring entries : List ℕ) → vertexPossibleColors coloring entries ≡ 0 → (c : ℕ) → c < 3 → uses c coloring entries ≡ true

@@ -12,7 +12,6 @@ pub mod StartLaws
 pub mod RuleLaws
 pub mod SoundLaws
 pub mod OfferCheckLaws
-
 -- lists of offers: the sequence rule
 pub mod TableLaws
 pub mod NeighborLaws
@@ -20,7 +19,6 @@ pub mod WalkProper
 pub mod OfferNoClash
 pub mod OfferLaws
 pub mod SequenceRule
-
 -- colours, places and corners
 pub mod ChannelLaws
 pub mod PlaceLaws
@@ -31,7 +29,6 @@ pub mod SplineLaws
 pub mod InkTrapLaws
 pub mod MeasureLaws
 pub mod SpreadLaws
-
 -- outlines and the result
 pub mod OutlineLaws
 pub mod OutlineCheckLaws

@@ -1,4 +1,4 @@
--- Two laws on lists that the library has not.
+-- A law on lists that the library has not.
 use mathlib.Core.Path.{_≡_, refl}
 use mathlib.Core.List.{List, [], _∷_}
 use Prim.Native.Nat.{ℕ, zero, suc, _<_}

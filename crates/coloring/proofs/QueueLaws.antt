@@ -1,8 +1,8 @@
 -- The queue of a walk. First the ring: its length, and what is put at its end. Then the splines that wait: they are as many as there are
 -- places at most, one more may wait once it has lost its colour, and the first may be taken off once it has one.
-use mathlib.Core.Path.{_≡_, refl, sym, ap, _∙_, subst}
+use mathlib.Core.Path.{_≡_, refl, sym, ap, _∙_}
 use mathlib.Core.Logic.{_≢_}
-use mathlib.Core.Bool.{Bool, true, false, _&&_, cond}
+use mathlib.Core.Bool.{Bool, true, false, cond}
 use mathlib.Core.List.{List, [], _∷_, _++_}
 use Prim.Native.Nat.{ℕ, zero, suc, _+_, _-_, _%_, _≤_, _<_}
 use native.Mathlib.Omega.{arith}
@@ -12,7 +12,7 @@ use lib.ListN.{length, getD, set, length-set}
 use lib.Seq.{getD-set-same, getD-set-other, set-set, set-comm}
 use borrow.Author.Tests.{eq-eqb}
 use Rattle.coloring.specs.SplineTable.{uncolored}
-use Rattle.coloring.specs.Queue.{ring, Waiting, Queued}
+use Rattle.coloring.specs.Queue.{ring, Waiting}
 
 -- ---- the ring
 

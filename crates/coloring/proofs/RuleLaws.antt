@@ -1,11 +1,11 @@
 -- The rule of an offer by its three cases: the colours differ, b has a free colour, and the walk.
-use mathlib.Core.Path.{_≡_, refl, sym, ap, _∙_}
+use mathlib.Core.Path.{_≡_, refl, _∙_}
 use mathlib.Core.Logic.{_≢_}
 use mathlib.Core.Bool.{Bool, true, false}
 use mathlib.Core.List.{List}
-use Prim.Native.Nat.{ℕ, _+_, _*_}
+use Prim.Native.Nat.{ℕ}
 use lib.Dec.{eqb}
-use lib.ListN.{length, getD, set, length-set}
+use lib.ListN.{length, getD, set}
 use borrow.Author.Tests.{eq-eqb, ne-eqb}
 use Rattle.coloring.specs.SplineTable.{Table, Walk, recolored, stopped, Offered, row, enter, vertexPossibleColors, firstPossibleColor, recolor, tryAddEdge}
 use Rattle.coloring.specs.Offering.{outcome, settled}
@@ -35,11 +35,6 @@ opened false none w differ free coloring edgeMatrix a b = refl
 opened true false w differ free coloring edgeMatrix a b = refl
 opened true true (recolored after step) differ free coloring edgeMatrix a b = refl
 opened true true (stopped step) differ free coloring edgeMatrix a b = refl
-
--- both entries set keep the table's size
-pub enter-length : (n : ℕ) (edgeMatrix : List ℕ) (a b e : ℕ) → length (enter n edgeMatrix a b e) ≡ length edgeMatrix
-unfolding enter
-enter-length n edgeMatrix a b e = length-set (set edgeMatrix (a * n + b) e) (b * n + a) e ∙ length-set edgeMatrix (a * n + b) e
 
 module _ (coloring before : List ℕ) (a b : ℕ) where
   -- the entries with the pair in

@@ -2,8 +2,8 @@
 -- keeps that and leaves fewer turns.
 use mathlib.Core.Path.{_≡_, sym, ap, _∙_, subst⁻¹}
 use mathlib.Core.Logic.{_≢_}
-use mathlib.Core.List.{List, [], _∷_}
-use Prim.Native.Nat.{ℕ, zero, suc, _+_, _-_, _*_, _%_, _≤_, _<_}
+use mathlib.Core.List.{List, _∷_}
+use Prim.Native.Nat.{ℕ, suc, _+_, _-_, _*_, _%_, _≤_, _<_}
 use native.Mathlib.Omega.{arith}
 use lib.ListN.{length, getD, set, length-set}
 use Rattle.coloring.specs.SplineTable.{Recoloring, Walk, recolored, stopped, joined, row, vertexPossibleColors, firstPossibleColor, uncolorSameNeighbors, walk, walkFuel}

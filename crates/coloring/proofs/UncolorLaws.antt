@@ -10,7 +10,7 @@ use native.Mathlib.Omega.{arith}
 use native.Mathlib.Numerals.{add-one}
 use lib.Dec.{eqb}
 use lib.ListN.{length, getD, set, length-set, length-append}
-use lib.Seq.{getD-set-same, getD-set-other}
+use lib.Seq.{getD-set-other}
 use borrow.Author.Tests.{eq-eqb, ne-eqb, eqb-true}
 use Rattle.coloring.specs.SplineTable.{Recoloring, uncolored, joined, uncolorOne, uncolorFrom, uncolorSameNeighbors}
 use Rattle.coloring.specs.Queue.{Waiting, ring, recoloring, Uncoloring}

@@ -1,12 +1,10 @@
 -- The definitions that the contracts of the colouring cite.
 pub mod Refusal
-
 -- the spline table
 pub mod SplineTable
 pub mod Queue
 pub mod Offering
 pub mod Sequence
-
 -- outlines and their colouring
 pub mod Switching
 pub mod Corners
@@ -16,7 +14,5 @@ pub mod Simple
 pub mod InkTrap
 pub mod Outline
 pub mod Coloring
-
 -- worked examples of document 01
 pub mod Examples
-pub mod SwitchingExamples

@@ -233,3 +233,9 @@ pub record Holds (contour : List ColoredEdge) (kinds : List ℕ) (points : List 
   pub kinds-are : kinds ≡ map kindOf (edgesIn contour)
   pub points-are : points ≡ concat (map placesOf (edgesIn contour))
   pub colors-are : colors ≡ map bitsOf (colorsIn contour)
+
+-- the same from place `to` on, over what stood there
+pub record HoldsFrom (to : ℕ) (contour : List ColoredEdge) (kinds₀ : List ℕ) (points₀ : List Float) (colors₀ kinds : List ℕ) (points : List Float) (colors : List ℕ) : Type 0 where
+  pub kinds-are : kinds ≡ overFrom to (map kindOf (edgesIn contour)) kinds₀
+  pub points-are : points ≡ overFrom (8 * to) (concat (map placesOf (edgesIn contour))) points₀
+  pub colors-are : colors ≡ overFrom to (map bitsOf (colorsIn contour)) colors₀

@@ -1,7 +1,7 @@
 // Simple and ink-trap colouring of a whole outline, after `edge_coloring_simple` and `edge_coloring_ink_trap` of coloring/mod.rs: the count of
 // the result, the contours in order, and the two entries.
-use crate::corners::identify_corners;
 use crate::contour::color_contour;
+use crate::corners::identify_corners;
 use crate::outline::Checked;
 use crate::outline::Colored;
 use crate::outline::check;
@@ -10,13 +10,11 @@ use crate::switching::Pen;
 use crate::switching::init_color;
 ghost use mathlib.Core.Path.{_≡_};
 ghost use mathlib.Core.Bool.{_&&_};
-ghost use mathlib.Core.List.{map};
 ghost use Prim.Native.Nat.{_+_, _*_, _≤_, _-_};
 ghost use lib.Dec.{leb};
 ghost use lib.ListN.{length, take, drop};
-ghost use Rattle.geometry.specs.EdgeColor.{bitsOf};
 ghost use Rattle.coloring.specs.Switching.{initColor};
-ghost use Rattle.coloring.specs.Outline.{edgesOf, contours, check, encode, overFrom, kindOf, placesOf, edgesIn, colorsIn, concat, delivered, deliver, Agrees, Room, Delivers};
+ghost use Rattle.coloring.specs.Outline.{edgesOf, contours, check, encode, delivered, deliver, Agrees, Room, Delivers, HoldsFrom};
 ghost use Rattle.coloring.specs.Coloring.{colorContour, colorContours, contourEdges, resultEdges, edgeColoringSimple, edgeColoringInkTrap};
 
 // ---- the count of the result
@@ -85,9 +83,7 @@ fn color_part(
     requires { ⌜ (at ≤ end) × (end ≤ length (now kinds)) × (length (now kinds) ≤ 256) × (length (now points) ≡ 8 * length (now kinds)) ⌝ }
     requires { ⌜ (next ≡ to + contourEdges threshold (take (end - at) (drop at (edgesOf (now kinds) (now points))))) × (next ≤ length (now «out_kinds»)) × (8 * next ≤ length (now «out_points»)) × (next ≤ length (now «out_colors»)) ⌝ }
     ensures pen { λ r. ⌜ r ≡ colorContour «ink_trap» threshold pen (take (end - at) (drop at (edgesOf (now (kinds .entry)) (now (points .entry))))) .pen ⌝ }
-    ensures kinds { λ _. ⌜ now («out_kinds» .exit) ≡ overFrom to (map kindOf (edgesIn (colorContour «ink_trap» threshold pen (take (end - at) (drop at (edgesOf (now (kinds .entry)) (now (points .entry))))) .edges))) (now («out_kinds» .entry)) ⌝ }
-    ensures points { λ _. ⌜ now («out_points» .exit) ≡ overFrom (8 * to) (concat (map placesOf (edgesIn (colorContour «ink_trap» threshold pen (take (end - at) (drop at (edgesOf (now (kinds .entry)) (now (points .entry))))) .edges)))) (now («out_points» .entry)) ⌝ }
-    ensures colors { λ _. ⌜ now («out_colors» .exit) ≡ overFrom to (map bitsOf (colorsIn (colorContour «ink_trap» threshold pen (take (end - at) (drop at (edgesOf (now (kinds .entry)) (now (points .entry))))) .edges))) (now («out_colors» .entry)) ⌝ }
+    ensures edges { λ _. ⌜ HoldsFrom to (colorContour «ink_trap» threshold pen (take (end - at) (drop at (edgesOf (now (kinds .entry)) (now (points .entry))))) .edges) (now («out_kinds» .entry)) (now («out_points» .entry)) (now («out_colors» .entry)) (now («out_kinds» .exit)) (now («out_points» .exit)) (now («out_colors» .exit)) ⌝ }
 {
     let from = 8 * at;
     let up_to = 8 * end;
@@ -125,12 +121,12 @@ fn color_contours(
     let mut pen = init_color(seed);
     let mut at: usize = 0;
     let mut to: usize = 0;
-    let mut i = 0;
-    while i < lengths.len() {
-        let end = at + lengths[i] as usize;
+    let mut contour = 0;
+    while contour < lengths.len() {
+        let end = at + lengths[contour] as usize;
         let edges = count_part(kinds, points, at, end, threshold);
         let next = to + edges;
-        out_lengths[i] = edges as u16;
+        out_lengths[contour] = edges as u16;
         pen = color_part(
             ink_trap,
             kinds,
@@ -147,7 +143,7 @@ fn color_contours(
         );
         at = end;
         to = next;
-        i += 1;
+        contour += 1;
     }
     Colored::Edges(to)
 }

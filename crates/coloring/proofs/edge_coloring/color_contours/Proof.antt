@@ -1,4 +1,4 @@
--- `coloring::edge_coloring::color_contours` meets its contract: after i contours, each buffer holds what they come to, and what stood beyond it.
+-- `coloring::edge_coloring::color_contours` meets its contract: after some contours, each buffer holds what they come to, and what stood beyond it.
 use mathlib.Core.Path.{_≡_, sym, ap, _∙_}
 use Prim.Native.Nat.{_+_, _*_, _-_, _≤_}
 use native.Mathlib.Omega.{arith}
@@ -14,16 +14,16 @@ use Rattle.coloring.proofs.edge_coloring.color_contours.Statement.{stat
 use Rattle.coloring.proofs.edge_coloring.color_contours.Tie as tie
 
 abbrev Inv-loop : tie.InvT-loop
-Inv-loop ink-trap lengths kinds points threshold seed out-lengths₀ out-kinds₀ out-points₀ out-colors₀ pen₀ at₀ to₀ i₀ out-lengths out-kinds out-points out-colors pen at to i =
+Inv-loop ink-trap lengths kinds points threshold seed out-lengths₀ out-kinds₀ out-points₀ out-colors₀ pen₀ at₀ to₀ contour₀ out-lengths out-kinds out-points out-colors pen at to contour =
     Delivering ink-trap threshold lengths (edgesOf kinds points)
     (encode (colorContours (colorContour ink-trap threshold) pen₀ (cut lengths (edgesOf kinds points))))
     (record { lengths = out-lengths₀; kinds = out-kinds₀; points = out-points₀; colors = out-colors₀ })
     (record { lengths = out-lengths; kinds = out-kinds; points = out-points; colors = out-colors })
-    pen at to i
+    pen at to contour
 
 abbrev μ-loop : tie.MeasureT-loop
-μ-loop ink-trap lengths kinds points threshold seed out-lengths₀ out-kinds₀ out-points₀ out-colors₀ pen₀ at₀ to₀ i₀ out-lengths out-kinds out-points out-colors pen at to i =
-    length lengths - i
+μ-loop ink-trap lengths kinds points threshold seed out-lengths₀ out-kinds₀ out-points₀ out-colors₀ pen₀ at₀ to₀ contour₀ out-lengths out-kinds out-points out-colors pen at to contour =
+    length lengths - contour
 
 -- the room that the caller ensures, for the contours as they are cut
 given : (c : tie.Start Inv-loop μ-loop)
@@ -34,7 +34,7 @@ given c = c .pre .1
 
 -- the next contour lies within the edges
 room : (c : tie.In-loop Inv-loop μ-loop)
-    → c .before .loop .at + getD (c .before .before .before .before .before .before .before .before .before .before .args .lengths .now) (c .before .loop .i) 0 ≤ length (c .before .before .before .before .before .before .before .before .before .before .args .kinds .now)
+    → c .before .loop .at + getD (c .before .before .before .before .before .before .before .before .before .before .args .lengths .now) (c .before .loop .contour) 0 ≤ length (c .before .before .before .before .before .before .before .before .before .before .args .kinds .now)
 room c =
     let a = c .before .before .before .before .before .before .before .before .before .before .args in
     rw (edges-length (a .kinds .now) (a .points .now)) at (counting-room _ _ _ _ _ _ (c .before .loop .inv .counted) (c .loop-test .taken))
@@ -43,15 +43,15 @@ room c =
 counted : (c : tie.After-count-part Inv-loop μ-loop)
     → let a = c .before .before .before .before .before .before .before .before .before .before .before .before .args in
     let l = c .before .before .before .loop in
-    c .count-part .result ≡ contourEdges (a .threshold) (take (getD (a .lengths .now) (l .i) 0) (drop (l .at) (edgesOf (a .kinds .now) (a .points .now))))
+    c .count-part .result ≡ contourEdges (a .threshold) (take (getD (a .lengths .now) (l .contour) 0) (drop (l .at) (edgesOf (a .kinds .now) (a .points .now))))
 counted c =
     let a = c .before .before .before .before .before .before .before .before .before .before .before .before .args in
     let l = c .before .before .before .loop in
-    let m : l .at + getD (a .lengths .now) (l .i) 0 - l .at ≡ getD (a .lengths .now) (l .i) 0 = omega arith in
+    let m : l .at + getD (a .lengths .now) (l .contour) 0 - l .at ≡ getD (a .lengths .now) (l .contour) 0 = omega arith in
     rw m at (c .count-part .ensures)
 
 -- it is at most three times as long
-bound : (c : tie.After-count-part Inv-loop μ-loop) → c .count-part .result ≤ 3 * getD (c .before .before .before .before .before .before .before .before .before .before .before .before .args .lengths .now) (c .before .before .before .loop .i) 0
+bound : (c : tie.After-count-part Inv-loop μ-loop) → c .count-part .result ≤ 3 * getD (c .before .before .before .before .before .before .before .before .before .before .before .before .args .lengths .now) (c .before .before .before .loop .contour) 0
 bound c = rw (counted c) (counting-bound _ _ _ _ _ _ (c .before .before .before .loop .inv .counted) (c .before .before .loop-test .taken))
 
 -- and there is room for it
@@ -107,8 +107,8 @@ color-part-requires c κs =
       (ap (λ k. t .before .before .before .loop .to + k) (t .count-part .ensures), omega (arith, fit t, v .kinds-kept, given s .kinds-fit), omega (arith, fit t, v .points-kept, given s .points-fit), omega (arith, fit t, v .colors-kept, given s .colors-fit)),
     )
 
-add-i : tie.Need-add-i Inv-loop μ-loop
-add-i c = omega (arith, c .before .before .before .before .before .before .before .before .before .before .before .before .loop-test .taken, c .before .before .before .before .before .before .before .before .before .before .before .before .before .before .before .before .before .before .before .before .before .before .good)
+add-contour : tie.Need-add-contour Inv-loop μ-loop
+add-contour c = omega (arith, c .before .before .before .before .before .before .before .before .before .before .before .before .loop-test .taken, c .before .before .before .before .before .before .before .before .before .before .before .before .before .before .before .before .before .before .before .before .before .before .good)
 
 loop-less : tie.Need-loop-less Inv-loop μ-loop
 loop-less c = omega arith
@@ -119,8 +119,8 @@ loop-again c =
     let p = c .before .before .before .before .before .before in
     let t = p .before .before .before .before in
     let l = t .before .before .before .loop in
-    let m : l .at + getD (s .args .lengths .now) (l .i) 0 - l .at ≡ getD (s .args .lengths .now) (l .i) 0 = omega arith in
-    rw (p .color-part .ensures .0, p .color-part .ensures .1 .0, p .color-part .ensures .1 .1 .0, p .color-part .ensures .1 .1 .1, counted t, m)
+    let m : l .at + getD (s .args .lengths .now) (l .contour) 0 - l .at ≡ getD (s .args .lengths .now) (l .contour) 0 = omega arith in
+    rw (p .color-part .ensures .0, p .color-part .ensures .1 .kinds-are, p .color-part .ensures .1 .points-are, p .color-part .ensures .1 .colors-are, counted t, m)
     (delivering-next _ _ _ _ _ _ _ _ _ _ _ (l .inv) (given s) (t .before .before .loop-test .taken))
 
 same-length : tie.Need-same-length Inv-loop μ-loop
@@ -168,7 +168,7 @@ color-contours-spec =
     mul-out-lengths
     slice-write-out-lengths
     color-part-requires
-    add-i
+    add-contour
     loop-less
     loop-again
     same-length

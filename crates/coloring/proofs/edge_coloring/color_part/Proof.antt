@@ -3,7 +3,7 @@ use mathlib.Core.Path.{_≡_, _∙_}
 use Prim.Native.Nat.{_*_, _-_}
 use native.Mathlib.Omega.{arith}
 use borrow.Author.Needs.{needs}
-use lib.ListN.{length, take, drop, length-take, length-drop}
+use lib.ListN.{take, drop, length-take, length-drop}
 use Rattle.coloring.specs.Outline.{edgesOf}
 use Rattle.coloring.specs.Coloring.{colorContour}
 use Rattle.coloring.proofs.OutlineLaws.{edges-part}
@@ -110,13 +110,11 @@ returns c =
     let holds = rw (same s) at (done .ensures .0) in
     let eight : 8 * a .next - 8 * a .to ≡ 8 * (a .next - a .to) = omega (arith, s .pre .1) in (
       rw (same s) at (done .ensures .1),
-      (
-        rw (holds .kinds-are) (over-part (a .out-kinds .now) _ (a .to) (a .next - a .to) (sizes .0)),
-        (
-          rw (holds .points-are, eight) (over-part (a .out-points .now) _ (8 * a .to) (8 * (a .next - a .to)) (sizes .1)),
-          rw (holds .colors-are) (over-part (a .out-colors .now) _ (a .to) (a .next - a .to) (sizes .2)),
-        ),
-      ),
+      record {
+        kinds-are = rw (holds .kinds-are) (over-part (a .out-kinds .now) _ (a .to) (a .next - a .to) (sizes .0));
+        points-are = rw (holds .points-are, eight) (over-part (a .out-points .now) _ (8 * a .to) (8 * (a .next - a .to)) (sizes .1));
+        colors-are = rw (holds .colors-are) (over-part (a .out-colors .now) _ (a .to) (a .next - a .to) (sizes .2));
+      },
     )
 
 pub color-part-spec : {M : Type 1} → statement M

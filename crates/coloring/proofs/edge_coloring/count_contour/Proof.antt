@@ -1,10 +1,9 @@
 -- `coloring::edge_coloring::count_contour` meets its contract: three edges or more are not split, and fewer are where there is exactly one corner.
 use mathlib.Core.Path.{_≡_, sym, ap, _∙_}
-use Prim.Native.Nat.{_≤_}
 use native.Mathlib.Omega.{arith}
 use borrow.Author.Needs.{needs}
 use borrow.Author.Tests.{le-leb, ne-eqb}
-use lib.ListN.{length, take}
+use lib.ListN.{length}
 use lib.Seq.{length-take-le}
 use Rattle.coloring.specs.Outline.{edgesOf}
 use Rattle.coloring.specs.Corners.{identifyCorners}

@@ -1,6 +1,5 @@
 -- `coloring::edge_coloring::edge_coloring` meets its contract: a refusal of the checks, 11 where the count says so, or the contours coloured.
 use mathlib.Core.Path.{_≡_, refl, sym, _∙_}
-use mathlib.Core.Bool.{true, false}
 use borrow.Author.Needs.{needs}
 use borrow.Author.Tests.{not-true, not-false}
 use lib.ListN.{length}

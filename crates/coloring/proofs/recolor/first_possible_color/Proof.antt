@@ -1,5 +1,5 @@
 -- `first_possible_color` meets its contract: the definition's list, read inside.
-use mathlib.Core.List.{List, [], _∷_}
+use mathlib.Core.List.{[], _∷_}
 use native.Mathlib.Omega.{arith}
 use Rattle.coloring.specs.SplineTable.{firstPossibleColor}
 use Rattle.coloring.proofs.ListLaws.{getD-inside}

@@ -1,5 +1,5 @@
 -- `uncolor_from` meets its contract: what is left to do from here equals the whole, and the ring holds the queue.
-use mathlib.Core.Path.{_≡_, refl, sym, ap, _∙_}
+use mathlib.Core.Path.{_≡_, refl, sym, _∙_}
 use Prim.Native.Nat.{_-_}
 use native.Mathlib.Omega.{arith}
 use lib.ListN.{length}

@@ -1,11 +1,9 @@
 -- `uses` meets its contract: what has been found, or is used by a spline that is left, is what the whole row uses.
 use mathlib.Core.Path.{_≡_, refl, sym, ap, _∙_}
-use mathlib.Core.Bool.{Bool, _||_, or-assoc, or-false}
+use mathlib.Core.Bool.{_||_, or-assoc, or-false}
 use Prim.Native.Nat.{_≤_, _-_}
 use native.Mathlib.Omega.{arith}
-use native.Mathlib.Numerals.{add-one}
-use lib.ListN.{length, drop, getD}
-use lib.Seq.{drop-cons}
+use lib.ListN.{length, drop}
 use Rattle.coloring.specs.SplineTable as table
 use Rattle.coloring.proofs.FreeColorLaws.{uses-step, uses-end}
 use Rattle.coloring.proofs.recolor.uses.Statement.{statement}

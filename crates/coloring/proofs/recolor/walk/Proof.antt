@@ -2,7 +2,7 @@
 -- The inner loop's: the step that is forced from here on is the one that was forced when the loop began.
 use mathlib.Core.Path.{_≡_, refl, sym, ap, _∙_}
 use mathlib.Core.Logic.{⊎-elim}
-use mathlib.Core.Bool.{Bool, true, false, _&&_}
+use mathlib.Core.Bool.{true, false, _&&_}
 use mathlib.Core.List.{List}
 use Prim.Native.Nat.{ℕ, suc, _≤_, _<_, _-_, _*_, _+_, _%_}
 use native.Mathlib.Omega.{arith}

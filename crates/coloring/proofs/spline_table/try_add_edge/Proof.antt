@@ -1,9 +1,8 @@
 -- `try_add_edge` meets its contract: the refusals in their order, each with the buffers as they came, and then the rule.
 use mathlib.Core.Path.{_≡_, sym, _∙_}
 use mathlib.Core.Logic.{⊎-elim}
-use mathlib.Core.Bool.{true, false}
+use mathlib.Core.Bool.{true}
 use native.Mathlib.Omega.{arith}
-use lib.ListN.{length}
 use borrow.Author.Tests.{leb-true, leb-false, eqb-true, eqb-false, not-true, not-false}
 use Rattle.coloring.specs.SplineTable.{sound}
 use Rattle.coloring.proofs.RowLaws.{square-below}
