@@ -17,8 +17,11 @@ pub mod coloring;
 
 include!(concat!(env!("OUT_DIR"), "/given.rs"));
 
+pub mod contours;
 pub mod edges;
 pub mod leaves;
 pub mod numbers;
 pub mod roots;
+pub mod shape_sample;
+pub mod shapes;
 pub mod tables;

@@ -1,5 +1,6 @@
 // The proved functions for C and Rust to call, over numbers and slices only. A vector comes as its x and y, and goes to the
 // first two places of `out`; where `out` has fewer, nothing is written.
+pub mod edge_coloring;
 pub mod edges;
 pub mod spline_table;
 

@@ -1,20 +1,18 @@
 -- The colouring of a whole outline: its contours in the buffers, the count of its result, and its stored form, contour by contour.
-use mathlib.Core.Path.{_≡_, refl, sym, ap, _∙_}
-use mathlib.Core.Bool.{Bool, true, false, _&&_, cond}
+use mathlib.Core.Path.{_≡_, refl, ap, _∙_}
+use mathlib.Core.Bool.{Bool}
 use mathlib.Core.List.{List, [], _∷_, _++_, map}
-use Prim.Native.Nat.{ℕ, zero, suc, _+_, _*_, _≤_, _<_}
-use native.Mathlib.Omega.{arith}
+use Prim.Native.Nat.{ℕ, suc, _+_, _*_, _≤_, _<_}
 use native.Mathlib.Numerals.{add-one}
-use lib.Dec.{leb}
 use lib.Ieee.{Float}
 use lib.ListN.{length, getD, take, drop, length-append, length-map, drop-of-length-le}
 use lib.Seq.{drop-cons, drop-drop}
 use Rattle.geometry.specs.EdgeColor.{bitsOf}
 use Rattle.geometry.specs.declared.edge_segment.EdgeSegment.{EdgeSegment}
 use Rattle.coloring.specs.declared.switching.Pen.{Pen}
-use Rattle.coloring.specs.Contour.{ColoredEdge, ColoredContour}
-use Rattle.coloring.specs.Outline.{Result, cut, concat, total, encode, over, fits, kindOf, placesOf, edgesIn, colorsIn}
-use Rattle.coloring.specs.Coloring.{colorContour, colorContours, contourEdges, resultEdges}
+use Rattle.coloring.specs.Contour.{ColoredEdge}
+use Rattle.coloring.specs.Outline.{Result, cut, concat, total, encode, kindOf, placesOf, edgesIn, colorsIn}
+use Rattle.coloring.specs.Coloring.{colorContour, colorContours, contourEdges}
 use Rattle.coloring.proofs.OutlineLaws.{points-length}
 use Rattle.coloring.proofs.StoreLaws.{map-append, points-append}
 use Rattle.coloring.proofs.ContourLaws.{contour-edges}

@@ -1,31 +1,30 @@
 -- A coloured contour by its corners: how many edges it comes to, its edges and its colours; and ink-trap corners stand where corners are.
-use mathlib.Core.Path.{_≡_, refl, sym, ap, _∙_, subst}
+use mathlib.Core.Path.{_≡_, refl, sym, ap, _∙_}
 use mathlib.Core.Bool.{Bool, true, false, _&&_, cond}
 use mathlib.Core.List.{List, [], _∷_, _++_, map}
-use Prim.Native.Nat.{ℕ, zero, suc, _+_, _*_, _≤_, _<_}
+use Prim.Native.Nat.{ℕ, zero, suc, _*_, _≤_, _<_}
 use native.Mathlib.Omega.{arith}
 use lib.Dec.{leb, ltb, eqb}
 use lib.Ieee.{Float}
-use lib.ListN.{length, getD, drop, replicate, set, length-append, length-replicate, length-map, length-set}
+use lib.ListN.{length, getD, drop, replicate, length-replicate, length-map, length-set}
 use borrow.Author.Tests.{le-leb, lt-leb, eq-eqb, ne-eqb}
-use Rattle.math.specs.declared.vector2.Vector2.{Vector2}
 use Rattle.geometry.specs.declared.edge_segment.EdgeSegment.{EdgeSegment}
 use Rattle.geometry.specs.declared.edge_color.EdgeColor.{EdgeColor}
 use Rattle.coloring.specs.declared.switching.Pen.{Pen}
 use Rattle.coloring.specs.declared.ink_trap.InkTrapCorner.{InkTrapCorner}
 use Rattle.geometry.specs.declared.edge_color.EdgeColor.the-variants.{White}
 use Rattle.coloring.specs.Switching.{switchColor}
-use Rattle.coloring.specs.Corners.{startsAtCorner, cornersFrom, identifyCorners}
-use Rattle.coloring.specs.Contour.{ColoredEdge, paint, walkOrder, byPlace, thirds, teardropColors, colorSmooth, colorTeardrop}
-use Rattle.coloring.specs.Simple.{Painted, paintFrom, colorByCorners, simpleContour}
-use Rattle.coloring.specs.InkTrap.{Measured, Inked, Spread, around, measureFrom, measureCorners, closeFirst, markMinors, majorCount, colorMajors, colorMinors, colorCorners, spreadColors, paintCorners, paintInkTrap, inkByCorners, inkTrapContour}
+use Rattle.coloring.specs.Corners.{identifyCorners}
+use Rattle.coloring.specs.Contour.{paint, walkOrder, byPlace, thirds, teardropColors, colorTeardrop}
+use Rattle.coloring.specs.Simple.{paintFrom, colorByCorners, simpleContour}
+use Rattle.coloring.specs.InkTrap.{Measured, Inked, Spread, around, measureCorners, markMinors, colorMajors, colorMinors, colorCorners, spreadColors, paintCorners, paintInkTrap, inkByCorners, inkTrapContour}
 use Rattle.geometry.specs.EdgeColor.{bitsOf}
 use Rattle.coloring.specs.Outline.{kindOf, placesOf, concat, edgesIn, colorsIn, Holds}
 use Rattle.coloring.specs.Coloring.{colorContour, contourEdges}
 use Rattle.coloring.proofs.PlaceLaws.{length-range, length-byPlace, length-walkOrder}
 use Rattle.coloring.proofs.SplineLaws.{length-painted}
 use Rattle.coloring.proofs.MeasureLaws.{measured-places, ink-none, ink-one, ink-more}
-use Rattle.coloring.proofs.InkTrapLaws.{branch-true, branch-false, close-first-length}
+use Rattle.coloring.proofs.InkTrapLaws.{branch-false, close-first-length}
 
 -- what holds of both branches of a test
 either : {A : Type 0} (P : A → Type 0) (b : Bool) (x y : A) → P x → P y → P (elim b [ true ↦ x | false ↦ y ])

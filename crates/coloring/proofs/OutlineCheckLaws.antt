@@ -1,5 +1,5 @@
 -- The checks of an outline, along a buffer: the sum of lengths, a test of all elements, the coordinates of the edges from a place on.
-use mathlib.Core.Path.{_≡_, refl, sym, ap, _∙_}
+use mathlib.Core.Path.{_≡_, refl}
 use mathlib.Core.Bool.{Bool, true, false, _&&_}
 use mathlib.Core.List.{List, [], _∷_}
 use Prim.Native.Nat.{ℕ, zero, suc, _+_, _*_, _≤_, _<_}
@@ -9,7 +9,7 @@ use lib.Dec.{leb}
 use borrow.Author.Tests.{leb-true}
 use lib.Ieee.{Float}
 use lib.ListN.{length, take, drop, getD, drop-of-length-le}
-use lib.Seq.{drop-cons, drop-drop, getD-take, length-take-le}
+use lib.Seq.{drop-cons, drop-drop}
 use Rattle.coloring.specs.Outline.{total, all, knownKind, inRange, usedPlaces, coordinatesFit}
 
 pub total-step : (lengths : List ℕ) (i : ℕ) → i < length lengths → total (drop i lengths) ≡ getD lengths i 0 + total (drop (i + 1) lengths)

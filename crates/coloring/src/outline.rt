@@ -22,10 +22,6 @@ pub enum Colored {
     Refused(Refusal),
 }
 
-pub fn keep2(p: Colored) -> Colored {
-    p
-}
-
 // The sum of the contour lengths.
 fn total(lengths: &[u16]) -> usize
     requires { ⌜ length (now lengths) ≤ 64 ⌝ }

@@ -2,7 +2,7 @@
 //! named: `vectors ../crates`.
 
 use oracle::tables::{self, Run, Table};
-use oracle::{edges, leaves};
+use oracle::{edges, leaves, shape_sample};
 use std::path::Path;
 
 /// The records of one program, and the counts that it prints when every answer is right.
@@ -103,6 +103,16 @@ fn table() -> Recording {
     out
 }
 
+/// Calls of the colourings with their outcomes, of no common size.
+fn coloring() -> Recording {
+    let mut out = Recording::new(1);
+    for (name, records) in shape_sample::sample() {
+        out.heading(&name, records.len());
+        out.records.extend(records.concat());
+    }
+    out
+}
+
 fn main() {
     let Some(crates) = std::env::args().nth(1) else {
         eprintln!("usage: vectors CRATES");
@@ -111,4 +121,5 @@ fn main() {
     math().write(Path::new(&crates), "replay_math");
     geometry().write(Path::new(&crates), "replay_geometry");
     table().write(Path::new(&crates), "replay_table");
+    coloring().write(Path::new(&crates), "replay_coloring");
 }

@@ -1,9 +1,10 @@
 //! Runs the proved code, through target/staticlib/libcapi.a, beside the Rust of docs/src, and counts
 //! the answers that differ. The last line is the verdict. A word names one part alone: `leaves`,
-//! `edges`, `tables`; `speed` measures and compares nothing.
+//! `edges`, `tables`, `shapes`; `speed` measures and compares nothing.
 
 mod edges;
 mod leaves;
+mod shapes;
 mod tables;
 
 /// How many answers were compared, how many of them differ, and how many kinds of input that are asked
@@ -51,13 +52,18 @@ fn main() {
             leaves::compare(&mut all);
             edges::compare(&mut all);
             tables::compare(&mut all);
+            shapes::compare(&mut all);
         }
         Some("leaves") => leaves::compare(&mut all),
         Some("edges") => edges::compare(&mut all),
         Some("tables") => tables::compare(&mut all),
-        Some("speed") => return tables::speed(),
+        Some("shapes") => shapes::compare(&mut all),
+        Some("speed") => {
+            tables::speed();
+            return shapes::speed();
+        }
         Some(_) => {
-            eprintln!("usage: compare [leaves | edges | tables | speed]");
+            eprintln!("usage: compare [leaves | edges | tables | shapes | speed]");
             std::process::exit(2);
         }
     }

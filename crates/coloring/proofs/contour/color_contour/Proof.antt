@@ -10,7 +10,6 @@ use lib.ListN.{length, getD, take}
 use lib.Seq.{length-take-le, getD-take}
 use Rattle.coloring.specs.Corners.{identifyCorners}
 use Rattle.coloring.specs.Outline.{edgesOf}
-use Rattle.coloring.specs.Coloring.{colorContour}
 use Rattle.coloring.proofs.OutlineLaws.{edges-length}
 use Rattle.math.specs.Scalar.{f0}
 use Rattle.coloring.specs.InkTrap.{measureAt, measureCorners}

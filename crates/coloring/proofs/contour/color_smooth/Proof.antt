@@ -1,5 +1,5 @@
 -- `coloring::contour::color_smooth` meets its contract.
-use mathlib.Core.Path.{_≡_, sym, _∙_}
+use mathlib.Core.Path.{sym, _∙_}
 use Rattle.coloring.specs.Simple.{colorByCorners}
 use Rattle.coloring.specs.Outline.{edgesOf}
 use Rattle.coloring.proofs.OutlineLaws.{edges-length}

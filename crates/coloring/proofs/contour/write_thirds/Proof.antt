@@ -1,5 +1,5 @@
 -- `coloring::contour::write_thirds` meets its contract.
-use mathlib.Core.Path.{_≡_, refl}
+use mathlib.Core.Path.{refl}
 use mathlib.Core.List.{[], _∷_}
 use Prim.Native.Nat.{_+_}
 use native.Mathlib.Omega.{arith}

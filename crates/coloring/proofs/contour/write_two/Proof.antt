@@ -1,5 +1,5 @@
 -- `coloring::contour::write_two` meets its contract.
-use mathlib.Core.Path.{_≡_, sym, _∙_}
+use mathlib.Core.Path.{sym, _∙_}
 use mathlib.Core.List.{_++_}
 use native.Mathlib.Omega.{arith}
 use Rattle.coloring.specs.Contour.{thirds}

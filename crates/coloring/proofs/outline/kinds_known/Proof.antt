@@ -1,11 +1,11 @@
 -- `coloring::outline::kinds_known` meets its contract.
 use mathlib.Core.Path.{_≡_, refl, sym, _∙_}
-use Prim.Native.Nat.{_≤_, _+_, _-_}
+use Prim.Native.Nat.{_≤_, _-_}
 use native.Mathlib.Omega.{arith}
 use borrow.Author.Needs.{needs}
 use borrow.Author.Tests.{not-true, not-false}
-use lib.ListN.{length, take, drop}
-use Rattle.coloring.specs.Outline.{all, knownKind, inRange}
+use lib.ListN.{length, drop}
+use Rattle.coloring.specs.Outline.{all, knownKind}
 use Rattle.coloring.proofs.OutlineCheckLaws.{scan-fail, scan-more, scan-end}
 use Rattle.coloring.proofs.outline.kinds_known.Statement.{statement}
 use Rattle.coloring.proofs.outline.kinds_known.Tie as tie

@@ -1,11 +1,11 @@
 -- `coloring::outline::places_fit` meets its contract.
 use mathlib.Core.Path.{_≡_, refl, sym, _∙_}
-use Prim.Native.Nat.{_≤_, _+_, _-_}
+use Prim.Native.Nat.{_≤_, _-_}
 use native.Mathlib.Omega.{arith}
 use borrow.Author.Needs.{needs}
 use borrow.Author.Tests.{not-true, not-false}
 use lib.Ieee.{nan}
-use lib.ListN.{length, take, drop}
+use lib.ListN.{length, drop}
 use Rattle.coloring.specs.Outline.{all, inRange}
 use Rattle.coloring.proofs.OutlineCheckLaws.{scan-fail, scan-more, scan-end}
 use Rattle.coloring.proofs.outline.places_fit.Statement.{statement}

@@ -1,0 +1,47 @@
+-- `capi::edge_coloring::capi_edge_coloring_simple` meets its contract, by those of its callees. Assumes nothing.
+use borrow.Author.Needs.{needs}
+use mathlib.Core.Path.{ap, _∙_}
+use Rattle.capi.specs.Colored.{coloredCode}
+use Rattle.capi.proofs.edge_coloring.capi_edge_coloring_simple.Statement.{statement}
+use Rattle.capi.proofs.edge_coloring.capi_edge_coloring_simple.Tie as tie
+
+edge-coloring-simple-requires : tie.Need-edge-coloring-simple-requires
+edge-coloring-simple-requires c κs = search needs
+
+code-requires : tie.Need-code-requires
+code-requires c κs = search needs
+
+same-length : tie.Need-same-length
+same-length c = search needs
+
+same-length-2 : tie.Need-same-length-2
+same-length-2 c = search needs
+
+same-length-3 : tie.Need-same-length-3
+same-length-3 c = search needs
+
+same-length-4 : tie.Need-same-length-4
+same-length-4 c = search needs
+
+returns : tie.Need-returns
+returns c =
+    let colored = c .before .before .before .before .before .before .before .before .before .edge-coloring-simple .ensures in
+    record {
+      code-is = c .code .ensures ∙ ap coloredCode (colored .answers);
+      lengths-are = colored .lengths-are;
+      kinds-are = colored .kinds-are;
+      points-are = colored .points-are;
+      colors-are = colored .colors-are;
+    }
+
+pub capi-edge-coloring-simple-spec : {M : Type 1} → statement M
+capi-edge-coloring-simple-spec =
+    tie.close
+    (tie.spec
+    edge-coloring-simple-requires
+    code-requires
+    same-length
+    same-length-2
+    same-length-3
+    same-length-4
+    returns)

@@ -1,0 +1,348 @@
+//! The sample of colourings that a program replays: calls by name, each with the source's outcome, as
+//! the program reads them.
+
+use crate::contours::{self, Edges, MAX_COORDINATE, contour, coordinate, edge, planned};
+use crate::math::Vector2;
+use crate::numbers::Random;
+use crate::shapes::{Answer, Buffers, Call, FAULTS, Fault, STRATEGIES, Strategy};
+use crate::shapes::{call, color, faults, outline, refusal, result, used};
+
+// What the program's buffers hold at most, and what it puts into the places that no record fills.
+const MOST: [usize; 7] = [80, 264, 2120, 90, 540, 4100, 540];
+const UNUSED: u64 = 0x7FF8_0000_0000_0000;
+const NOISE: Noise = Noise { length: 0xA5A5, byte: 0xA5, point: 0xC0FE_2408_0000_0000 };
+
+struct Noise {
+    length: u16,
+    byte: u8,
+    point: u64,
+}
+
+/// A call with buffers as the program makes them.
+pub fn plain(call: &Call) -> Call {
+    let mut call = call.clone();
+    for (at, bits) in call.outline.points.iter_mut().enumerate() {
+        if at % 8 >= call.outline.kinds.get(at / 8).map_or(0, |&kind| used(kind)) {
+            *bits = UNUSED;
+        }
+    }
+    call.out.lengths.fill(NOISE.length);
+    call.out.kinds.fill(NOISE.byte);
+    call.out.points.fill(NOISE.point);
+    call.out.colors.fill(NOISE.byte);
+    call
+}
+
+fn sizes(call: &Call) -> [usize; 7] {
+    let (o, out) = (&call.outline, &call.out);
+    [
+        o.lengths.len(),
+        o.kinds.len(),
+        o.points.len(),
+        out.lengths.len(),
+        out.kinds.len(),
+        out.points.len(),
+        out.colors.len(),
+    ]
+}
+
+pub fn fits(call: &Call) -> bool {
+    sizes(call).iter().zip(MOST).all(|(size, most)| *size <= most)
+}
+
+/// The used places of edges of these kinds, 0 where there is no such place.
+fn places(kinds: &[u8], points: &[u64]) -> Vec<u8> {
+    let of = |(at, kind): (usize, &u8)| {
+        let edge = 8 * at..8 * at + used(*kind);
+        edge.map(|place| points.get(place).copied().unwrap_or(0))
+    };
+    kinds.iter().enumerate().flat_map(of).flat_map(u64::to_le_bytes).collect()
+}
+
+fn words(lengths: &[u16]) -> Vec<u8> {
+    lengths.iter().flat_map(|&n| (n as u64).to_le_bytes()).collect()
+}
+
+/// Thirteen words: the record's bytes, the strategy (1 simple, 2 ink trap), the threshold's bits, the
+/// seed, how many lengths, kinds and point places go in, how many of these and of colours the result
+/// buffers have, the answer, and where the result begins. Then what goes in: lengths, kinds, used
+/// places; and the result: lengths, kinds, colours, used places. A kind and a colour are bytes.
+pub fn record(strategy: Strategy, call: &Call) -> Vec<u8> {
+    assert!(fits(call));
+    let call = plain(call);
+    let (answer, after) = color(strategy, &call);
+    let o = &call.outline;
+    let mut body = words(&o.lengths);
+    body.extend(&o.kinds);
+    body.extend(places(&o.kinds, &o.points));
+    let begins = 13 * 8 + body.len();
+    if let Answer::Edges(count) = answer {
+        body.extend(words(&after.lengths[..o.lengths.len()]));
+        body.extend(&after.kinds[..count]);
+        body.extend(&after.colors[..count]);
+        body.extend(places(&after.kinds[..count], &after.points));
+    }
+    let number = match strategy {
+        Strategy::Simple => 1,
+        Strategy::InkTrap => 2,
+    };
+    let mut head = vec![13 * 8 + body.len() as u64, number, call.threshold.to_bits(), call.seed];
+    head.extend(sizes(&call).map(|n| n as u64));
+    head.extend([answer.code(), begins as u64]);
+    let mut record: Vec<u8> = head.into_iter().flat_map(u64::to_le_bytes).collect();
+    record.extend(body);
+    record
+}
+
+// ---- calls
+
+/// A call on contours, with exactly fitting buffers where it is accepted.
+fn on(shape: &[Edges], threshold: f64, seed: u64) -> Call {
+    let outline = outline(&mut Random(0), shape);
+    exact(Call { outline, threshold, seed, out: Buffers::default() })
+}
+
+fn exact(mut call: Call) -> Call {
+    if refusal(&call).is_none() {
+        call.out = result(Strategy::Simple, &call);
+    }
+    call
+}
+
+fn v(x: f64, y: f64) -> Vector2 {
+    Vector2::new(x, y)
+}
+
+/// A closed path of lines.
+fn polygon(points: &[(f64, f64)]) -> Edges {
+    let at = |i: usize| {
+        let (x, y) = points[i % points.len()];
+        v(x, y)
+    };
+    (0..points.len()).map(|i| edge(&[at(i), at(i + 1)])).collect()
+}
+
+/// Document 01's square, in both colourings 5, 3, 6, 3.
+fn square() -> Vec<Call> {
+    let square = polygon(&[(0.0, 0.0), (1.0, 0.0), (1.0, 1.0), (0.0, 1.0)]);
+    let call = on(&[square], 0.125, 0);
+    for strategy in STRATEGIES {
+        assert_eq!(color(strategy, &call).1.colors, [5, 3, 6, 3]);
+    }
+    vec![call]
+}
+
+/// m lines with a corner every few.
+fn stairs(m: usize) -> Edges {
+    let point = |i: usize| (((i + 1) / 3) as f64, (i / 3) as f64);
+    polygon(&(0..m).map(point).collect::<Vec<_>>())
+}
+
+fn expect(call: &Call, answer: Answer) -> Call {
+    assert_eq!(color(Strategy::Simple, call).0, answer);
+    call.clone()
+}
+
+/// What document 01 says passes and what does not, at each limit.
+fn limits() -> Vec<Call> {
+    let triangle = polygon(&[(0.0, 0.0), (1.0, 0.0), (0.0, 1.0)]);
+    let empty = Edges::new();
+    let mut calls = vec![
+        expect(&on(&[stairs(256)], 0.125, 5), Answer::Edges(256)),
+        expect(&on(&[stairs(257)], 0.125, 5), Answer::Refused(4)),
+        expect(&on(&[], 0.125, 0), Answer::Edges(0)),
+        expect(&on(&[empty.clone(), empty.clone()], 0.125, 0), Answer::Edges(0)),
+        expect(&on(&vec![stairs(1); 64], 0.125, u64::MAX), Answer::Edges(64)),
+    ];
+    let mut sparse = vec![empty.clone(); 64];
+    sparse[40] = triangle.clone();
+    calls.push(expect(&on(&sparse, 0.125, 3), Answer::Edges(3)));
+    sparse.push(empty);
+    calls.push(expect(&on(&sparse, 0.125, 3), Answer::Refused(4)));
+    for (x, answer) in [
+        (MAX_COORDINATE, Answer::Edges(3)),
+        (-MAX_COORDINATE, Answer::Edges(3)),
+        (MAX_COORDINATE.next_up(), Answer::Refused(7)),
+        (-MAX_COORDINATE.next_up(), Answer::Refused(7)),
+    ] {
+        let call = on(&[polygon(&[(0.0, 0.0), (1.0, x), (0.0, 1.0)])], 0.5, 1);
+        calls.push(expect(&call, answer));
+    }
+    for (threshold, answer) in [
+        (1.0, Answer::Edges(3)),
+        (-1.0, Answer::Edges(3)),
+        (1.0f64.next_up(), Answer::Refused(6)),
+        (-1.0f64.next_up(), Answer::Refused(6)),
+        (f64::NAN, Answer::Refused(6)),
+    ] {
+        calls.push(expect(&on(&[triangle.clone()], threshold, 1), answer));
+    }
+    calls
+}
+
+/// 508 edges out of 256.
+fn widest() -> Call {
+    let line = edge(&[v(0.0, 0.0), v(1.0, 0.0)]);
+    let bow = edge(&[v(1.0, 0.0), v(2.0, 0.0), v(0.0, 1.0)]);
+    let mut shape = vec![vec![line, bow]; 63];
+    shape.push(stairs(130));
+    expect(&on(&shape, 0.125, 1234567), Answer::Edges(508))
+}
+
+/// The first `count` random calls of few edges of which `wanted` holds.
+fn some(r: &mut Random, count: usize, wanted: impl Fn(&Call, &[Vec<usize>]) -> bool) -> Vec<Call> {
+    let mut found = Vec::new();
+    while found.len() < count {
+        let call = call(r);
+        if call.outline.edges() > 12 || call.outline.lengths.len() > 12 {
+            continue;
+        }
+        let shape = crate::shapes::decode(&call.outline);
+        let corners: Vec<Vec<usize>> = shape.iter().map(|e| corners(e, call.threshold)).collect();
+        if wanted(&call, &corners) {
+            found.push(call);
+        }
+    }
+    found
+}
+
+fn corners(edges: &Edges, threshold: f64) -> Vec<usize> {
+    let at = |i: &usize| {
+        let (a, b) = contours::directions(edges, *i);
+        contours::corner(a, b, threshold)
+    };
+    (0..edges.len()).filter(at).collect()
+}
+
+/// One contour with so many corners.
+fn with_corners(r: &mut Random, count: usize, wanted: impl Fn(usize) -> bool) -> Vec<Call> {
+    some(r, count, |_, corners| corners.len() == 1 && wanted(corners[0].len()))
+}
+
+/// One edge, or two with the corner at the first or at the second, that are split.
+fn splits(r: &mut Random) -> Vec<Call> {
+    let mut calls = Vec::new();
+    for kind in 1..4 {
+        for (edges, at) in [(1, 0), (2, 0), (2, 1)] {
+            calls.extend(some(r, 2, |call, corners| {
+                call.outline.lengths == [edges]
+                    && corners[0] == [at]
+                    && call.outline.kinds[at] == kind
+            }));
+        }
+    }
+    // P8 and P9 of document 01: exact thirds of 0 to 3, and a first x of -0
+    for x in [0.0, -0.0] {
+        calls.push(on(&[vec![edge(&[v(x, 0.0), v(3.0, 0.0)])]], -1.0, 0));
+    }
+    calls
+}
+
+/// One-corner contours of so many edges, the corner at any place.
+fn teardrops(r: &mut Random) -> Vec<Call> {
+    [3, 3, 4, 5, 6, 47, 47, 48]
+        .map(|m: usize| {
+            let mut corners = vec![false; m];
+            corners[r.below(m as u64) as usize] = true;
+            let kinds: &[usize] = if m > 9 { &[1] } else { &[1, 2, 3] };
+            let seed = contours::seed(r);
+            on(&[planned(r, &corners, 0.125, kinds)], 0.125, seed)
+        })
+        .into()
+}
+
+/// Degenerate points: each coordinate special.
+fn special(r: &mut Random) -> Vec<Call> {
+    let mut calls = Vec::new();
+    for _ in 0..12 {
+        let point = |r: &mut Random| v(coordinate(r), coordinate(r));
+        let edges = (0..5).map(|_| {
+            let n = 2 + r.below(3);
+            edge(&(0..n).map(|_| point(r)).collect::<Vec<_>>())
+        });
+        let edges = edges.collect();
+        calls.push(on(&[edges], 0.125, contours::seed(r)));
+    }
+    let tiny = f64::from_bits(0x1A70_0000_0000_0000); // 2^-600: a direction of length 0
+    let path = polygon(&[(0.0, 0.0), (tiny, 0.0), (tiny, 1.0), (0.0, 1.0)]);
+    calls.push(on(&[path], 0.125, 0));
+    calls
+}
+
+/// The fault that takes 257 edges; the limits have it.
+const LARGE: &str = "above 256 edges";
+
+/// Refusals by a number, `count` for each fault that gives it.
+fn refused(r: &mut Random, number: u8, count: usize) -> Vec<Call> {
+    let mut found = Vec::new();
+    let gives = |fault: &&(&str, u8, Fault)| fault.1 == number && fault.0 != LARGE;
+    for (_, _, fault) in FAULTS.iter().filter(gives) {
+        let so_far = found.len();
+        while found.len() < so_far + count {
+            let few = 1 + r.below(3) as usize;
+            let shape: Vec<Edges> = (0..few).map(|_| contour(r, few, 0.125)).collect();
+            let mut call = on(&shape, 0.125, contours::seed(r));
+            fault(r, &mut call);
+            let call = plain(&call);
+            if fits(&call) && color(Strategy::Simple, &call).0 == Answer::Refused(number) {
+                found.push(call);
+            }
+        }
+    }
+    found
+}
+
+/// Two faults or more that give different numbers.
+fn in_order(r: &mut Random) -> Vec<Call> {
+    let mut found = Vec::new();
+    while found.len() < 24 {
+        let mut call = on(&[contour(r, 3, 0.125)], 0.125, 9);
+        for _ in 0..3 {
+            let (name, _, fault) = r.pick(&FAULTS);
+            if name != LARGE {
+                fault(r, &mut call);
+            }
+        }
+        let call = plain(&call);
+        let holding = faults(&call).iter().filter(|&&fault| fault).count();
+        if fits(&call) && holding >= 2 {
+            found.push(call);
+        }
+    }
+    found
+}
+
+/// The records of each part, by name.
+pub fn sample() -> Vec<(String, Vec<Vec<u8>>)> {
+    let r = &mut Random(410);
+    let mut parts: Vec<(&str, Vec<Call>)> = vec![
+        ("P6", square()),
+        ("limits", limits()),
+        ("no corner", with_corners(r, 8, |k| k == 0)),
+        ("2 corners", with_corners(r, 8, |k| k == 2)),
+        ("3 corners", with_corners(r, 10, |k| k == 3)),
+        ("more corners", with_corners(r, 20, |k| k > 3)),
+        ("splits", splits(r)),
+        ("teardrops", teardrops(r)),
+        ("special points", special(r)),
+        ("contours", some(r, 16, |_, corners| corners.len() > 2)),
+    ];
+    for (name, number, count) in [
+        ("refused 4", 4, 2),
+        ("refused 8", 8, 2),
+        ("refused 5", 5, 4),
+        ("refused 7", 7, 8),
+        ("refused 6", 6, 4),
+        ("refused 11", 11, 3),
+    ] {
+        parts.push((name, refused(r, number, count)));
+    }
+    parts.push(("in order", in_order(r)));
+    let both = |call: &Call| STRATEGIES.map(|strategy| record(strategy, call));
+    let records = |calls: Vec<Call>| calls.iter().flat_map(both).collect();
+    let mut sample: Vec<(String, Vec<Vec<u8>>)> =
+        parts.into_iter().map(|(name, calls)| (name.to_string(), records(calls))).collect();
+    let widest = record(Strategy::InkTrap, &widest());
+    sample.push(("508 edges".to_string(), vec![widest]));
+    sample
+}
