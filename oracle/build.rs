@@ -1,5 +1,5 @@
 // Makes, in OUT_DIR, copies of the two colouring files with the few changes that a comparison
-// needs, and says where the static library of the proved code is. Each change is a replacement of
+// needs, and says where the archives of the proved code are. Each change is a replacement of
 // a text that must occur as often as said, so that a change of the source stops the build.
 
 use std::path::{Path, PathBuf};
@@ -13,7 +13,9 @@ const LONGER: &str = "const MAX_RECOLOR_STEPS: i32 = 18;";
 
 // What is private in coloring/mod.rs, for the comparison.
 const PROBE: &str = "
+pub mod by_distance_collected;
 pub mod by_distance_counted;
+pub mod by_distance_given;
 pub mod by_distance_longer;
 
 pub mod probe {
@@ -61,6 +63,32 @@ pub fn offer(coloring: &mut [i32], matrix: &mut [i32], n: usize, a: usize, b: us
 }
 ";
 
+const BY_DISTANCE: &str =
+    "pub fn edge_coloring_by_distance(shape: &mut Shape, angle_threshold: f64, mut seed: u64) {\n";
+
+// The source's distance of two splines, i then j above it.
+const DISTANCE: &str = "            let d = spline_to_spline_distance(
+                &segments,
+                spline_starts[i],
+                spline_starts[i + 1],
+                spline_starts[j],
+                spline_starts[j + 1],
+                EDGE_DISTANCE_PRECISION,
+            );
+";
+
+// The last lines, and how many pairs were declined, since every pair is kept or declined once.
+const END: &str = "        shape.contours[ci].colors[si] = COLORS[coloring[spline as usize] as usize];
+    }
+}
+";
+const DECLINED: &str =
+    "graph_edges.iter().filter(|&&(i, j)| edge_matrix[i * spline_count + j] == 0).count()";
+
+const MATRIX: &str = "    // Distance matrix between splines.\n";
+
+const COUNT: &str = "    let spline_count = spline_starts.len() - 1;\n";
+
 fn replace(text: &str, times: usize, from: &str, to: &str) -> String {
     assert_eq!(text.matches(from).count(), times, "text not found as expected: {from}");
     text.replace(from, to)
@@ -91,6 +119,36 @@ fn counted(by_distance: &str) -> String {
     replace(&t, 1, "            &mut buffer,\n", "            &mut buffer,\n            &mut 0,\n")
 }
 
+// By-distance colouring whose matrix holds the distances that are given, by i then j. It answers how
+// many pairs were declined.
+fn given(by_distance: &str) -> String {
+    let t = replace(
+        by_distance,
+        1,
+        BY_DISTANCE,
+        "pub fn edge_coloring_by_distance_given(shape: &mut Shape, angle_threshold: f64, mut seed: u64, distances: &[f64]) -> usize {\n",
+    );
+    let none = "    if spline_count == 0 {\n        return";
+    let t = replace(&t, 1, none, &format!("{none} 0"));
+    let t = replace(&t, 1, END, &format!("{}    {DECLINED}\n}}\n", END.strip_suffix("}\n").unwrap()));
+    let t = replace(&t, 1, MATRIX, "    let mut given = distances.iter();\n");
+    replace(&t, 1, DISTANCE, "            let d = *given.next().unwrap();\n")
+}
+
+// Its collecting pass alone: the contour and the place of each collected edge, and where the splines
+// start among them.
+fn collected(by_distance: &str) -> String {
+    let t = replace(
+        by_distance,
+        1,
+        BY_DISTANCE,
+        "pub fn collect_splines(shape: &mut Shape, angle_threshold: f64) -> (Vec<(usize, usize)>, Vec<usize>) {\n",
+    );
+    assert_eq!(t.matches(COUNT).count(), 1);
+    let (pass, _) = t.split_once(COUNT).unwrap();
+    format!("{pass}    (refs, spline_starts)\n}}\n")
+}
+
 fn main() {
     let here = PathBuf::from(env::var("CARGO_MANIFEST_DIR").unwrap());
     let out = PathBuf::from(env::var("OUT_DIR").unwrap());
@@ -107,6 +165,8 @@ fn main() {
     fs::create_dir_all(&copy).unwrap();
     let write = |name: &str, text: String| fs::write(Path::join(&copy, name), text).unwrap();
     write("mod.rs", coloring + PROBE);
+    write("by_distance_given.rs", given(&by_distance));
+    write("by_distance_collected.rs", collected(&by_distance));
     let counted = counted(&by_distance) + OFFER_COUNTED;
     write("by_distance_longer.rs", replace(&counted, 1, LIMIT, LONGER));
     write("by_distance_counted.rs", counted);
@@ -119,6 +179,8 @@ fn main() {
 
     let library = here.join("../target/staticlib");
     println!("cargo:rustc-link-search=native={}", library.display());
-    println!("cargo:rerun-if-changed={}", library.join("libcapi.a").display());
+    for archive in ["libcapi.a", "libvectors.a"] {
+        println!("cargo:rerun-if-changed={}", library.join(archive).display());
+    }
     println!("cargo:rerun-if-changed=build.rs");
 }

@@ -33,7 +33,7 @@ fn two_to(e: i32) -> f64 {
 }
 
 /// 1 line, 2 quadratic, 3 cubic; lines as often as the two others.
-const KINDS: [usize; 4] = [1, 1, 2, 3];
+pub const KINDS: [usize; 4] = [1, 1, 2, 3];
 
 fn kind(r: &mut Random) -> usize {
     r.pick(&KINDS)

@@ -4,7 +4,7 @@
 use crate::geometry::{EdgeColor, EdgeSegment};
 use crate::leaves::NAN;
 use crate::math::Vector2;
-use crate::numbers::{Random, SPECIAL, same};
+use crate::numbers::{Random, SPECIAL};
 
 /// A kind number (or a color, as a byte), eight places and a parameter: t as a double's bits, or a
 /// number.
@@ -23,11 +23,11 @@ pub struct Outputs {
 }
 
 impl Inputs {
-    pub fn points(&self) -> [f64; 8] {
+    fn points(&self) -> [f64; 8] {
         self.places.map(f64::from_bits)
     }
 
-    pub fn t(&self) -> f64 {
+    fn t(&self) -> f64 {
         f64::from_bits(self.parameter)
     }
 
@@ -51,11 +51,11 @@ impl Inputs {
     }
 }
 
-pub fn of_number(number: u64) -> Outputs {
+fn of_number(number: u64) -> Outputs {
     Outputs { number, places: [0; 8] }
 }
 
-pub fn of_places(number: u64, places: &[f64]) -> Outputs {
+fn of_places(number: u64, places: &[f64]) -> Outputs {
     let mut out = of_number(number);
     for (o, p) in out.places.iter_mut().zip(places) {
         *o = p.to_bits();
@@ -133,10 +133,12 @@ pub const FUNCTIONS: [Function; 15] = [
     function!("default", Nothing, 1, |_| of_number(EdgeColor::default().bits() as u64)),
 ];
 
-/// Bit for bit, or both NaN.
-pub fn agree(a: &Outputs, b: &Outputs) -> bool {
-    let places = a.places.iter().zip(&b.places);
-    a.number == b.number && places.clone().all(|(&x, &y)| same(f64::from_bits(x), f64::from_bits(y)))
+/// A record of 20 words: the function's number, from 32 on; a kind, eight places and a parameter; a
+/// number and eight places.
+pub fn record(number: usize, i: &Inputs, o: &Outputs) -> [u64; 20] {
+    let head = [32 + number as u64, i.kind];
+    let words = [&head[..], &i.places, &[i.parameter, o.number], &o.places].concat();
+    words.try_into().unwrap()
 }
 
 // ---- edges to try
@@ -311,7 +313,7 @@ impl Function {
     }
 
     /// The reference's answer, with one pattern for every NaN.
-    fn answer(&self, inputs: &Inputs) -> Outputs {
+    pub fn answer(&self, inputs: &Inputs) -> Outputs {
         let mut outputs = (self.reference)(inputs);
         for place in &mut outputs.places {
             if f64::from_bits(*place).is_nan() {

@@ -3,7 +3,7 @@
 
 use crate::math::scalar;
 use crate::math::{Vector2, cross, dot};
-use crate::numbers::{Random, same};
+use crate::numbers::Random;
 use crate::roots;
 
 pub type Inputs = [u64; 5];
@@ -65,16 +65,9 @@ impl Leaf {
         }
         outputs
     }
-
-    pub fn agree(&self, a: &Outputs, b: &Outputs) -> bool {
-        self.outputs.iter().enumerate().all(|(i, kind)| match kind {
-            F => same(f64::from_bits(a[i]), f64::from_bits(b[i])),
-            _ => a[i] == b[i],
-        })
-    }
 }
 
-pub fn f(i: &Inputs, at: usize) -> f64 {
+fn f(i: &Inputs, at: usize) -> f64 {
     f64::from_bits(i[at])
 }
 
@@ -82,23 +75,23 @@ fn v(i: &Inputs, at: usize) -> Vector2 {
     Vector2::new(f(i, at), f(i, at + 1))
 }
 
-pub fn b(i: &Inputs, at: usize) -> bool {
+fn b(i: &Inputs, at: usize) -> bool {
     i[at] != 0
 }
 
-pub fn of_f(x: f64) -> Outputs {
+fn of_f(x: f64) -> Outputs {
     [x.to_bits(), 0]
 }
 
-pub fn of_i(x: i32) -> Outputs {
+fn of_i(x: i32) -> Outputs {
     [x as i64 as u64, 0]
 }
 
-pub fn of_b(x: bool) -> Outputs {
+fn of_b(x: bool) -> Outputs {
     [x as u64, 0]
 }
 
-pub fn of_v(x: Vector2) -> Outputs {
+fn of_v(x: Vector2) -> Outputs {
     [x.x.to_bits(), x.y.to_bits()]
 }
 
@@ -175,6 +168,12 @@ pub const LEAVES: [Leaf; 28] = [
     leaf!("div_scalar", FFF, FF, |i| of_v(v(i, 0) / f(i, 2))),
     leaf!("scale", FFF, FF, |i| of_v(f(i, 2) * v(i, 0))),
 ];
+
+/// A record of eight words: the function's number, the inputs, the outputs.
+pub fn record(number: usize, inputs: &Inputs, outputs: &Outputs) -> [u64; 8] {
+    let words = [&[number as u64][..], inputs, outputs].concat();
+    words.try_into().unwrap()
+}
 
 /// The vectors of one leaf: document 01's examples and the special values first.
 pub fn sample(number: usize) -> Vec<(Inputs, Outputs)> {

@@ -18,6 +18,7 @@ pub mod coloring;
 include!(concat!(env!("OUT_DIR"), "/given.rs"));
 
 pub mod contours;
+pub mod distances;
 pub mod edges;
 pub mod leaves;
 pub mod numbers;

@@ -2,6 +2,7 @@
 //! the program reads them.
 
 use crate::contours::{self, Edges, MAX_COORDINATE, contour, coordinate, edge, planned};
+use crate::distances::{self, DistanceCall, collect, collected, pairs, with_splines};
 use crate::math::Vector2;
 use crate::numbers::Random;
 use crate::shapes::{Answer, Buffers, Call, FAULTS, Fault, STRATEGIES, Strategy};
@@ -50,48 +51,73 @@ pub fn fits(call: &Call) -> bool {
     sizes(call).iter().zip(MOST).all(|(size, most)| *size <= most)
 }
 
-/// The used places of edges of these kinds, 0 where there is no such place.
-fn places(kinds: &[u8], points: &[u64]) -> Vec<u8> {
-    let of = |(at, kind): (usize, &u8)| {
-        let edge = 8 * at..8 * at + used(*kind);
-        edge.map(|place| points.get(place).copied().unwrap_or(0))
-    };
-    kinds.iter().enumerate().flat_map(of).flat_map(u64::to_le_bytes).collect()
-}
-
 fn words(lengths: &[u16]) -> Vec<u8> {
     lengths.iter().flat_map(|&n| (n as u64).to_le_bytes()).collect()
 }
 
-/// Thirteen words: the record's bytes, the strategy (1 simple, 2 ink trap), the threshold's bits, the
-/// seed, how many lengths, kinds and point places go in, how many of these and of colours the result
-/// buffers have, the answer, and where the result begins. Then what goes in: lengths, kinds, used
-/// places; and the result: lengths, kinds, colours, used places. A kind and a colour are bytes.
+/// Thirteen words: the number (65 simple, 66 ink trap, 67 the collecting pass, 68 by distance), the
+/// record's bytes, the threshold's bits, the seed, how many lengths, kinds and point places go in, how
+/// many of these and of colours the result buffers have, the answer, and where the result begins. Then
+/// what goes in: lengths, kinds, point places, distances; and the result of so many edges: lengths,
+/// kinds, colours, point places. A kind and a colour are bytes.
+fn written(
+    number: u64,
+    call: &Call,
+    distances: &[u64],
+    answer: u64,
+    edges: Option<usize>,
+    after: &Buffers,
+) -> Vec<u8> {
+    let o = &call.outline;
+    let mut body = words(&o.lengths);
+    body.extend(&o.kinds);
+    body.extend(o.points.iter().flat_map(|bits| bits.to_le_bytes()));
+    body.extend(distances.iter().flat_map(|bits| bits.to_le_bytes()));
+    let begins = 13 * 8 + body.len();
+    if let Some(count) = edges {
+        body.extend(words(&after.lengths[..o.lengths.len()]));
+        body.extend(&after.kinds[..count]);
+        body.extend(&after.colors[..count]);
+        body.extend(after.points[..8 * count].iter().flat_map(|bits| bits.to_le_bytes()));
+    }
+    let mut head = vec![number, 13 * 8 + body.len() as u64, call.threshold.to_bits(), call.seed];
+    head.extend(sizes(call).map(|n| n as u64));
+    head.extend([answer, begins as u64]);
+    let mut record: Vec<u8> = head.into_iter().flat_map(u64::to_le_bytes).collect();
+    record.extend(body);
+    record
+}
+
+fn edges(answer: &Answer) -> Option<usize> {
+    match *answer {
+        Answer::Edges(count) => Some(count),
+        Answer::Refused(_) => None,
+    }
+}
+
 pub fn record(strategy: Strategy, call: &Call) -> Vec<u8> {
     assert!(fits(call));
     let call = plain(call);
     let (answer, after) = color(strategy, &call);
-    let o = &call.outline;
-    let mut body = words(&o.lengths);
-    body.extend(&o.kinds);
-    body.extend(places(&o.kinds, &o.points));
-    let begins = 13 * 8 + body.len();
-    if let Answer::Edges(count) = answer {
-        body.extend(words(&after.lengths[..o.lengths.len()]));
-        body.extend(&after.kinds[..count]);
-        body.extend(&after.colors[..count]);
-        body.extend(places(&after.kinds[..count], &after.points));
-    }
     let number = match strategy {
-        Strategy::Simple => 1,
-        Strategy::InkTrap => 2,
+        Strategy::Simple => 65,
+        Strategy::InkTrap => 66,
     };
-    let mut head = vec![13 * 8 + body.len() as u64, number, call.threshold.to_bits(), call.seed];
-    head.extend(sizes(&call).map(|n| n as u64));
-    head.extend([answer.code(), begins as u64]);
-    let mut record: Vec<u8> = head.into_iter().flat_map(u64::to_le_bytes).collect();
-    record.extend(body);
-    record
+    written(number, &call, &[], answer.code(), edges(&answer), &after)
+}
+
+/// The collecting pass and the colouring by distance of one call.
+fn distance_records(c: &DistanceCall) -> [Vec<u8>; 2] {
+    assert!(fits(&c.call));
+    let c = DistanceCall { call: plain(&c.call), distances: c.distances.clone() };
+    let (code, numbered) = collect(&c.call);
+    let count = (code < 1 << 32).then_some((code % 65536) as usize);
+    let collecting = written(67, &c.call, &[], code, count, &numbered);
+    let outcome = distances::color(&c);
+    let answer = outcome.answer;
+    let coloring =
+        written(68, &c.call, &c.distances, answer.code(), edges(&answer), &outcome.after);
+    [collecting, coloring]
 }
 
 // ---- calls
@@ -312,6 +338,64 @@ fn in_order(r: &mut Random) -> Vec<Call> {
     found
 }
 
+/// A call by distance, with exactly fitting buffers where the outline is not refused.
+fn by_distance(mut call: Call, distances: Vec<u64>) -> DistanceCall {
+    if refusal(&call).is_none() {
+        call.out = collected(&call).result;
+    }
+    DistanceCall { call, distances }
+}
+
+/// P7 of document 01: the square's edges 3, 6, 5, 6.
+fn square_by_distance() -> Vec<DistanceCall> {
+    let call = square().remove(0);
+    let bits = [0.0, 1.0, 0.0, 0.0, 2.0, 0.0].map(f64::to_bits);
+    let c = by_distance(call, bits.into());
+    assert_eq!(distances::color(&c).after.colors, [3, 6, 5, 6]);
+    vec![c]
+}
+
+/// Shapes of so many splines, their distances in each of the ways.
+fn ways(r: &mut Random, splines: &[usize]) -> Vec<DistanceCall> {
+    let mut calls = Vec::new();
+    for &n in splines {
+        for (_, way) in distances::WAYS {
+            let shape = with_splines(r, n, 0.125);
+            let call = on(&shape, 0.125, contours::seed(r));
+            if fits(&call) {
+                let n = collected(&call).splines;
+                let given = way(r, pairs(n)).into_iter().map(f64::to_bits).collect();
+                calls.push(by_distance(call, given));
+            }
+        }
+    }
+    calls
+}
+
+/// Calls with a fault or more, refused by each number.
+fn spoiled(r: &mut Random) -> Vec<DistanceCall> {
+    let mut found = Vec::new();
+    let mut met = [0; 9];
+    while met.iter().any(|&count| count < 3) {
+        let n = [3, 6][r.below(2) as usize];
+        let mut c = ways(r, &[n]).remove(0);
+        for _ in 0..1 + r.below(2) {
+            distances::spoil(r, &mut c);
+        }
+        c.call = plain(&c.call);
+        if !fits(&c.call) || c.distances.len() > 2020 || c.call.outline.edges() > 100 {
+            continue;
+        }
+        if let Some(which) = distances::color(&c).refusal {
+            if met[which] < 3 {
+                met[which] += 1;
+                found.push(c);
+            }
+        }
+    }
+    found
+}
+
 /// The records of each part, by name.
 pub fn sample() -> Vec<(String, Vec<Vec<u8>>)> {
     let r = &mut Random(410);
@@ -344,5 +428,13 @@ pub fn sample() -> Vec<(String, Vec<Vec<u8>>)> {
         parts.into_iter().map(|(name, calls)| (name.to_string(), records(calls))).collect();
     let widest = record(Strategy::InkTrap, &widest());
     sample.push(("508 edges".to_string(), vec![widest]));
+    for (name, calls) in [
+        ("P7 whole", square_by_distance()),
+        ("few splines", ways(r, &[0, 1, 2, 3, 5, 9])),
+        ("64 splines", ways(r, &[64]).into_iter().take(4).collect()),
+        ("distance faults", spoiled(r)),
+    ] {
+        sample.push((name.to_string(), calls.iter().flat_map(distance_records).collect()));
+    }
     sample
 }

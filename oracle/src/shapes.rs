@@ -144,7 +144,7 @@ fn encode_edge(e: &EdgeSegment) -> (u8, Vec<u64>) {
 }
 
 /// A coloured shape as the result buffers hold it: unused places are +0.
-fn encode(shape: &Shape) -> Buffers {
+pub fn encode(shape: &Shape) -> Buffers {
     let mut out = Buffers::default();
     for contour in &shape.contours {
         assert_eq!(contour.segments.len(), contour.colors.len());
@@ -214,12 +214,16 @@ fn write<T: Copy>(result: &[T], out: &mut [T]) {
 
 /// What a call is answered, and the result buffers after it.
 pub fn color(strategy: Strategy, call: &Call) -> (Answer, Buffers) {
-    let mut out = call.out.clone();
+    let out = call.out.clone();
     if let Some(number) = refusal(call) {
         return (Answer::Refused(number), out);
     }
-    let result = result(strategy, call);
-    if too_long(&result, &out) {
+    deliver(&result(strategy, call), out)
+}
+
+/// A result, written to buffers where it fits.
+pub fn deliver(result: &Buffers, mut out: Buffers) -> (Answer, Buffers) {
+    if too_long(result, &out) {
         return (Answer::Refused(11), out);
     }
     write(&result.lengths, &mut out.lengths);
@@ -276,7 +280,7 @@ pub fn call(r: &mut Random) -> Call {
 /// What can be wrong with a call, each a way to make it so.
 pub type Fault = fn(&mut Random, &mut Call);
 
-fn some(r: &mut Random, n: usize) -> usize {
+pub fn some(r: &mut Random, n: usize) -> usize {
     r.below(n.max(1) as u64) as usize
 }
 

@@ -1,5 +1,3 @@
 -- The definitions that the contracts for C cite besides those of the crates below.
-pub mod Answer
-pub mod Colored
-pub mod Stored
-pub mod Edges
+pub mod EdgeColoring
+pub mod SplineTable

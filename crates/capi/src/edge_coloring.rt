@@ -1,27 +1,19 @@
-// Simple and ink-trap colouring of an outline, for C and Rust to call. The answer is one number.
+// Simple and ink-trap colouring of an outline.
+use crate::wide;
 use coloring::edge_coloring;
 use coloring::outline::Colored;
-use coloring::refusal::Refusal;
 ghost use mathlib.Core.Path.{_≡_};
-ghost use Prim.Native.Nat.{_<_};
-ghost use Rattle.coloring.specs.Refusal.{refusalNumber};
-ghost use Rattle.coloring.specs.Coloring.{edgeColoringSimple, edgeColoringInkTrap};
-ghost use Rattle.capi.specs.Colored.{coloredCode, HandsOut};
-
-// The number of a refusal.
-fn number(refusal: Refusal) -> u64
-    ensures { λ r. ⌜ (r ≡ refusalNumber refusal) × (r < 256) ⌝ }
-{
-    refusal.number() as u64
-}
+ghost use Rattle.coloring.specs.Outline.{outline, result};
+ghost use Rattle.coloring.specs.EdgeColoring.{edgeColoringSimple, edgeColoringInkTrap};
+ghost use Rattle.capi.specs.EdgeColoring.{coloredCode, handed, handOut};
 
 // The number of edges, or 2^32 and the number of the refusal.
-fn code(answer: Colored) -> u64
+pub(crate) fn code(answer: Colored) -> u64
     ensures { λ r. ⌜ r ≡ coloredCode answer ⌝ }
 {
     match answer {
-        Colored::Edges(count) => count as u64,
-        Colored::Refused(refusal) => 4294967296 + number(refusal),
+        Colored::Edges(counts) => counts.edges as u64,
+        Colored::Refused(refusal) => 4294967296 + wide(refusal.number()),
     }
 }
 
@@ -37,7 +29,9 @@ pub extern "C" fn capi_edge_coloring_simple(
     out_points: &mut [f64],
     out_colors: &mut [u8],
 ) -> u64
-    ensures { λ r. ⌜ HandsOut (edgeColoringSimple (record { lengths = now (lengths .entry); kinds = now (kinds .entry); points = now (points .entry) }) threshold seed (record { lengths = now («out_lengths» .entry); kinds = now («out_kinds» .entry); points = now («out_points» .entry); colors = now («out_colors» .entry) })) r (now («out_lengths» .exit)) (now («out_kinds» .exit)) (now («out_points» .exit)) (now («out_colors» .exit)) ⌝ }
+    ensures { λ r. ⌜ handed r (result (now («out_lengths» .exit)) (now («out_kinds» .exit)) (now («out_points» .exit)) (now («out_colors» .exit))) ≡
+        handOut coloredCode (edgeColoringSimple (outline (now (lengths .entry)) (now (kinds .entry)) (now (points .entry))) threshold seed
+        (result (now («out_lengths» .entry)) (now («out_kinds» .entry)) (now («out_points» .entry)) (now («out_colors» .entry)))) ⌝ }
 {
     code(edge_coloring::edge_coloring_simple(
         lengths,
@@ -64,7 +58,9 @@ pub extern "C" fn capi_edge_coloring_ink_trap(
     out_points: &mut [f64],
     out_colors: &mut [u8],
 ) -> u64
-    ensures { λ r. ⌜ HandsOut (edgeColoringInkTrap (record { lengths = now (lengths .entry); kinds = now (kinds .entry); points = now (points .entry) }) threshold seed (record { lengths = now («out_lengths» .entry); kinds = now («out_kinds» .entry); points = now («out_points» .entry); colors = now («out_colors» .entry) })) r (now («out_lengths» .exit)) (now («out_kinds» .exit)) (now («out_points» .exit)) (now («out_colors» .exit)) ⌝ }
+    ensures { λ r. ⌜ handed r (result (now («out_lengths» .exit)) (now («out_kinds» .exit)) (now («out_points» .exit)) (now («out_colors» .exit))) ≡
+        handOut coloredCode (edgeColoringInkTrap (outline (now (lengths .entry)) (now (kinds .entry)) (now (points .entry))) threshold seed
+        (result (now («out_lengths» .entry)) (now («out_kinds» .entry)) (now («out_points» .entry)) (now («out_colors» .entry)))) ⌝ }
 {
     code(edge_coloring::edge_coloring_ink_trap(
         lengths,

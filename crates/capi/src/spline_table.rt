@@ -1,16 +1,10 @@
-// Offers to a spline table, for C and Rust to call. The answer is one number.
+// Offers to a spline table.
+use crate::wide;
 use coloring::spline_table::Offer;
 use coloring::spline_table::{self};
 ghost use mathlib.Core.Path.{_≡_};
-ghost use Prim.Native.Nat.{_<_};
-ghost use Rattle.coloring.specs.SplineTable.{offer};
-ghost use Rattle.capi.specs.Answer.{tableOf, answerCode};
-
-fn wide(x: u8) -> u64
-    ensures { λ r. ⌜ (r ≡ x) × (r < 256) ⌝ }
-{
-    x as u64
-}
+ghost use Rattle.coloring.specs.SplineTable.{offer, tableOf};
+ghost use Rattle.capi.specs.SplineTable.{answerCode};
 
 // 256 and the counter where the pair is kept, 512 and the counter where it is declined, 768 and the number of the refusal.
 fn code(answer: Offer) -> u64
@@ -31,7 +25,8 @@ pub extern "C" fn capi_try_add_edge(
     b: usize,
 ) -> u64
     ensures answer { λ r. ⌜ r ≡ answerCode (offer (tableOf (now (coloring .entry)) (now («edge_matrix» .entry))) a b .answer) ⌝ }
-    ensures buffers { λ _. ⌜ tableOf (now (coloring .exit)) (now («edge_matrix» .exit)) ≡ offer (tableOf (now (coloring .entry)) (now («edge_matrix» .entry))) a b .table ⌝ }
+    ensures buffers { λ _. ⌜ tableOf (now (coloring .exit)) (now («edge_matrix» .exit))
+        ≡ offer (tableOf (now (coloring .entry)) (now («edge_matrix» .entry))) a b .table ⌝ }
 {
     code(spline_table::try_add_edge(coloring, edge_matrix, a, b))
 }

@@ -1,83 +1,59 @@
--- A coloured contour, and what all colourings share: places in walking order, one colour for all, the teardrop.
--- After `color_teardrop` of coloring/mod.rs.
-use Prim.Native.Nat.{ℕ, zero, suc, _-_}
+-- The colours of one contour, in simple and in ink-trap colouring.
+use Prim.Native.Nat.{ℕ, suc, _-_}
 use mathlib.Core.Bool.{true, false}
-use mathlib.Core.List.{List, [], _∷_, _++_, map}
-use lib.ListN.{length, take, drop, replicate}
-use lib.Dec.{eqb}
-use lib.IntN.{ℤ, pos, negsuc}
-use Rattle.geometry.specs.EdgeSegment.{splitInThirds}
-use Rattle.geometry.specs.declared.edge_segment.EdgeSegment.{EdgeSegment}
+use mathlib.Core.Path.{_≡_}
+use mathlib.Core.List.{List, [], map}
+use lib.ListN.{length}
+use lib.Dec.{eqb, ltb}
+use Rattle.geometry.specs.EdgeColor.{bitsOf}
 use Rattle.geometry.specs.declared.edge_color.EdgeColor.{EdgeColor}
 use Rattle.geometry.specs.declared.edge_color.EdgeColor.the-variants.{White}
 use Rattle.coloring.specs.declared.switching.Pen.{Pen}
-use Rattle.coloring.specs.Trichotomy.{symmetricalTrichotomy}
+use Rattle.coloring.specs.declared.settings.Strategy.{Strategy}
+use Rattle.coloring.specs.declared.settings.Strategy.the-variants.{Simple, InkTrap}
+use Rattle.coloring.specs.Switching.{SplineColors, switchEach}
+use Rattle.coloring.specs.Corners.{Cornered, cornerCount}
+use Rattle.coloring.specs.Splines.{paint}
+use Rattle.coloring.specs.Simple.{simpleColors}
+use Rattle.coloring.specs.InkTrap.{inkTrapColors}
+use Rattle.coloring.specs.Outline.{overFrom}
 
--- an edge with its colour
-pub record ColoredEdge : Type 0 where
-  pub edge : EdgeSegment
-  pub color : EdgeColor
+-- two corners or more
+abbrev pub byStrategy : Strategy → Pen → Cornered → SplineColors
+byStrategy Simple pen contour = simpleColors (cornerCount (contour .corners) - 1) pen
+byStrategy InkTrap pen contour = inkTrapColors contour pen
 
--- a contour with its colours, and the pen that the next contour gets
-pub record ColoredContour : Type 0 where
-  pub edges : List ColoredEdge
+-- with no corner or one, each spline's colour is switched from the one before
+unfoldable pub splineColors : Strategy → Pen → Cornered → SplineColors
+unfolding switchEach simpleColors inkTrapColors
+splineColors strategy pen contour =
+    let k = cornerCount (contour .corners) in
+    elim (ltb k 2) [
+      | true ↦ switchEach (suc k) pen
+      | false ↦ byStrategy strategy pen contour
+    ]
+
+-- the colours of the result's edges, by place, and the pen that the next contour gets
+pub record ContourColors : Type 0 where
+  pub colors : List EdgeColor
   pub pen : Pen
 
--- each edge with the colour at its place
-unfoldable pub paint : List EdgeSegment → List EdgeColor → List ColoredEdge
-paint [] colors = []
-paint (e ∷ edges) [] = []
-paint (e ∷ edges) (c ∷ colors) = record { edge = e; color = c } ∷ paint edges colors
+-- an empty contour is passed over
+unfoldable pub colorContour : Strategy → Pen → Cornered → ContourColors
+unfolding splineColors paint
+colorContour strategy pen contour =
+    elim (eqb (length (contour .corners)) 0) [
+      | true ↦ record { colors = []; pen = pen }
+      | false ↦
+          let splines = splineColors strategy pen contour in
+          record { colors = paint White (splines .colors) (contour .corners); pen = splines .pen }
+    ]
 
--- ---- places
+-- bytes and a pen hold the colours of a contour; the same from place `to` on, over what stood there
+pub record Painted (contour : ContourColors) (bytes : List ℕ) (pen : Pen) : Type 0 where
+  pub colors-are : bytes ≡ map bitsOf (contour .colors)
+  pub pen-is : pen ≡ contour .pen
 
--- i, i + 1, .., k of them
-unfoldable pub range : ℕ → ℕ → List ℕ
-range i zero = []
-range i (suc k) = i ∷ range (suc i) k
-
--- the list from place k on, then what stands before it
-unfoldable pub rotate : {A : Type 0} → ℕ → List A → List A
-rotate k xs = drop k xs ++ take k xs
-
--- the places of m edges in the order (start + i) mod m
-unfoldable pub walkOrder : ℕ → ℕ → List ℕ
-unfolding range rotate
-walkOrder start m = rotate start (range 0 m)
-
--- what was listed in that order, by place
-unfoldable pub byPlace : {A : Type 0} → ℕ → List A → List A
-unfolding rotate
-byPlace start xs = rotate (length xs - start) xs
-
--- ---- no corner: one colour for all edges
-
-unfoldable pub colorSmooth : EdgeColor → List EdgeSegment → List ColoredEdge
-unfolding paint
-colorSmooth c edges = paint edges (replicate (length edges) c)
-
--- ---- one corner: three runs of colour, first, White, last, from the corner on
-
-abbrev pub thirdOf : EdgeColor → EdgeColor → ℤ → EdgeColor
-thirdOf first last (pos zero) = White
-thirdOf first last (pos (suc n)) = last
-thirdOf first last (negsuc n) = first
-
-unfoldable pub thirds : EdgeSegment → List EdgeSegment
-thirds e = splitInThirds e .first ∷ splitInThirds e .second ∷ splitInThirds e .third ∷ []
-
--- the colours of m edges, from the corner on
-unfoldable pub teardropColors : EdgeColor → EdgeColor → ℕ → List EdgeColor
-unfolding range symmetricalTrichotomy
-teardropColors first last m = map (λ i. thirdOf first last (symmetricalTrichotomy i m)) (range 0 m)
-
--- One edge or two are split in thirds; the split of two starts at the corner.
-unfoldable pub colorTeardrop : EdgeColor → EdgeColor → ℕ → List EdgeSegment → List ColoredEdge
-unfolding paint byPlace thirds teardropColors
-colorTeardrop first last corner [] = []
-colorTeardrop first last corner (e ∷ []) = paint (thirds e) (first ∷ White ∷ last ∷ [])
-colorTeardrop first last corner (e ∷ f ∷ []) =
-    let parts : List EdgeSegment = elim (eqb corner 0) [ true ↦ thirds e ++ thirds f | false ↦ thirds f ++ thirds e ] in
-    paint parts (first ∷ first ∷ White ∷ White ∷ last ∷ last ∷ [])
-colorTeardrop first last corner (e ∷ f ∷ g ∷ edges) =
-    paint (e ∷ f ∷ g ∷ edges) (byPlace corner (teardropColors first last (length (e ∷ f ∷ g ∷ edges))))
+pub record PaintedFrom (to : ℕ) (contour : ContourColors) (bytes₀ bytes : List ℕ) (pen : Pen) : Type 0 where
+  pub colors-are : bytes ≡ overFrom to (map bitsOf (contour .colors)) bytes₀
+  pub pen-is : pen ≡ contour .pen

@@ -1,8 +1,9 @@
--- Corners and length estimates, after `is_corner`, `estimate_edge_length` and `identify_corners` of coloring/mod.rs.
+-- Corners and length estimates, after `is_corner`, `estimate_edge_length` and `identify_corners` of coloring/mod.rs (document 01, leaf 6).
 use Prim.Native.Nat.{ℕ, suc}
 use mathlib.Core.Path.{_≡_, refl}
-use mathlib.Core.Bool.{Bool, false, _||_, cond}
+use mathlib.Core.Bool.{Bool, true, false, _||_}
 use mathlib.Core.List.{List, [], _∷_}
+use lib.ListN.{length, getD, take, drop}
 use lib.IntN.{negsuc}
 use lib.Ieee as Ieee
 use lib.Ieee.{Float, nan, inf, fin, binary64, ofBits}
@@ -45,7 +46,7 @@ estimateEdgeLength e =
     (Ieee.add binary64 (Ieee.add binary64 (Ieee.add binary64 f0 (chord e f0 quarter)) (chord e quarter fHalf)) (chord e fHalf threeQuarters))
     (chord e threeQuarters f1)
 
--- ---- the corners of a contour, by place
+-- ---- the corners of a contour
 
 -- the last edge of a contour that begins with e
 unfoldable pub lastEdge : EdgeSegment → List EdgeSegment → EdgeSegment
@@ -57,16 +58,49 @@ unfoldable pub startsAtCorner : Float → Vector2 → EdgeSegment → Bool
 unfolding isCorner
 startsAtCorner threshold prev e = isCorner (vector.normalize prev false) (vector.normalize (direction e f0) false) threshold
 
--- the corners among edges whose first stands at place `index`
-unfoldable pub cornersFrom : Float → ℕ → Vector2 → List EdgeSegment → List ℕ
+-- a flag for each edge, true where it starts at a corner
+unfoldable pub flagsFrom : Float → Vector2 → List EdgeSegment → List Bool
 unfolding startsAtCorner
-cornersFrom threshold index prev [] = []
-cornersFrom threshold index prev (e ∷ edges) =
-    let rest = cornersFrom threshold (suc index) (direction e f1) edges in
-    cond (startsAtCorner threshold prev e) (index ∷ rest) rest
+flagsFrom threshold prev [] = []
+flagsFrom threshold prev (e ∷ edges) = startsAtCorner threshold prev e ∷ flagsFrom threshold (direction e f1) edges
 
 -- the edge before the first is the last
-unfoldable pub identifyCorners : Float → List EdgeSegment → List ℕ
-unfolding lastEdge cornersFrom
-identifyCorners threshold [] = []
-identifyCorners threshold (e ∷ edges) = cornersFrom threshold 0 (direction (lastEdge e edges) f1) (e ∷ edges)
+unfoldable pub cornerFlags : Float → List EdgeSegment → List Bool
+unfolding lastEdge flagsFrom
+cornerFlags threshold [] = []
+cornerFlags threshold (e ∷ edges) = flagsFrom threshold (direction (lastEdge e edges) f1) (e ∷ edges)
+
+-- the places of the true flags, the first flag at place `index`
+unfoldable pub placesFrom : ℕ → List Bool → List ℕ
+placesFrom index [] = []
+placesFrom index (true ∷ flags) = index ∷ placesFrom (suc index) flags
+placesFrom index (false ∷ flags) = placesFrom (suc index) flags
+
+-- `identify_corners`: the places of the corners
+unfoldable pub identifyCorners : List Bool → List ℕ
+unfolding placesFrom
+identifyCorners flags = placesFrom 0 flags
+
+-- how many there are, and where the first is
+unfoldable pub cornerCount : List Bool → ℕ
+unfolding identifyCorners
+cornerCount flags = length (identifyCorners flags)
+
+unfoldable pub firstCorner : List Bool → ℕ
+unfolding identifyCorners
+firstCorner flags = getD (identifyCorners flags) 0 0
+
+-- what a corner search answers: a contour, and a flag for each of its edges
+pub record Cornered : Type 0 where
+  pub edges : List EdgeSegment
+  pub corners : List Bool
+
+unfoldable pub searchCorners : Float → List EdgeSegment → Cornered
+unfolding cornerFlags
+searchCorners threshold edges = record { edges = edges; corners = cornerFlags threshold edges }
+
+-- edges and flags of several contours, cut into pieces of the given lengths
+unfoldable pub cornered : List ℕ → List EdgeSegment → List Bool → List Cornered
+cornered [] edges flags = []
+cornered (n ∷ lengths) edges flags =
+    record { edges = take n edges; corners = take n flags } ∷ cornered lengths (drop n edges) (drop n flags)

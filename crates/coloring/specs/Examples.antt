@@ -1,26 +1,34 @@
--- Worked examples of document 01, computed from the definitions: P1 to P3, P5, P6 and the two offers of P7.
+-- Worked examples of document 01, P1 to P3, P5 and P6, and others that refute wrong colourings; all computed from the definitions.
 use Prim.Native.Nat.{ℕ}
 use mathlib.Core.Path.{_≡_, refl}
-use mathlib.Core.Bool.{false}
-use mathlib.Core.List.{List, [], _∷_, map}
+use mathlib.Core.Bool.{Bool, true, false}
+use mathlib.Core.List.{List, [], _∷_, _++_, map}
 use lib.IntN.{ℤ, pos, negsuc}
 use lib.Ieee as Ieee
-use lib.Ieee.{Float, fin}
+use lib.Ieee.{Float, fin, ofBits}
 use Rattle.math.specs.Scalar.{f0, f1}
 use Rattle.math.specs.Sqrt.{sqrtOf}
 use Rattle.math.specs.Vector2.{new, add, sub, mulScalar, divScalar, dot, cross, squaredLength, lengthOf, normalize}
-use Rattle.geometry.specs.EdgeSegment.{vmix, point, direction}
+use Rattle.geometry.specs.EdgeSegment.{vmix, point, direction, toStored, fromStored}
 use Rattle.geometry.specs.declared.edge_color.EdgeColor.{EdgeColor}
 use Rattle.geometry.specs.declared.edge_color.EdgeColor.the-variants.{Yellow, Magenta, Cyan}
 use Rattle.geometry.specs.declared.edge_segment.EdgeSegment.{EdgeSegment}
 use Rattle.geometry.specs.declared.edge_segment.EdgeSegment.the-variants.{Line}
+use Rattle.coloring.specs.declared.refusal.Refusal.the-variants.{ResultTooShort}
+use Rattle.coloring.specs.declared.outline.Colored.the-variants.{Edges, Refused}
+use Rattle.coloring.specs.declared.settings.Strategy.{Strategy}
+use Rattle.coloring.specs.declared.settings.Strategy.the-variants.{Simple, InkTrap}
+use Rattle.coloring.specs.declared.settings.Marking.the-variants.{Colors}
 use Rattle.coloring.specs.Trichotomy.{symmetricalTrichotomy}
-use Rattle.coloring.specs.Switching.{switchColor}
-use Rattle.coloring.specs.Outline.{encode}
-use Rattle.coloring.specs.Coloring.{colorSimple, colorInkTrap}
-use Rattle.coloring.specs.SplineTable.{Table, offer}
-use Rattle.coloring.specs.Sequence.{run}
-use Rattle.coloring.specs.declared.spline_table.Offer.the-variants.{Kept, Declined}
+use Rattle.coloring.specs.Switching.{switchColor, switchColorBanned}
+use Rattle.coloring.specs.Corners.{searchCorners, cornerCount, firstCorner}
+use Rattle.coloring.specs.Layout.{thirds, layout}
+use Rattle.coloring.specs.Teardrop.{runs}
+use Rattle.coloring.specs.Splines.{paint}
+use Rattle.coloring.specs.InkTrap.{cornerAt, markMinors}
+use Rattle.coloring.specs.Outline.{Outline, outline, result, Outcome}
+use Rattle.coloring.specs.Shape.{painted}
+use Rattle.coloring.specs.EdgeColoring.{edgeColoring, edgeColoringSimple}
 
 -- ---- P1 to P3: the rule at several places of n
 
@@ -49,29 +57,92 @@ pub switches-of-cyan : (afterCyan 0 ≡ Magenta) × (afterCyan 1 ≡ Yellow)
 unfolding switchColor
 switches-of-cyan = (refl, refl)
 
+-- refutes a switch that draws where the banned rule fires: Yellow and Magenta share red, so Cyan follows, and the seed stays
+pub banned-without-draw : switchColorBanned Magenta (record { color = Yellow; seed = 5 }) ≡ record { color = Cyan; seed = 5 }
+unfolding switchColorBanned
+banned-without-draw = refl
+
 -- ---- P6: the square (0,0) (1,0) (1,1) (0,1) of lines, seed 0, threshold 0.125
 
-pub square : List (List EdgeSegment)
-square =
-    (Line (new f0 f0) (new f1 f0) ∷ Line (new f1 f0) (new f1 f1) ∷ Line (new f1 f1) (new f0 f1) ∷ Line (new f0 f1) (new f0 f0) ∷ []) ∷ []
+unfoldable pub square : List EdgeSegment
+square = Line (new f0 f0) (new f1 f0) ∷ Line (new f1 f0) (new f1 f1) ∷ Line (new f1 f1) (new f0 f1) ∷ Line (new f0 f1) (new f0 f0) ∷ []
 
 abbrev pub eighth : Float
 eighth = fin false 1 (negsuc 2)
 
-pub simple-square : encode (colorSimple eighth 0 square) .colors ≡ (5 ∷ 3 ∷ 6 ∷ 3 ∷ [])
-unfolding square colorSimple encode direction sub dot cross divScalar squaredLength lengthOf normalize sqrtOf Ieee.add Ieee.sub Ieee.mul Ieee.div Ieee.ne Ieee.le Ieee.lt
+abbrev colorsOf : Strategy → List (List EdgeSegment) → List ℕ
+colorsOf strategy shape = painted (Colors strategy 0) (map (searchCorners eighth) shape) .colors
+
+pub simple-square : colorsOf Simple (square ∷ []) ≡ (5 ∷ 3 ∷ 6 ∷ 3 ∷ [])
+unfolding square searchCorners cornerCount firstCorner painted direction sub dot cross divScalar squaredLength lengthOf normalize sqrtOf Ieee.add Ieee.sub Ieee.mul Ieee.div Ieee.ne Ieee.le Ieee.lt
 simple-square = refl
 
-pub ink-trap-square : encode (colorInkTrap eighth 0 square) .colors ≡ (5 ∷ 3 ∷ 6 ∷ 3 ∷ [])
-unfolding square colorInkTrap encode direction point vmix add sub mulScalar dot cross divScalar squaredLength lengthOf normalize sqrtOf Ieee.add Ieee.sub Ieee.mul Ieee.div Ieee.ne Ieee.le Ieee.lt
+pub ink-trap-square : colorsOf InkTrap (square ∷ []) ≡ (5 ∷ 3 ∷ 6 ∷ 3 ∷ [])
+unfolding square searchCorners cornerCount firstCorner painted direction point vmix add sub mulScalar dot cross divScalar squaredLength lengthOf normalize sqrtOf Ieee.add Ieee.sub Ieee.mul Ieee.div Ieee.ne Ieee.le Ieee.lt
 ink-trap-square = refl
 
--- ---- P7: the square's four splines, the pairs beside each other kept; (0, 2) is kept, (1, 3) declined with counter 16
+-- refutes one that colours the first contour only, or begins each with a new pen
+pub two-squares : colorsOf Simple (square ∷ square ∷ []) ≡ (5 ∷ 3 ∷ 6 ∷ 3 ∷ 6 ∷ 5 ∷ 3 ∷ 5 ∷ [])
+unfolding square searchCorners cornerCount firstCorner painted direction sub dot cross divScalar squaredLength lengthOf normalize sqrtOf Ieee.add Ieee.sub Ieee.mul Ieee.div Ieee.ne Ieee.le Ieee.lt
+two-squares = refl
 
-pub squareTable : Table
-squareTable =
-    record { coloring = 0 ∷ 1 ∷ 2 ∷ 1 ∷ []; edgeMatrix = 0 ∷ 1 ∷ 0 ∷ 1 ∷ 1 ∷ 0 ∷ 1 ∷ 0 ∷ 0 ∷ 1 ∷ 0 ∷ 1 ∷ 1 ∷ 0 ∷ 1 ∷ 0 ∷ [] }
+-- ---- teardrops
 
-pub offers-of-the-square : run squareTable (record { a = 0; b = 2 } ∷ record { a = 1; b = 3 } ∷ []) .answers ≡ (Kept 0 ∷ Declined 16 ∷ [])
-unfolding run offer squareTable
-offers-of-the-square = refl
+-- of a split contour each run has a third of the edges, as the source lists them
+pub split-runs : (runs {A = ℕ} 1 2 3 3 ≡ (1 ∷ 2 ∷ 3 ∷ [])) × (runs {A = ℕ} 1 2 3 6 ≡ (1 ∷ 1 ∷ 2 ∷ 2 ∷ 3 ∷ 3 ∷ []))
+unfolding runs
+split-runs = (refl, refl)
+
+-- refutes a split that starts at the first edge where the corner is at the second
+pub split-from-the-corner : (e f : EdgeSegment) → layout (record { edges = e ∷ f ∷ []; corners = false ∷ true ∷ [] }) ≡ (thirds f ++ thirds e)
+unfolding layout cornerCount firstCorner
+split-from-the-corner e f = refl
+
+-- refutes a teardrop that starts at the first edge: three edges, the corner at the second
+pub teardrop-from-the-corner : paint {A = ℕ} 9 (1 ∷ 2 ∷ []) (false ∷ true ∷ false ∷ []) ≡ (2 ∷ 1 ∷ 9 ∷ [])
+unfolding paint cornerCount firstCorner
+teardrop-from-the-corner = refl
+
+-- ---- splines
+
+-- refutes one that begins a spline at the first edge: what stands before the first corner belongs to the last spline
+pub spread-around : paint {A = ℕ} 9 (1 ∷ 2 ∷ []) (false ∷ true ∷ false ∷ true ∷ []) ≡ (2 ∷ 1 ∷ 1 ∷ 2 ∷ [])
+unfolding paint cornerCount firstCorner
+spread-around = refl
+
+-- ---- ink traps
+
+abbrev minors : List ℕ → List Bool
+minors lengths = map (λ k. k .minor) (markMinors (record { corners = map (λ n. cornerAt 0 (fin false n (pos 0))) lengths; splineLength = f0 }))
+
+-- refutes minor corners among three
+pub minors-only-among-four : (minors (3 ∷ 1 ∷ 3 ∷ []) ≡ (false ∷ false ∷ false ∷ [])) × (minors (3 ∷ 1 ∷ 3 ∷ 3 ∷ []) ≡ (true ∷ false ∷ false ∷ false ∷ []))
+unfolding markMinors Ieee.add Ieee.lt Ieee.ofBits
+minors-only-among-four = (refl, refl)
+
+-- ---- buffers
+
+abbrev places : Float → Float → Float → Float → List Float
+places x0 y0 x1 y1 = x0 ∷ y0 ∷ x1 ∷ y1 ∷ f0 ∷ f0 ∷ f0 ∷ f0 ∷ []
+
+pub squareOutline : Outline
+squareOutline =
+    outline (4 ∷ []) (1 ∷ 1 ∷ 1 ∷ 1 ∷ [])
+    (places f0 f0 f1 f0 ++ places f1 f0 f1 f1 ++ places f1 f1 f0 f1 ++ places f0 f1 f0 f0)
+
+abbrev eight : List Float
+eight = places f1 f1 f1 f1
+
+-- the square's result, into buffers with room for one contour and four edges, and so many colours
+abbrev into : List ℕ → Outcome
+into colors = edgeColoringSimple squareOutline eighth 0 (result (9 ∷ []) (9 ∷ 9 ∷ 9 ∷ 9 ∷ []) (eight ++ eight ++ eight ++ eight) colors)
+
+-- refutes one that refuses a result that fits exactly, or writes beyond it
+pub exactly-fits : (into (9 ∷ 9 ∷ 9 ∷ 9 ∷ 8 ∷ []) .answer ≡ Edges (record { edges = 4; splines = 4 })) × (into (9 ∷ 9 ∷ 9 ∷ 9 ∷ 8 ∷ []) .buffers .colors ≡ (5 ∷ 3 ∷ 6 ∷ 3 ∷ 8 ∷ []))
+unfolding squareOutline edgeColoring cornerCount firstCorner direction sub dot cross divScalar squaredLength lengthOf normalize sqrtOf toStored fromStored Ieee.add Ieee.sub Ieee.mul Ieee.div Ieee.neg Ieee.ne Ieee.le Ieee.lt Ieee.ofBits
+exactly-fits = (refl, refl)
+
+-- refutes one that writes before it refuses
+pub one-short : into (9 ∷ 9 ∷ 9 ∷ []) ≡ record { answer = Refused ResultTooShort; buffers = result (9 ∷ []) (9 ∷ 9 ∷ 9 ∷ 9 ∷ []) (eight ++ eight ++ eight ++ eight) (9 ∷ 9 ∷ 9 ∷ []) }
+unfolding squareOutline edgeColoring cornerCount firstCorner direction sub dot cross divScalar squaredLength lengthOf normalize sqrtOf toStored fromStored Ieee.add Ieee.sub Ieee.mul Ieee.div Ieee.neg Ieee.ne Ieee.le Ieee.lt Ieee.ofBits
+one-short = refl

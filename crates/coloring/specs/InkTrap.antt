@@ -1,4 +1,4 @@
--- Ink-trap colouring, after `edge_coloring_ink_trap` of coloring/mod.rs. A contour with no corner or one is coloured as in simple colouring.
+-- The colours of a contour's splines in ink-trap colouring, after `edge_coloring_ink_trap` of coloring/mod.rs. A corner's record is `InkTrapCorner`.
 use Prim.Native.Nat.{ℕ, zero, suc, _+_, _-_, _%_}
 use mathlib.Core.Bool.{Bool, true, false, _&&_, cond}
 use mathlib.Core.List.{List, [], _∷_, map}
@@ -6,24 +6,18 @@ use lib.ListN.{length, getD, set}
 use lib.Dec.{ltb, eqb}
 use lib.Ieee as Ieee
 use lib.Ieee.{Float, nan, binary64}
-use Rattle.math.specs.Scalar.{f0, f1}
-use Rattle.math.specs.declared.vector2.Vector2.{Vector2}
+use Rattle.math.specs.Scalar.{f0}
 use Rattle.geometry.specs.EdgeColor.{bitsOf, fromBits}
-use Rattle.geometry.specs.EdgeSegment.{direction}
 use Rattle.geometry.specs.declared.edge_segment.EdgeSegment.{EdgeSegment}
 use Rattle.geometry.specs.declared.edge_color.EdgeColor.{EdgeColor}
 use Rattle.geometry.specs.declared.edge_color.EdgeColor.the-variants.{Black}
 use Rattle.coloring.specs.declared.switching.Pen.{Pen}
 use Rattle.coloring.specs.declared.ink_trap.InkTrapCorner.{InkTrapCorner}
-use Rattle.coloring.specs.Switching.{shared, switchColorBanned}
-use Rattle.coloring.specs.Corners.{estimateEdgeLength, lastEdge, startsAtCorner}
-use Rattle.coloring.specs.Contour.{ColoredContour, paint, range, walkOrder, byPlace}
-use Rattle.coloring.specs.Simple.{Painted, colorByCorners}
+use Rattle.coloring.specs.Switching.{SplineColors, shared, switchColorBanned, bannedBefore}
+use Rattle.coloring.specs.Corners.{Cornered, estimateEdgeLength}
+use Rattle.coloring.specs.Places.{range}
 
--- a corner with another estimate, another flag, another colour
-abbrev pub withEstimate : Float → InkTrapCorner → InkTrapCorner
-withEstimate length k = record { index = k .index; «prev_edge_length_estimate» = length; minor = k .minor; color = k .color }
-
+-- a corner with another flag, another colour
 abbrev pub withMinor : Bool → InkTrapCorner → InkTrapCorner
 withMinor m k = record { index = k .index; «prev_edge_length_estimate» = k .«prev_edge_length_estimate»; minor = m; color = k .color }
 
@@ -37,47 +31,35 @@ pub record Measured : Type 0 where
   pub corners : List InkTrapCorner
   pub splineLength : Float
 
-unfoldable pub measureFrom : Float → ℕ → Vector2 → Float → List EdgeSegment → Measured
-unfolding startsAtCorner estimateEdgeLength
-measureFrom threshold index prev splineLength [] = record { corners = []; splineLength = splineLength }
-measureFrom threshold index prev splineLength (e ∷ edges) =
-    elim (startsAtCorner threshold prev e) [
-      | true ↦
-          let rest = measureFrom threshold (suc index) (direction e f1) (Ieee.add binary64 f0 (estimateEdgeLength e)) edges in
-          record {
-            corners = record { index = index; «prev_edge_length_estimate» = splineLength; minor = false; color = Black } ∷ rest .corners;
-            splineLength = rest .splineLength;
-          }
-      | false ↦ measureFrom threshold (suc index) (direction e f1) (Ieee.add binary64 splineLength (estimateEdgeLength e)) edges
-    ]
+-- a corner before it is marked and coloured
+abbrev pub cornerAt : ℕ → Float → InkTrapCorner
+cornerAt index splineLength = record { index = index; «prev_edge_length_estimate» = splineLength; minor = false; color = Black }
 
-unfoldable pub measureCorners : Float → List EdgeSegment → Measured
-unfolding lastEdge measureFrom
-measureCorners threshold [] = record { corners = []; splineLength = f0 }
-measureCorners threshold (e ∷ edges) = measureFrom threshold 0 (direction (lastEdge e edges) f1) f0 (e ∷ edges)
-
--- the same where the places of the corners are known; `ahead` are those not yet met
-unfoldable pub measureAt : List ℕ → ℕ → Float → List EdgeSegment → Measured
+-- the edges from place `index` on, with their flags
+unfoldable pub measureFrom : ℕ → Float → List EdgeSegment → List Bool → Measured
 unfolding estimateEdgeLength
-measureAt ahead index splineLength [] = record { corners = []; splineLength = splineLength }
-measureAt [] index splineLength (e ∷ edges) = measureAt [] (suc index) (Ieee.add binary64 splineLength (estimateEdgeLength e)) edges
-measureAt (k ∷ ahead) index splineLength (e ∷ edges) =
-    elim (eqb k index) [
-      | true ↦
-          let rest = measureAt ahead (suc index) (Ieee.add binary64 f0 (estimateEdgeLength e)) edges in
-          record {
-            corners = record { index = index; «prev_edge_length_estimate» = splineLength; minor = false; color = Black } ∷ rest .corners;
-            splineLength = rest .splineLength;
-          }
-      | false ↦ measureAt (k ∷ ahead) (suc index) (Ieee.add binary64 splineLength (estimateEdgeLength e)) edges
-    ]
+measureFrom index splineLength [] flags = record { corners = []; splineLength = splineLength }
+measureFrom index splineLength (e ∷ edges) [] = record { corners = []; splineLength = splineLength }
+measureFrom index splineLength (e ∷ edges) (true ∷ flags) =
+    let rest = measureFrom (suc index) (Ieee.add binary64 f0 (estimateEdgeLength e)) edges flags in
+    record { corners = cornerAt index splineLength ∷ rest .corners; splineLength = rest .splineLength }
+measureFrom index splineLength (e ∷ edges) (false ∷ flags) =
+    measureFrom (suc index) (Ieee.add binary64 splineLength (estimateEdgeLength e)) edges flags
+
+unfoldable pub measureCorners : Cornered → Measured
+unfolding measureFrom
+measureCorners contour = measureFrom 0 f0 (contour .edges) (contour .corners)
 
 -- ---- minor corners
 
 -- the first corner's estimate goes on over the end of the contour
+abbrev pub closed : Float → InkTrapCorner → InkTrapCorner
+closed splineLength k =
+    record { index = k .index; «prev_edge_length_estimate» = Ieee.add binary64 (k .«prev_edge_length_estimate») splineLength; minor = k .minor; color = k .color }
+
 unfoldable pub closeFirst : Float → List InkTrapCorner → List InkTrapCorner
 closeFirst splineLength [] = []
-closeFirst splineLength (k ∷ corners) = withEstimate (Ieee.add binary64 (k .«prev_edge_length_estimate») splineLength) k ∷ corners
+closeFirst splineLength (k ∷ corners) = closed splineLength k ∷ corners
 
 -- what stands beyond the last corner; never met
 abbrev pub noCorner : InkTrapCorner
@@ -132,7 +114,7 @@ colorMajors initial left pen (k ∷ corners) =
           let rest = colorMajors initial left pen corners in
           record { corners = k ∷ rest .corners; pen = rest .pen }
       | false ↦
-          let next = switchColorBanned (cond (eqb (left - 1) 0) initial Black) pen in
+          let next = switchColorBanned (bannedBefore initial (left - 1)) pen in
           let rest = colorMajors (cond (isBlack initial) (next .color) initial) (left - 1) next corners in
           record { corners = withColor (next .color) k ∷ rest .corners; pen = rest .pen }
     ]
@@ -157,60 +139,10 @@ colorCorners measured pen =
     let inked = colorMajors Black (majorCount marked) pen marked in
     record { corners = colorMinors 0 (length marked) (inked .pen .color) (inked .corners); pen = inked .pen }
 
--- ---- the edges
-
--- the edges at `places`, in walking order: each corner ahead brings its colour
-pub record Spread : Type 0 where
-  pub colors : List EdgeColor
-  pub color : EdgeColor
-
-unfoldable pub spreadColors : List InkTrapCorner → EdgeColor → List ℕ → Spread
-spreadColors ahead color [] = record { colors = []; color = color }
-spreadColors [] color (i ∷ places) =
-    let rest = spreadColors [] color places in
-    record { colors = color ∷ rest .colors; color = rest .color }
-spreadColors (k ∷ ahead) color (i ∷ places) =
-    elim (eqb (k .index) i) [
-      | true ↦
-          let rest = spreadColors ahead (k .color) places in
-          record { colors = k .color ∷ rest .colors; color = rest .color }
-      | false ↦
-          let rest = spreadColors (k ∷ ahead) color places in
-          record { colors = color ∷ rest .colors; color = rest .color }
-    ]
-
--- the colours of m edges, by place; the next contour goes on with the last corner's colour
-unfoldable pub paintCorners : List InkTrapCorner → ℕ → ℕ → Painted
-unfolding walkOrder byPlace spreadColors
-paintCorners [] seed m = record { colors = []; pen = record { color = Black; seed = seed } }
-paintCorners (first ∷ corners) seed m =
-    let spread = spreadColors corners (first .color) (walkOrder (first .index) m) in
-    record { colors = byPlace (first .index) (spread .colors); pen = record { color = spread .color; seed = seed } }
-
--- the colours of m edges with two corners or more
-unfoldable pub paintInkTrap : Measured → Pen → ℕ → Painted
-unfolding colorCorners paintCorners
-paintInkTrap measured pen m =
-    let inked = colorCorners measured pen in
-    paintCorners (inked .corners) (inked .pen .seed) m
-
--- one contour, by its corners and their lengths
-unfoldable pub inkByCorners : Measured → Pen → List EdgeSegment → ColoredContour
-unfolding colorByCorners paintInkTrap paint
-inkByCorners measured pen edges =
-    elim (measured .corners) [
-      | [] ↦ colorByCorners [] pen edges
-      | corner ∷ others ↦
-          elim others [
-            | [] ↦ colorByCorners (corner .index ∷ []) pen edges
-            | second ∷ more ↦
-                let painted = paintInkTrap measured pen (length edges) in
-                record { edges = paint edges (painted .colors); pen = painted .pen }
-          ]
-    ]
-
--- an empty contour is passed over
-unfoldable pub inkTrapContour : Float → Pen → List EdgeSegment → ColoredContour
-unfolding measureCorners inkByCorners
-inkTrapContour threshold pen [] = record { edges = []; pen = pen }
-inkTrapContour threshold pen (e ∷ edges) = inkByCorners (measureCorners threshold (e ∷ edges)) pen (e ∷ edges)
+-- the colours of the splines, two or more; the next contour goes on with the last one's
+unfoldable pub inkTrapColors : Cornered → Pen → SplineColors
+unfolding measureCorners colorCorners
+inkTrapColors contour pen =
+    let inked = colorCorners (measureCorners contour) pen in
+    let colors = map (λ (k : InkTrapCorner). k .color) (inked .corners) in
+    record { colors = colors; pen = record { color = getD colors (length colors - 1) Black; seed = inked .pen .seed } }

@@ -1,18 +1,31 @@
 -- The definitions that the contracts of the colouring cite.
 pub mod Refusal
 -- the spline table
+pub mod Recolor
 pub mod SplineTable
-pub mod Queue
-pub mod Offering
 pub mod Sequence
+pub mod OfferExamples
+-- by-distance colouring, from the distances between splines on
+pub mod PairOrder
+pub mod PairNumbers
+pub mod SecondDegree
+pub mod SplineColors
+pub mod SplineColorsExamples
 -- outlines and their colouring
+pub mod Places
 pub mod Switching
 pub mod Corners
 pub mod Trichotomy
-pub mod Contour
+pub mod Layout
+pub mod Teardrop
+pub mod Splines
 pub mod Simple
 pub mod InkTrap
+pub mod Contour
 pub mod Outline
-pub mod Coloring
--- worked examples of document 01
+pub mod Shape
+pub mod EdgeColoring
+pub mod ByDistance
+-- worked examples
 pub mod Examples
+pub mod ByDistanceExamples

@@ -1,5 +1,5 @@
 -- Outline buffers and the contours that they stand for, both ways, and the checks of an outline (document 01, "Trays and the job file").
-use Prim.Native.Nat.{ℕ, suc, _+_, _*_, _≤_}
+use Prim.Native.Nat.{ℕ, suc, _-_, _*_, _≤_}
 use mathlib.Core.Path.{_≡_, refl}
 use mathlib.Core.Bool.{Bool, true, false, _&&_, cond}
 use mathlib.Core.List.{List, [], _∷_, _++_, map}
@@ -10,8 +10,6 @@ use lib.Ieee as Ieee
 use lib.Ieee.{Float, fin, binary64, ofBits}
 use Rattle.math.specs.Scalar.{f1}
 use Rattle.math.specs.Vector2.{zeroVector}
-use Rattle.geometry.specs.EdgeColor.{bitsOf}
-use Rattle.geometry.specs.declared.edge_color.EdgeColor.{EdgeColor}
 use Rattle.geometry.specs.EdgeSegment.{toStored, fromStored}
 use Rattle.geometry.specs.declared.edge_segment.EdgeSegment.{EdgeSegment}
 use Rattle.geometry.specs.declared.edge_segment.EdgeSegment.the-variants.{Line}
@@ -21,9 +19,12 @@ use Rattle.coloring.specs.declared.refusal.Refusal.{Refusal}
 use Rattle.coloring.specs.declared.refusal.Refusal.the-variants.{TooMany, UnknownKind, BadThreshold, BadCoordinate, LengthMismatch, ResultTooShort}
 use Rattle.coloring.specs.declared.outline.Checked.{Checked}
 use Rattle.coloring.specs.declared.outline.Checked.the-variants.{Passed, Failed}
+use Rattle.coloring.specs.declared.outline.Counts.{Counts}
 use Rattle.coloring.specs.declared.outline.Colored.{Colored}
 use Rattle.coloring.specs.declared.outline.Colored.the-variants.{Edges, Refused}
-use Rattle.coloring.specs.Contour.{ColoredEdge}
+use Rattle.coloring.specs.Places.{concat, total}
+use Rattle.coloring.specs.Corners.{Cornered}
+use Rattle.coloring.specs.Layout.{layout, resultEdges}
 
 -- an outline's three buffers: contour lengths, the kind of each edge, eight point places an edge
 pub record Outline : Type 0 where
@@ -76,26 +77,15 @@ pub record Result : Type 0 where
   pub points : List Float
   pub colors : List ℕ
 
-unfoldable pub concat : {A : Type 0} → List (List A) → List A
-concat [] = []
-concat (xs ∷ rest) = xs ++ concat rest
-
--- the edges and the colours of a coloured contour
-abbrev pub edgesIn : List ColoredEdge → List EdgeSegment
-edgesIn contour = map (λ (e : ColoredEdge). e .edge) contour
-
-abbrev pub colorsIn : List ColoredEdge → List EdgeColor
-colorsIn contour = map (λ (e : ColoredEdge). e .color) contour
-
-unfoldable pub encode : List (List ColoredEdge) → Result
+-- the edges of each contour, and a byte for each edge: its colour, or what else a pass gives it
+unfoldable pub encode : List (List EdgeSegment) → List (List ℕ) → Result
 unfolding concat
-encode colored =
-    let all = concat colored in
+encode edges bytes =
     record {
-      lengths = map (λ (contour : List ColoredEdge). length contour) colored;
-      kinds = map kindOf (edgesIn all);
-      points = concat (map placesOf (edgesIn all));
-      colors = map bitsOf (colorsIn all);
+      lengths = map (λ (contour : List EdgeSegment). length contour) edges;
+      kinds = map kindOf (concat edges);
+      points = concat (map placesOf (concat edges));
+      colors = concat bytes;
     }
 
 -- a written part, and what stood beyond it
@@ -114,10 +104,6 @@ maxContours = 64
 
 unfoldable pub maxEdges : ℕ
 maxEdges = 256
-
-unfoldable pub total : List ℕ → ℕ
-total [] = 0
-total (n ∷ lengths) = n + total lengths
 
 unfoldable pub all : {A : Type 0} → (A → Bool) → List A → Bool
 all test [] = true
@@ -158,6 +144,11 @@ abbrev pub require : Bool → Refusal → Checked → Checked
 require true refusal next = next
 require false refusal next = Failed refusal
 
+-- the first refusal of two checks one after the other
+abbrev pub andThen : Checked → Checked → Checked
+andThen Passed next = next
+andThen (Failed refusal) next = Failed refusal
+
 -- 4, 8, 5, 7, 6: the first that applies
 unfoldable pub check : Outline → Float → Checked
 unfolding maxContours maxEdges total all coordinatesFit
@@ -186,11 +177,11 @@ fits written old =
     && leb (length (written .colors)) (length (old .colors))
 
 -- a result, written over what stood there
-unfoldable pub delivered : Result → Result → Outcome
+unfoldable pub delivered : Counts → Result → Result → Outcome
 unfolding over
-delivered written old =
+delivered counts written old =
     record {
-      answer = Edges (length (written .kinds));
+      answer = Edges counts;
       buffers = record {
         lengths = over (written .lengths) (old .lengths);
         kinds = over (written .kinds) (old .kinds);
@@ -200,20 +191,24 @@ delivered written old =
     }
 
 -- The refusal of the checks; 11 where the result would not fit; or the result.
-unfoldable pub deliver : Checked → Result → Result → Outcome
+unfoldable pub deliver : Checked → Counts → Result → Result → Outcome
 unfolding fits delivered
-deliver (Failed refusal) written old = record { answer = Refused refusal; buffers = old }
-deliver Passed written old = cond (fits written old) (delivered written old) (record { answer = Refused ResultTooShort; buffers = old })
+deliver (Failed refusal) counts written old = record { answer = Refused refusal; buffers = old }
+deliver Passed counts written old =
+    cond (fits written old) (delivered counts written old) (record { answer = Refused ResultTooShort; buffers = old })
 
 -- ---- in the words of contracts
 
--- an answer and four buffers at exit are those of an outcome
-pub record Delivers (outcome : Outcome) (answer : Colored) (lengths kinds : List ℕ) (points : List Float) (colors : List ℕ) : Type 0 where
-  pub answers : answer ≡ outcome .answer
-  pub lengths-are : lengths ≡ outcome .buffers .lengths
-  pub kinds-are : kinds ≡ outcome .buffers .kinds
-  pub points-are : points ≡ outcome .buffers .points
-  pub colors-are : colors ≡ outcome .buffers .colors
+-- the buffers of an outline, and those of a result
+abbrev pub outline : List ℕ → List ℕ → List Float → Outline
+outline lengths kinds points = record { lengths = lengths; kinds = kinds; points = points }
+
+abbrev pub result : List ℕ → List ℕ → List Float → List ℕ → Result
+result lengths kinds points colors = record { lengths = lengths; kinds = kinds; points = points; colors = colors }
+
+-- an answer with the buffers at exit
+abbrev pub outcome : Colored → Result → Outcome
+outcome answer buffers = record { answer = answer; buffers = buffers }
 
 -- the buffers of an outline agree, and hold no more edges than are allowed
 pub record Agrees (o : Outline) : Type 0 where
@@ -221,21 +216,42 @@ pub record Agrees (o : Outline) : Type 0 where
   pub few : length (o .kinds) ≤ 256
   pub places : length (o .points) ≡ 8 * length (o .kinds)
 
--- four buffers have room for so many contours and edges
-pub record Room (contours edges : ℕ) (lengths kinds : List ℕ) (points : List Float) (colors : List ℕ) : Type 0 where
-  pub lengths-fit : contours ≤ length lengths
-  pub kinds-fit : edges ≤ length kinds
-  pub points-fit : 8 * edges ≤ length points
-  pub colors-fit : edges ≤ length colors
+-- three buffers of a contour, or of several one after the other: its edges, and a flag for each
+pub record Matching (kinds : List ℕ) (points : List Float) (flags : List Bool) : Type 0 where
+  pub places : length points ≡ 8 * length kinds
+  pub flagged : length flags ≡ length kinds
+  pub few : length kinds ≤ 256
 
--- three buffers hold a coloured contour
-pub record Holds (contour : List ColoredEdge) (kinds : List ℕ) (points : List Float) (colors : List ℕ) : Type 0 where
-  pub kinds-are : kinds ≡ map kindOf (edgesIn contour)
-  pub points-are : points ≡ concat (map placesOf (edgesIn contour))
-  pub colors-are : colors ≡ map bitsOf (colorsIn contour)
+abbrev pub whole : List ℕ → List Float → List Bool → Cornered
+whole kinds points flags = record { edges = edgesOf kinds points; corners = flags }
 
--- the same from place `to` on, over what stood there
-pub record HoldsFrom (to : ℕ) (contour : List ColoredEdge) (kinds₀ : List ℕ) (points₀ : List Float) (colors₀ kinds : List ℕ) (points : List Float) (colors : List ℕ) : Type 0 where
-  pub kinds-are : kinds ≡ overFrom to (map kindOf (edgesIn contour)) kinds₀
-  pub points-are : points ≡ overFrom (8 * to) (concat (map placesOf (edgesIn contour))) points₀
-  pub colors-are : colors ≡ overFrom to (map bitsOf (colorsIn contour)) colors₀
+-- the contour of the edges from `at` up to `end`
+pub record Part (kinds : List ℕ) (points : List Float) (flags : List Bool) (at end : ℕ) : Type 0 where
+  pub matching : Matching kinds points flags
+  pub start : at ≤ end
+  pub inside : end ≤ length kinds
+
+abbrev pub part : List ℕ → List Float → List Bool → ℕ → ℕ → Cornered
+part kinds points flags at end =
+    record { edges = take (end - at) (drop at (edgesOf kinds points)); corners = take (end - at) (drop at flags) }
+
+-- two buffers hold edges; the same from place `to` on, over what stood there
+pub record Stored (edges : List EdgeSegment) (kinds : List ℕ) (points : List Float) : Type 0 where
+  pub kinds-are : kinds ≡ map kindOf edges
+  pub points-are : points ≡ concat (map placesOf edges)
+
+pub record StoredFrom (to : ℕ) (edges : List EdgeSegment) (kinds₀ : List ℕ) (points₀ : List Float) (kinds : List ℕ) (points : List Float) : Type 0 where
+  pub kinds-are : kinds ≡ overFrom to (map kindOf edges) kinds₀
+  pub points-are : points ≡ overFrom (8 * to) (concat (map placesOf edges)) points₀
+
+-- three buffers have room for the result of contours with these flags
+pub record Room (lengths : List ℕ) (flags : List Bool) (outLengths outKinds : List ℕ) (outPoints : List Float) : Type 0 where
+  pub lengths-fit : length lengths ≤ length outLengths
+  pub kinds-fit : total (map resultEdges (cut lengths flags)) ≤ length outKinds
+  pub points-fit : 8 * total (map resultEdges (cut lengths flags)) ≤ length outPoints
+
+-- three buffers hold the edges of a result, over what stood there
+pub record LaidOut (found : List Cornered) (lengths₀ kinds₀ : List ℕ) (points₀ : List Float) (lengths kinds : List ℕ) (points : List Float) : Type 0 where
+  pub lengths-are : lengths ≡ over (encode (map layout found) [] .lengths) lengths₀
+  pub kinds-are : kinds ≡ over (encode (map layout found) [] .kinds) kinds₀
+  pub points-are : points ≡ over (encode (map layout found) [] .points) points₀

@@ -6,7 +6,7 @@ use Prim.Native.Nat.{ℕ, _+_, _*_, _<_}
 use mathlib.Core.Bool.{Bool, true, false, not}
 use mathlib.Core.List.{List, [], _∷_, map}
 use lib.ListN.{length, getD}
-use Rattle.coloring.specs.SplineTable.{Table, Offered, offer}
+use Rattle.coloring.specs.SplineTable.{Table, offer}
 use Rattle.coloring.specs.declared.spline_table.Offer.{Offer}
 use Rattle.coloring.specs.declared.spline_table.Offer.the-variants.{Kept, Declined, Refused}
 

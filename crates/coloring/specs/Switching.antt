@@ -1,12 +1,13 @@
 -- Seed draws and colour switching, after `seed_extract2` to `switch_color_banned` of coloring/mod.rs (document 01, leaf 6).
-use Prim.Native.Nat.{ℕ, _+_, _-_, _*_, _/_, _%_, _^_}
+use Prim.Native.Nat.{ℕ, zero, suc, _+_, _-_, _*_, _/_, _%_, _^_}
 use mathlib.Core.Bool.{Bool, _||_, cond}
-use mathlib.Core.List.{[], _∷_}
+use mathlib.Core.Path.{_≡_}
+use mathlib.Core.List.{List, [], _∷_, map}
 use lib.ListN.{getD}
 use lib.Dec.{eqb}
 use Rattle.geometry.specs.EdgeColor.{bitsOf, fromBits}
 use Rattle.geometry.specs.declared.edge_color.EdgeColor.{EdgeColor}
-use Rattle.geometry.specs.declared.edge_color.EdgeColor.the-variants.{Yellow, Magenta, Cyan}
+use Rattle.geometry.specs.declared.edge_color.EdgeColor.the-variants.{Black, Yellow, Magenta, Cyan}
 use Rattle.coloring.specs.declared.switching.Pen.{Pen}
 use Rattle.coloring.specs.declared.switching.Draw.{Draw}
 
@@ -54,3 +55,28 @@ unfolding shared switchColor
 switchColorBanned banned pen =
     let combined = shared (pen .color) banned in
     cond (oneChannel combined) (record { color = fromBits (7 - combined); seed = pen .seed }) (switchColor pen)
+
+-- The colour that may not be taken with so many still to be coloured: the first one's, for the last of them.
+abbrev pub bannedBefore : EdgeColor → ℕ → EdgeColor
+bannedBefore initial left = cond (eqb left 0) initial Black
+
+-- ---- colours for splines
+
+-- the colours of a contour's splines, in order, and the pen that the next contour gets
+pub record SplineColors : Type 0 where
+  pub colors : List EdgeColor
+  pub pen : Pen
+
+-- k splines, each colour switched from the one before
+unfoldable pub switchEach : ℕ → Pen → SplineColors
+unfolding switchColor
+switchEach zero pen = record { colors = []; pen = pen }
+switchEach (suc k) pen =
+    let next = switchColor pen in
+    let rest = switchEach k next in
+    record { colors = next .color ∷ rest .colors; pen = rest .pen }
+
+-- bytes and a pen hold the colours of splines
+pub record Drawn (splines : SplineColors) (bytes : List ℕ) (pen : Pen) : Type 0 where
+  pub colors-are : bytes ≡ map bitsOf (splines .colors)
+  pub pen-is : pen ≡ splines .pen

@@ -5,11 +5,13 @@ use math::vector2::Vector2;
 use math::vector2::cross;
 use math::vector2::dot;
 ghost use mathlib.Core.Path.{_≡_};
-ghost use Prim.Native.Nat.{_≤_, _*_};
+ghost use mathlib.Core.List.{map};
+ghost use Prim.Native.Nat.{_-_};
 ghost use lib.Ieee.{lt};
-ghost use lib.ListN.{length, take};
-ghost use Rattle.coloring.specs.Corners.{abs, isCorner, estimateEdgeLength, startsAtCorner, identifyCorners};
-ghost use Rattle.coloring.specs.Outline.{edgesOf};
+ghost use lib.ListN.{length, take, drop};
+ghost use Rattle.coloring.specs.Corners.{abs, isCorner, estimateEdgeLength, startsAtCorner, cornerFlags, searchCorners, cornered, cornerCount, firstCorner};
+ghost use Rattle.coloring.specs.Outline.{edgesOf, contours, outline, overFrom, Matching, Part};
+ghost use Rattle.coloring.specs.Places.{total};
 
 // Whether the magnitude of x is above the threshold.
 fn exceeds(x: f64, threshold: f64) -> bool
@@ -55,33 +57,97 @@ pub(crate) fn starts_at_corner(threshold: f64, prev: Vector2, e: EdgeSegment) ->
     )
 }
 
-// The places of a contour's corners, and how many there are.
-pub(crate) fn identify_corners(
-    kinds: &[u8],
-    points: &[f64],
-    threshold: f64,
-    corners: &mut [usize],
-) -> usize
-    requires { ⌜ (length (now points) ≡ 8 * length (now kinds)) × (length (now kinds) ≤ length (now corners)) ⌝ }
-    ensures found { λ r. ⌜ take r (now (corners .exit)) ≡ identifyCorners threshold (edgesOf (now (kinds .entry)) (now (points .entry))) ⌝ }
-    ensures size { λ _. ⌜ length (now (corners .exit)) ≡ length (now (corners .entry)) ⌝ }
-    ensures few { λ r. ⌜ r ≤ length (now (kinds .entry)) ⌝ }
+// A flag for each edge of a contour, true where it starts at a corner.
+pub(crate) fn identify_corners(kinds: &[u8], points: &[f64], threshold: f64, flags: &mut [bool])
+    requires { ⌜ Matching (now kinds) (now points) (now flags) ⌝ }
+    ensures { λ _. ⌜ now (flags .exit) ≡ cornerFlags threshold (edgesOf (now (kinds .entry)) (now (points .entry))) ⌝ }
 {
     let m = kinds.len();
     if m == 0 {
-        return 0;
+        return;
     }
     let mut prev = edge_at(kinds, points, m - 1).direction(1.0);
-    let mut count = 0;
     let mut i = 0;
     while i < m {
         let e = edge_at(kinds, points, i);
-        if starts_at_corner(threshold, prev, e) {
-            corners[count] = i;
-            count += 1;
-        }
+        flags[i] = starts_at_corner(threshold, prev, e);
         prev = e.direction(1.0);
         i += 1;
     }
+}
+
+// The same for the contour of the edges from `at` up to `end`.
+fn identify_part(
+    kinds: &[u8],
+    points: &[f64],
+    at: usize,
+    end: usize,
+    threshold: f64,
+    flags: &mut [bool],
+)
+    requires { ⌜ Part (now kinds) (now points) (now flags) at end ⌝ }
+    ensures { λ _. ⌜ now (flags .exit) ≡
+        overFrom at (cornerFlags threshold (take (end - at) (drop at (edgesOf (now (kinds .entry)) (now (points .entry)))))) (now (flags .entry)) ⌝ }
+{
+    let from = 8 * at;
+    let to = 8 * end;
+    identify_corners(
+        &kinds[at..end],
+        &points[from..to],
+        threshold,
+        &mut flags[at..end],
+    );
+}
+
+// The corners of all contours, a flag an edge.
+pub(crate) fn find_corners(
+    lengths: &[u16],
+    kinds: &[u8],
+    points: &[f64],
+    threshold: f64,
+    flags: &mut [bool],
+)
+    requires { ⌜ Matching (now kinds) (now points) (now flags) × (total (now lengths) ≡ length (now kinds)) ⌝ }
+    ensures { λ _. ⌜ cornered (now (lengths .entry)) (edgesOf (now (kinds .entry)) (now (points .entry))) (now (flags .exit)) ≡
+        map (searchCorners threshold) (contours (outline (now (lengths .entry)) (now (kinds .entry)) (now (points .entry)))) ⌝ }
+{
+    let mut at: usize = 0;
+    let mut i = 0;
+    while i < lengths.len() {
+        let end = at + lengths[i] as usize;
+        identify_part(kinds, points, at, end, threshold, flags);
+        at = end;
+        i += 1;
+    }
+}
+
+// ---- what the flags of a contour say
+
+// How many corners there are.
+pub(crate) fn count_corners(flags: &[bool]) -> usize
+    ensures { λ r. ⌜ r ≡ cornerCount (now (flags .entry)) ⌝ }
+{
+    let mut count = 0;
+    let mut i = 0;
+    while i < flags.len() {
+        if flags[i] {
+            count += 1;
+        }
+        i += 1;
+    }
     count
+}
+
+// Where the first is; 0 where there is none.
+pub(crate) fn first_corner(flags: &[bool]) -> usize
+    ensures { λ r. ⌜ r ≡ firstCorner (now (flags .entry)) ⌝ }
+{
+    let mut i = 0;
+    while i < flags.len() {
+        if flags[i] {
+            return i;
+        }
+        i += 1;
+    }
+    0
 }

@@ -5,10 +5,10 @@ use geometry::edge_segment::EdgeSegment;
 use math::vector2::Vector2;
 ghost use mathlib.Core.Path.{_≡_};
 ghost use mathlib.Core.Bool.{true};
-ghost use mathlib.Core.List.{_++_, map};
 ghost use Prim.Native.Nat.{_≤_, _<_, _*_};
-ghost use lib.ListN.{length, getD, take, drop, set};
-ghost use Rattle.coloring.specs.Outline.{total, all, knownKind, between, inRange, usedPlaces, coordinatesFit, check, anyEdge, edgesOf, kindOf, placesOf, concat};
+ghost use lib.ListN.{length, getD, set};
+ghost use Rattle.coloring.specs.Outline.{all, knownKind, between, inRange, usedPlaces, coordinatesFit, check, anyEdge, edgesOf, kindOf, placesOf, outline, overFrom, Stored};
+ghost use Rattle.coloring.specs.Places.{total};
 
 // What the checks of an outline find.
 pub enum Checked {
@@ -16,9 +16,15 @@ pub enum Checked {
     Failed(Refusal),
 }
 
-// The answer of a colouring: the number of edges written, or the refusal.
+// What a colouring wrote: how many edges, and how many splines they belong to.
+pub struct Counts {
+    pub edges: usize,
+    pub splines: usize,
+}
+
+// The answer of a colouring: what was written, or the refusal.
 pub enum Colored {
-    Edges(usize),
+    Edges(Counts),
     Refused(Refusal),
 }
 
@@ -110,7 +116,7 @@ fn coordinates_fit(kinds: &[u8], points: &[f64]) -> bool
 
 // The first refusal of an outline and a threshold, in document 01's order.
 pub fn check(lengths: &[u16], kinds: &[u8], points: &[f64], threshold: f64) -> Checked
-    ensures { λ r. ⌜ r ≡ check (record { lengths = now (lengths .entry); kinds = now (kinds .entry); points = now (points .entry) }) threshold ⌝ }
+    ensures { λ r. ⌜ r ≡ check (outline (now (lengths .entry)) (now (kinds .entry)) (now (points .entry))) threshold ⌝ }
 {
     if lengths.len() > 64 {
         return Checked::Failed(Refusal::TooMany);
@@ -168,7 +174,7 @@ pub(crate) fn edge_at(kinds: &[u8], points: &[f64], i: usize) -> EdgeSegment
 pub(crate) fn write_edge(e: EdgeSegment, i: usize, out_kinds: &mut [u8], out_points: &mut [f64])
     requires { ⌜ (i < length (now «out_kinds»)) × (8 * length (now «out_kinds») ≡ length (now «out_points»)) ⌝ }
     ensures { λ _. ⌜ now («out_kinds» .exit) ≡ set (now («out_kinds» .entry)) i (kindOf e) ⌝ }
-    ensures { λ _. ⌜ now («out_points» .exit) ≡ take (8 * i) (now («out_points» .entry)) ++ (placesOf e ++ drop 8 (drop (8 * i) (now («out_points» .entry)))) ⌝ }
+    ensures { λ _. ⌜ now («out_points» .exit) ≡ overFrom (8 * i) (placesOf e) (now («out_points» .entry)) ⌝ }
 {
     let stored = e.to_stored();
     out_kinds[i] = stored.kind;
@@ -180,9 +186,9 @@ pub(crate) fn write_edge(e: EdgeSegment, i: usize, out_kinds: &mut [u8], out_poi
 
 // The edges of a contour, written as they are: kinds kept, unused places +0.
 pub(crate) fn copy_edges(kinds: &[u8], points: &[f64], out_kinds: &mut [u8], out_points: &mut [f64])
-    requires { ⌜ (length (now points) ≡ 8 * length (now kinds)) × (length (now «out_kinds») ≡ length (now kinds)) × (length (now «out_points») ≡ 8 * length (now kinds)) ⌝ }
-    ensures { λ _. ⌜ now («out_kinds» .exit) ≡ map kindOf (edgesOf (now (kinds .entry)) (now (points .entry))) ⌝ }
-    ensures { λ _. ⌜ now («out_points» .exit) ≡ concat (map placesOf (edgesOf (now (kinds .entry)) (now (points .entry)))) ⌝ }
+    requires { ⌜ (length (now points) ≡ 8 * length (now kinds)) × (length (now «out_kinds») ≡ length (now kinds)) ⌝ }
+    requires { ⌜ length (now «out_points») ≡ 8 * length (now kinds) ⌝ }
+    ensures { λ _. ⌜ Stored (edgesOf (now (kinds .entry)) (now (points .entry))) (now («out_kinds» .exit)) (now («out_points» .exit)) ⌝ }
 {
     let mut i = 0;
     while i < kinds.len() {

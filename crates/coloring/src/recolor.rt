@@ -4,12 +4,11 @@
 // the place of its head, and how many wait.
 ghost use mathlib.Core.Path.{_≡_};
 ghost use mathlib.Core.Bool.{cond};
-ghost use Prim.Native.Nat.{_-_, _^_, _<_, _≤_};
+ghost use Prim.Native.Nat.{_*_, _-_, _^_, _<_, _≤_};
 ghost use lib.ListN.{length};
-ghost use Rattle.coloring.specs.SplineTable as table;
-ghost use Rattle.coloring.specs.SplineTable.{vertexPossibleColors, firstPossibleColor, uncolorOne, uncolorFrom, uncolorSameNeighbors};
-ghost use Rattle.coloring.specs.Queue.{Uncoloring, Walking, ring, recoloring, ended};
-ghost use Rattle.coloring.specs.Offering.{Offerable};
+ghost use Rattle.coloring.specs.Recolor as defined;
+ghost use Rattle.coloring.specs.Recolor.{vertexPossibleColors, firstPossibleColor, uncolorOne, uncolorFrom, uncolorSameNeighbors};
+ghost use Rattle.coloring.specs.Recolor.{Uncoloring, Walking, Offerable, recoloring, walkFrom, ended};
 
 const UNCOLORED: u8 = 3;
 
@@ -23,11 +22,21 @@ pub(crate) enum Walked {
     Stopped(u8),
 }
 
+// The row of spline v: its entries with every other spline.
+pub(crate) fn row(edge_matrix: &[u8], n: usize, v: usize) -> &[u8]
+    requires { ⌜ (length (now «edge_matrix») ≡ n * n) × (v < n) × (n ≤ 64) ⌝ }
+    ensures { λ r. ⌜ now r ≡ defined.row n (now («edge_matrix» .entry)) v ⌝ }
+{
+    let start = v * n;
+    let end = start + n;
+    &edge_matrix[start..end]
+}
+
 // Whether some spline that the row joins has the colour c. No early end: the loop then runs on
 // many bytes at a time.
 fn uses(coloring: &[u8], entries: &[u8], c: u8) -> bool
     requires { ⌜ length (now coloring) ≡ length (now entries) ⌝ }
-    ensures { λ r. ⌜ r ≡ table.uses c (now (coloring .entry)) (now (entries .entry)) ⌝ }
+    ensures { λ r. ⌜ r ≡ defined.uses c (now (coloring .entry)) (now (entries .entry)) ⌝ }
 {
     let mut found = false;
     let mut i = 0;
@@ -76,7 +85,8 @@ fn uncolor_one(
     waiting: usize,
 ) -> usize
     requires { ⌜ Uncoloring (now coloring) (now queue) (now entries) head waiting c × (i < length (now coloring)) ⌝ }
-    ensures { λ r. ⌜ recoloring (now (coloring .exit)) (now (queue .exit)) head r ≡ uncolorOne (now (entries .entry)) c i (recoloring (now (coloring .entry)) (now (queue .entry)) head waiting) ⌝ }
+    ensures { λ r. ⌜ recoloring (now (coloring .exit)) (now (queue .exit)) head r
+        ≡ uncolorOne (now (entries .entry)) c i (recoloring (now (coloring .entry)) (now (queue .entry)) head waiting) ⌝ }
 {
     if entries[i] != 0 && coloring[i] == c {
         coloring[i] = UNCOLORED;
@@ -98,7 +108,8 @@ fn uncolor_from(
     waiting: usize,
 ) -> usize
     requires { ⌜ Uncoloring (now coloring) (now queue) (now entries) head waiting c × (to ≤ length (now coloring)) ⌝ }
-    ensures { λ r. ⌜ recoloring (now (coloring .exit)) (now (queue .exit)) head r ≡ uncolorFrom (now (entries .entry)) c from (to - from) (recoloring (now (coloring .entry)) (now (queue .entry)) head waiting) ⌝ }
+    ensures { λ r. ⌜ recoloring (now (coloring .exit)) (now (queue .exit)) head r
+        ≡ uncolorFrom (now (entries .entry)) c from (to - from) (recoloring (now (coloring .entry)) (now (queue .entry)) head waiting) ⌝ }
 {
     let mut count = waiting;
     let mut i = from;
@@ -120,7 +131,8 @@ fn uncolor_same_neighbors(
     waiting: usize,
 ) -> usize
     requires { ⌜ Uncoloring (now coloring) (now queue) (now entries) head waiting c × (v < length (now coloring)) ⌝ }
-    ensures { λ r. ⌜ recoloring (now (coloring .exit)) (now (queue .exit)) head r ≡ uncolorSameNeighbors (length (now (coloring .entry))) (now (entries .entry)) c v (recoloring (now (coloring .entry)) (now (queue .entry)) head waiting) ⌝ }
+    ensures { λ r. ⌜ recoloring (now (coloring .exit)) (now (queue .exit)) head r
+        ≡ uncolorSameNeighbors (now (entries .entry)) c v (recoloring (now (coloring .entry)) (now (queue .entry)) head waiting) ⌝ }
 {
     let n = coloring.len();
     let above = v + 1;
@@ -140,23 +152,22 @@ fn walk(
     first: usize,
 ) -> Walked
     requires { ⌜ Walking (now coloring) (now queue) (now «edge_matrix») a first ⌝ }
-    ensures { λ r. ⌜ ended r (now (coloring .exit)) ≡ table.walk (length (now (coloring .entry))) (now («edge_matrix» .entry)) a c (table.walkFuel (length (now (coloring .entry)))) 0 (now (coloring .entry)) (ring (now (queue .entry)) 0 first) ⌝ }
+    ensures { λ r. ⌜ ended r (now (coloring .exit))
+        ≡ walkFrom (now («edge_matrix» .entry)) a c (recoloring (now (coloring .entry)) (now (queue .entry)) 0 first) ⌝ }
 {
     let n = coloring.len();
     let mut head = 0;
     let mut waiting = first;
     let mut step: u8 = 0;
     'walk: while 0 < waiting {
+        let i = queue[head] as usize;
+        let entries = row(edge_matrix, n, i);
+        let possible = vertex_possible_colors(coloring, entries);
         if MAX_RECOLOR_STEPS <= step {
             break 'walk;
         }
-        let i = queue[head] as usize;
         head = (head + 1) % 64;
         waiting -= 1;
-        let start = i * n;
-        let end = start + n;
-        let entries = &edge_matrix[start..end];
-        let possible = vertex_possible_colors(coloring, entries);
         if possible != 0 {
             coloring[i] = first_possible_color(possible);
             continue 'walk;
@@ -198,16 +209,13 @@ pub(crate) fn recolor(
     b: usize,
 ) -> Walked
     requires { ⌜ Offerable (now coloring) (now «edge_matrix») a b × (length (now buffer) ≡ length (now coloring)) ⌝ }
-    ensures { λ r. ⌜ ended r (now (buffer .exit)) ≡ table.recolor (length (now (coloring .entry))) (now (coloring .entry)) (now («edge_matrix» .entry)) a b ⌝ }
+    ensures { λ r. ⌜ ended r (now (buffer .exit)) ≡ defined.recolor (now (coloring .entry)) (now («edge_matrix» .entry)) a b ⌝ }
 {
-    let n = coloring.len();
     bytes::copy(coloring, buffer);
     let c = coloring[a];
     let d = first_possible_color(other_colors(c));
     buffer[b] = d;
-    let start = b * n;
-    let end = start + n;
-    let entries = &edge_matrix[start..end];
+    let entries = row(edge_matrix, coloring.len(), b);
     let mut queue = [0u8; 64];
     let waiting = uncolor_same_neighbors(buffer, &mut queue, entries, d, b, 0, 0);
     walk(buffer, &mut queue, edge_matrix, a, c, waiting)

@@ -1,7 +1,8 @@
 // Seed draws and colour switching of coloring/mod.rs. Colour and seed pass through by value, as one `Pen`.
 use geometry::edge_color::EdgeColor;
 ghost use mathlib.Core.Path.{_≡_};
-ghost use Rattle.coloring.specs.Switching.{seedExtract2, seedExtract3, initColor, switchColor, oneChannel, switchColorBanned};
+ghost use lib.ListN.{length};
+ghost use Rattle.coloring.specs.Switching.{seedExtract2, seedExtract3, initColor, switchColor, oneChannel, switchColorBanned, bannedBefore, switchEach, Drawn};
 
 // The colour that is being drawn with, and the seed that is left.
 pub struct Pen {
@@ -88,4 +89,26 @@ pub(crate) fn switch_color_banned(pen: Pen, banned: EdgeColor) -> Pen
     } else {
         switch_color(pen)
     }
+}
+
+// The colour that may not be taken with so many still to be coloured: the first one's, for the last of them.
+pub(crate) fn banned_before(initial: EdgeColor, left: usize) -> EdgeColor
+    ensures { λ r. ⌜ r ≡ bannedBefore initial left ⌝ }
+{
+    if left == 0 { initial } else { EdgeColor::Black }
+}
+
+// A colour for each spline, switched from the one before.
+pub(crate) fn switch_each(pen: Pen, colors: &mut [u8]) -> Pen
+    ensures { λ r. ⌜ Drawn (switchEach (length (now (colors .entry))) pen) (now (colors .exit)) r ⌝ }
+{
+    let mut pen = pen;
+    let mut i = 0;
+    while i < colors.len() {
+        pen = switch_color(pen);
+        let color = pen.color;
+        colors[i] = color.bits();
+        i += 1;
+    }
+    pen
 }

@@ -1,49 +1,33 @@
-// Colours of a contour with no corner or one: one colour for all edges, and the three runs of `color_teardrop` of coloring/mod.rs. The colours of a
-// contour's edges stand in a slice of bytes.
+// The three runs of a contour with one corner, after `color_teardrop` of coloring/mod.rs. What the edges get stands in a slice of bytes.
 use crate::trichotomy::symmetrical_trichotomy;
-use geometry::edge_color::EdgeColor;
 ghost use mathlib.Core.Path.{_≡_};
-ghost use mathlib.Core.List.{map};
 ghost use Prim.Native.Nat.{_≤_, _<_};
-ghost use lib.ListN.{length, replicate};
-ghost use Rattle.geometry.specs.EdgeColor.{bitsOf};
-ghost use Rattle.coloring.specs.Contour.{byPlace, thirdOf, teardropColors};
+ghost use lib.ListN.{length};
+ghost use Rattle.coloring.specs.Places.{byPlace};
+ghost use Rattle.coloring.specs.Teardrop.{thirdOf, runs};
 
-// One colour for all edges.
-pub(crate) fn fill_color(colors: &mut [u8], color: EdgeColor)
-    ensures { λ _. ⌜ now (colors .exit) ≡ map bitsOf (replicate (length (now (colors .entry))) color) ⌝ }
-{
-    let bits = color.bits();
-    let mut i = 0;
-    while i < colors.len() {
-        colors[i] = bits;
-        i += 1;
-    }
-}
-
-// The colour of a third: first, White, last for -1, 0, 1.
-fn third_of(first: EdgeColor, last: EdgeColor, third: i32) -> EdgeColor
-    ensures { λ r. ⌜ r ≡ thirdOf first last third ⌝ }
+// What a third gets: first, middle, last for -1, 0, 1.
+fn third_of(first: u8, middle: u8, last: u8, third: i32) -> u8
+    ensures { λ r. ⌜ r ≡ thirdOf first middle last third ⌝ }
 {
     if third < 0 {
         return first;
     }
     if third == 0 {
-        return EdgeColor::White;
+        return middle;
     }
     last
 }
 
-// The three runs of three edges or more, from the corner on.
-pub(crate) fn paint_teardrop(colors: &mut [u8], corner: usize, first: EdgeColor, last: EdgeColor)
-    requires { ⌜ (corner < length (now colors)) × (length (now colors) ≤ 256) ⌝ }
-    ensures { λ _. ⌜ now (colors .exit) ≡ map bitsOf (byPlace corner (teardropColors first last (length (now (colors .entry))))) ⌝ }
+// The runs, from the corner on.
+pub(crate) fn paint_runs(corner: usize, first: u8, middle: u8, last: u8, out: &mut [u8])
+    requires { ⌜ (corner < length (now out)) × (length (now out) ≤ 256) ⌝ }
+    ensures { λ _. ⌜ now (out .exit) ≡ byPlace corner (runs first middle last (length (now (out .entry)))) ⌝ }
 {
-    let m = colors.len();
+    let m = out.len();
     let mut i = 0;
     while i < m {
-        let color = third_of(first, last, symmetrical_trichotomy(i, m));
-        colors[(corner + i) % m] = color.bits();
+        out[(corner + i) % m] = third_of(first, middle, last, symmetrical_trichotomy(i, m));
         i += 1;
     }
 }

@@ -1,5 +1,6 @@
 // The square root of a double, correctly rounded, by whole numbers alone.
 ghost use mathlib.Core.Path.{_≡_};
+ghost use mathlib.Core.Logic.{_⊎_};
 ghost use Prim.Native.Nat.{_+_, _*_, _^_, _≤_, _<_};
 ghost use Rattle.math.specs.Sqrt.{root, shift, significand, exponent, rounded, positiveRoot, infinityPattern, sqrtBits, sqrtOf};
 
@@ -52,26 +53,27 @@ struct Partial {
     rest: u64,
 }
 
+// The next digit: 1 where odd can be taken from rem. Without a branch, since digits are as good as random.
+fn digit(odd: u64, rem: u64) -> u64
+    ensures { λ r. ⌜ ((odd ≤ rem) × (r ≡ 1)) ⊎ ((rem < odd) × (r ≡ 0)) ⌝ }
+{
+    (odd <= rem) as u64
+}
+
 // One more digit of the root, from two more of the number.
 fn next_digit(s: Partial) -> Partial
     requires { ⌜ (s .root < 2 ^ 52) × (s .rem ≤ 2 * s .root) × (s .rest < 2 ^ 54) ⌝ }
-    ensures { λ t. ⌜ ((t .root * t .root + t .rem) * 2 ^ 54 + t .rest ≡ 4 * ((s .root * s .root + s .rem) * 2 ^ 54 + s .rest)) × (t .root ≤ 2 * s .root + 1) × (t .rem ≤ 2 * t .root) × (t .rest < 2 ^ 54) ⌝ }
+    ensures { λ t. ⌜ ((t .root * t .root + t .rem) * 2 ^ 54 + t .rest ≡ 4 * ((s .root * s .root + s .rem) * 2 ^ 54 + s .rest))
+        × (t .root ≤ 2 * s .root + 1) × (t .rem ≤ 2 * t .root) × (t .rest < 2 ^ 54) ⌝ }
 {
     let rem = s.rem * 4 + s.rest / LEADING;
     let rest = s.rest % LEADING * 4;
     let odd = s.root * 4 + 1;
-    if odd <= rem {
-        Partial {
-            root: s.root * 2 + 1,
-            rem: rem - odd,
-            rest,
-        }
-    } else {
-        Partial {
-            root: s.root * 2,
-            rem,
-            rest,
-        }
+    let digit = digit(odd, rem);
+    Partial {
+        root: s.root * 2 + digit,
+        rem: rem - odd * digit,
+        rest,
     }
 }
 

@@ -1,9 +1,11 @@
-//! Runs the proved code, through target/staticlib/libcapi.a, beside the Rust of docs/src, and counts
+//! Runs the proved code, through the archives of target/staticlib, beside the Rust of docs/src, and counts
 //! the answers that differ. The last line is the verdict. A word names one part alone: `leaves`,
-//! `edges`, `tables`, `shapes`; `speed` measures and compares nothing.
+//! `edges`, `tables`, `shapes`, `distances`; `speed` measures and compares nothing.
 
+mod distances;
 mod edges;
 mod leaves;
+mod records;
 mod shapes;
 mod tables;
 
@@ -53,17 +55,21 @@ fn main() {
             edges::compare(&mut all);
             tables::compare(&mut all);
             shapes::compare(&mut all);
+            distances::compare(&mut all);
         }
         Some("leaves") => leaves::compare(&mut all),
         Some("edges") => edges::compare(&mut all),
         Some("tables") => tables::compare(&mut all),
         Some("shapes") => shapes::compare(&mut all),
+        Some("distances") => distances::compare(&mut all),
         Some("speed") => {
             tables::speed();
-            return shapes::speed();
+            shapes::speed();
+            distances::speed();
+            return;
         }
         Some(_) => {
-            eprintln!("usage: compare [leaves | edges | tables | shapes | speed]");
+            eprintln!("usage: compare [leaves | edges | tables | shapes | distances | speed]");
             std::process::exit(2);
         }
     }

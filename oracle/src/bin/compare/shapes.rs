@@ -99,7 +99,7 @@ fn proved(
 }
 
 /// A buffer as it is lent: with places before and after it that must stay as they are.
-struct Lent<T> {
+pub struct Lent<T> {
     places: Vec<T>,
     margin: T,
 }
@@ -107,16 +107,16 @@ struct Lent<T> {
 const MARGIN: usize = 8;
 
 impl<T: Copy + PartialEq> Lent<T> {
-    fn new(part: &[T], margin: T) -> Self {
+    pub fn new(part: &[T], margin: T) -> Self {
         Lent { places: [&[margin; MARGIN], part, &[margin; MARGIN]].concat(), margin }
     }
 
-    fn part(&mut self) -> &mut [T] {
+    pub fn part(&mut self) -> &mut [T] {
         let end = self.places.len() - MARGIN;
         &mut self.places[MARGIN..end]
     }
 
-    fn is(&self, part: &[T]) -> bool {
+    pub fn is(&self, part: &[T]) -> bool {
         let (before, rest) = self.places.split_at(MARGIN);
         let (held, after) = rest.split_at(rest.len() - MARGIN);
         held == part && before.iter().chain(after).all(|&x| x == self.margin)
@@ -163,17 +163,17 @@ fn compare_call(part: &mut Tally, strategy: Strategy, call: &Call) -> (Answer, B
 
 /// How often each class was met, in the order in which they are first named.
 #[derive(Default)]
-struct Classes(Vec<(&'static str, u64)>);
+pub struct Classes(Vec<(&'static str, u64)>);
 
 impl Classes {
-    fn note(&mut self, name: &'static str, met: bool) {
+    pub fn note(&mut self, name: &'static str, met: bool) {
         match self.0.iter_mut().find(|class| class.0 == name) {
             Some(class) => class.1 += met as u64,
             None => self.0.push((name, met as u64)),
         }
     }
 
-    fn close(&self, all: &mut Tally) {
+    pub fn close(&self, all: &mut Tally) {
         for (name, count) in &self.0 {
             println!("{name:60}{count:>10}");
             all.met(*count, || name.to_string());
@@ -299,7 +299,7 @@ impl Classes {
     }
 }
 
-fn corners(edges: &Edges, threshold: f64) -> Vec<usize> {
+pub fn corners(edges: &Edges, threshold: f64) -> Vec<usize> {
     let found = probe::corners(&source_shape(std::slice::from_ref(edges)).contours[0], threshold);
     let at = |i: usize| {
         let (a, b) = directions(edges, i);
@@ -473,7 +473,7 @@ pub fn compare(all: &mut Tally) {
 // ---- speed
 
 /// The best of several runs.
-fn best(mut run: impl FnMut()) -> Duration {
+pub fn best(mut run: impl FnMut()) -> Duration {
     let time = |_| {
         let from = Instant::now();
         run();
@@ -482,46 +482,54 @@ fn best(mut run: impl FnMut()) -> Duration {
     (0..25).map(time).min().unwrap()
 }
 
-/// 256 edges, lines and cubics, in 8 contours, half of them with fewer corners.
-fn mixed(r: &mut Random, threshold: f64) -> Vec<Edges> {
+/// 256 edges, lines and cubics, in contours of one length, every other one with fewer corners.
+fn mixed(r: &mut Random, contours: u64, threshold: f64) -> Vec<Edges> {
     let contour = |i: u64| {
         let rare = if i % 2 == 0 { 2 } else { 8 };
-        let corners: Vec<bool> = (0..32).map(|_| r.below(rare) == 0).collect();
+        let corners: Vec<bool> = (0..256 / contours).map(|_| r.below(rare) == 0).collect();
         contours::planned(r, &corners, threshold, &[1, 3])
     };
-    (0..8).map(contour).collect()
+    (0..contours).map(contour).collect()
 }
+
+/// 64 shapes, one after the other.
+const TURNS: usize = 64;
 
 pub fn speed() {
     let r = &mut Random(402);
     let threshold = 0.125;
-    let shape = mixed(r, threshold);
-    let o = outline(r, &shape);
-    let mut out = buffers(r, 64, 508, 4064, 508);
-    let mut source = source_shape(&shape);
-    println!("256 mixed edges in 8 contours, in microseconds, the best of 25 runs of 100");
-    for strategy in STRATEGIES {
-        let proved = best(|| {
-            for seed in 0..100 {
-                let (l, k) = (&mut out.lengths[..], &mut out.kinds[..]);
-                let (p, c) = (&mut out.points[..], &mut out.colors[..]);
-                black_box(proved(strategy, &o, threshold, seed, l, k, p, c));
+    println!(
+        "256 mixed edges, in microseconds a shape, the best of 25 runs of {TURNS} different shapes"
+    );
+    for count in [8, 64] {
+        let shapes: Vec<Vec<Edges>> = (0..TURNS).map(|_| mixed(r, count, threshold)).collect();
+        let outlines: Vec<Outline> = shapes.iter().map(|shape| outline(r, shape)).collect();
+        let mut sources: Vec<_> = shapes.iter().map(|shape| source_shape(shape)).collect();
+        let mut outs: Vec<Buffers> = (0..TURNS).map(|_| buffers(r, 64, 508, 4064, 508)).collect();
+        for strategy in STRATEGIES {
+            let proved = best(|| {
+                for (seed, (o, out)) in outlines.iter().zip(&mut outs).enumerate() {
+                    let (l, k) = (&mut out.lengths[..], &mut out.kinds[..]);
+                    let (p, c) = (&mut out.points[..], &mut out.colors[..]);
+                    black_box(proved(strategy, o, threshold, seed as u64, l, k, p, c));
+                }
+            });
+            let rust = best(|| {
+                for (seed, source) in sources.iter_mut().enumerate() {
+                    run(strategy, black_box(source), threshold, seed as u64);
+                }
+            });
+            for (source, out) in sources.iter().zip(&outs) {
+                let colors = source.contours.iter().flat_map(|c| &c.colors).map(|c| c.bits());
+                assert!(colors.eq(out.colors[..256].iter().copied()), "the two ended differently");
             }
-        });
-        let rust = best(|| {
-            for seed in 0..100 {
-                run(strategy, black_box(&mut source), threshold, seed);
-            }
-        });
-        let colors: Vec<u8> =
-            source.contours.iter().flat_map(|c| &c.colors).map(|c| c.bits()).collect();
-        assert_eq!(colors, out.colors[..256], "the two ended in different colours");
-        let us = |d: Duration| d.as_secs_f64() * 1e6 / 100.0;
-        println!(
-            "{strategy:?}: proved {:.1}, Rust {:.1}, proved / Rust {:.2}",
-            us(proved),
-            us(rust),
-            us(proved) / us(rust)
-        );
+            let us = |d: Duration| d.as_secs_f64() * 1e6 / TURNS as f64;
+            println!(
+                "{count} contours, {strategy:?}: proved {:.1}, Rust {:.1}, proved / Rust {:.2}",
+                us(proved),
+                us(rust),
+                us(proved) / us(rust)
+            );
+        }
     }
 }

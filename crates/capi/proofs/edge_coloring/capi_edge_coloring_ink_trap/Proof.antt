@@ -1,7 +1,7 @@
 -- `capi::edge_coloring::capi_edge_coloring_ink_trap` meets its contract, by those of its callees. Assumes nothing.
 use borrow.Author.Needs.{needs}
-use mathlib.Core.Path.{ap, _∙_}
-use Rattle.capi.specs.Colored.{coloredCode}
+use Rattle.capi.specs.EdgeColoring.{coloredCode}
+use Rattle.capi.proofs.Handing.{hands-out}
 use Rattle.capi.proofs.edge_coloring.capi_edge_coloring_ink_trap.Statement.{statement}
 use Rattle.capi.proofs.edge_coloring.capi_edge_coloring_ink_trap.Tie as tie
 
@@ -25,14 +25,9 @@ same-length-4 c = search needs
 
 returns : tie.Need-returns
 returns c =
-    let colored = c .before .before .before .before .before .before .before .before .before .edge-coloring-ink-trap .ensures in
-    record {
-      code-is = c .code .ensures ∙ ap coloredCode (colored .answers);
-      lengths-are = colored .lengths-are;
-      kinds-are = colored .kinds-are;
-      points-are = colored .points-are;
-      colors-are = colored .colors-are;
-    }
+    let edge-coloring-ink-trap = c .before .before .before .before .before .before .before .before .before in
+    let colored = edge-coloring-ink-trap .edge-coloring-ink-trap .ensures in
+    hands-out coloredCode (c .code .ensures) colored
 
 pub capi-edge-coloring-ink-trap-spec : {M : Type 1} → statement M
 capi-edge-coloring-ink-trap-spec =

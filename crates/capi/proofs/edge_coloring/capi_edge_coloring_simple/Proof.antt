@@ -1,7 +1,7 @@
 -- `capi::edge_coloring::capi_edge_coloring_simple` meets its contract, by those of its callees. Assumes nothing.
 use borrow.Author.Needs.{needs}
-use mathlib.Core.Path.{ap, _∙_}
-use Rattle.capi.specs.Colored.{coloredCode}
+use Rattle.capi.specs.EdgeColoring.{coloredCode}
+use Rattle.capi.proofs.Handing.{hands-out}
 use Rattle.capi.proofs.edge_coloring.capi_edge_coloring_simple.Statement.{statement}
 use Rattle.capi.proofs.edge_coloring.capi_edge_coloring_simple.Tie as tie
 
@@ -25,14 +25,9 @@ same-length-4 c = search needs
 
 returns : tie.Need-returns
 returns c =
-    let colored = c .before .before .before .before .before .before .before .before .before .edge-coloring-simple .ensures in
-    record {
-      code-is = c .code .ensures ∙ ap coloredCode (colored .answers);
-      lengths-are = colored .lengths-are;
-      kinds-are = colored .kinds-are;
-      points-are = colored .points-are;
-      colors-are = colored .colors-are;
-    }
+    let edge-coloring-simple = c .before .before .before .before .before .before .before .before .before in
+    let colored = edge-coloring-simple .edge-coloring-simple .ensures in
+    hands-out coloredCode (c .code .ensures) colored
 
 pub capi-edge-coloring-simple-spec : {M : Type 1} → statement M
 capi-edge-coloring-simple-spec =

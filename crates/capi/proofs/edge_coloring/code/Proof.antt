@@ -1,6 +1,6 @@
 -- `capi::edge_coloring::code` meets its contract, by the cases of the answer. Assumes nothing.
 use borrow.Author.Needs.{needs}
-use mathlib.Core.Path.{ap}
+use mathlib.Core.Path.{ap, _∙_}
 use Prim.Native.Nat.{ℕ, _+_}
 use Rattle.capi.proofs.edge_coloring.code.Statement.{statement}
 use Rattle.capi.proofs.edge_coloring.code.Tie as tie
@@ -14,6 +14,9 @@ enum-known-answer-2 c = search needs
 number-requires : tie.Need-number-requires
 number-requires c κs = search needs
 
+wide-requires : tie.Need-wide-requires
+wide-requires c κs = search needs
+
 add-result : tie.Need-add-result
 add-result c = search needs
 
@@ -21,9 +24,9 @@ returns : tie.Need-returns
 returns c = search needs
 
 returns-2 : tie.Need-returns-2
-returns-2 c = rw (c .before .before .answer2 .given .1) (ap (λ (k : ℕ). 4294967296 + k) (c .number .ensures .0))
+returns-2 c = rw (c .before .before .before .answer2 .given .1) (ap (λ (k : ℕ). 4294967296 + k) (c .wide .ensures .0 ∙ c .before .number .ensures))
 
 pub code-spec : {M : Type 1} → statement M
 code-spec =
     tie.close
-    (tie.spec enum-known-answer enum-known-answer-2 number-requires add-result returns returns-2)
+    (tie.spec enum-known-answer enum-known-answer-2 number-requires wide-requires add-result returns returns-2)

@@ -2,7 +2,7 @@
 use borrow.Author.Needs.{needs}
 use mathlib.Core.Path.{ap, _∙_}
 use Rattle.coloring.specs.SplineTable.{Offered}
-use Rattle.capi.specs.Answer.{answerCode}
+use Rattle.capi.specs.SplineTable.{answerCode}
 use Rattle.capi.proofs.spline_table.capi_try_add_edge.Statement.{statement}
 use Rattle.capi.proofs.spline_table.capi_try_add_edge.Tie as tie
 

@@ -1,42 +1,54 @@
--- `coloring::corners::identify_corners` meets its contract: what was found before place i, and what is found from there on, are the corners.
-use mathlib.Core.Path.{refl, sym, _∙_}
-use mathlib.Core.Logic.{⊎-elim}
-use Prim.Native.Nat.{_-_}
+-- `identify_corners` meets its contract: the edges before place i have their flags, and `prev` is the direction in which the edge before i ends.
 use native.Mathlib.Omega.{arith}
 use borrow.Author.Needs.{needs}
-use lib.ListN.{length}
-use Rattle.coloring.specs.Outline.{anyEdge, edgesOf}
-use Rattle.coloring.proofs.OutlineLaws.{edges-length}
-use Rattle.coloring.proofs.CornerLaws.{no-corners, Finding, finding-starts, finding-corner, finding-none, finding-ends}
+use mathlib.Core.Path.{_≡_, refl, sym, _∙_}
+use Prim.Native.Nat.{_-_, _≤_, _<_}
+use lib.ListN.{length, drop, length-set}
+use Rattle.coloring.specs.Corners.{flagsFrom, cornerFlags}
+use Rattle.coloring.specs.Outline.{anyEdge, edgesOf, overFrom}
+use Rattle.coloring.proofs.Lists.{length-zero}
+use Rattle.coloring.proofs.Writing.{over-all, over-next, over-nothing}
+use Rattle.coloring.proofs.outline.EdgeLaws.{edges-length}
+use Rattle.coloring.proofs.corners.SearchLaws.{flags-start, no-flags, flags-length, flags-next, flags-end}
 use Rattle.coloring.proofs.corners.identify_corners.Statement.{statement}
 use Rattle.coloring.proofs.corners.identify_corners.Tie as tie
 
 abbrev Inv-loop : tie.InvT-loop
-Inv-loop kinds points threshold corners₀ m prev₀ count₀ i₀ corners prev count i =
-    Finding threshold (edgesOf kinds points) m (length corners₀) corners prev count i
+Inv-loop kinds points threshold flags₀ m prev₀ i₀ flags prev i =
+    (m ≡ length kinds) × (i ≤ m) × (length flags ≡ m)
+    × (cornerFlags threshold (edgesOf kinds points) ≡ overFrom i (flagsFrom threshold prev (drop i (edgesOf kinds points))) flags)
 
 abbrev μ-loop : tie.MeasureT-loop
-μ-loop kinds points threshold corners₀ m prev₀ count₀ i₀ corners prev count i = m - i
+μ-loop kinds points threshold flags₀ m prev₀ i₀ flags prev i = m - i
 
 returns : tie.Need-returns Inv-loop μ-loop
 returns c =
     let a = c .before .before .before .before .args in
-    (no-corners (a .threshold) (edgesOf (a .kinds .now) (a .points .now)) (edges-length (a .kinds .now) (a .points .now) ∙ c .if1 .taken), (refl, omega arith))
+    length-zero (a .flags .now) (c .before .before .before .before .pre .flagged ∙ c .if1 .taken)
+    ∙ sym (no-flags (a .threshold) (edgesOf (a .kinds .now) (a .points .now)) (edges-length (a .kinds .now) (a .points .now) ∙ c .if1 .taken))
 
 sub-edge-at : tie.Need-sub-edge-at Inv-loop μ-loop
-sub-edge-at c = search needs
+sub-edge-at c = omega arith
 
 edge-at-requires : tie.Need-edge-at-requires Inv-loop μ-loop
-edge-at-requires c κs = search needs
+edge-at-requires c κs = (omega arith, c .before .before .before .before .pre .places)
 
 direction-requires : tie.Need-direction-requires Inv-loop μ-loop
 direction-requires c κs = search needs
 
 loop-holds : tie.Need-loop-holds Inv-loop μ-loop
 loop-holds c =
-    let a = c .before .before .before .before .before .before .args in
-    rw (c .direction .ensures, c .before .edge-at .ensures)
-    (finding-starts (a .threshold) (edgesOf (a .kinds .now) (a .points .now)) (length (a .kinds .now)) (length (a .corners .now)) (a .corners .now) anyEdge (edges-length (a .kinds .now) (a .points .now)) refl (omega arith) (omega arith))
+    let start = c .before .before .before .before .before .before in
+    let edges = edgesOf (start .args .kinds .now) (start .args .points .now) in
+    let l = edges-length (start .args .kinds .now) (start .args .points .now) in
+    let long : length (start .args .flags .now) ≡ length (cornerFlags (start .args .threshold) edges) =
+    start .pre .flagged ∙ sym (flags-length (start .args .threshold) edges ∙ l) in (
+      refl,
+      omega arith,
+      start .pre .flagged,
+      rw (c .direction .ensures, c .before .edge-at .ensures, ← flags-start (start .args .threshold) edges (length (start .args .kinds .now)) anyEdge l (omega arith))
+          (sym (over-all (cornerFlags (start .args .threshold) edges) (start .args .flags .now) long)),
+    )
 
 edge-at-requires-2 : tie.Need-edge-at-requires-2 Inv-loop μ-loop
 edge-at-requires-2 c κs = omega arith
@@ -44,14 +56,8 @@ edge-at-requires-2 c κs = omega arith
 starts-at-corner-requires : tie.Need-starts-at-corner-requires Inv-loop μ-loop
 starts-at-corner-requires c κs = search needs
 
-mul-corners : tie.Need-mul-corners Inv-loop μ-loop
-mul-corners c = omega arith
-
-slice-write-corners : tie.Need-slice-write-corners Inv-loop μ-loop
-slice-write-corners c = omega arith
-
-add-count : tie.Need-add-count Inv-loop μ-loop
-add-count c = omega arith
+slice-write-flags : tie.Need-slice-write-flags Inv-loop μ-loop
+slice-write-flags c = omega arith
 
 direction-requires-2 : tie.Need-direction-requires-2 Inv-loop μ-loop
 direction-requires-2 c κs = search needs
@@ -64,20 +70,31 @@ loop-less c = omega arith
 
 loop-again : tie.Need-loop-again Inv-loop μ-loop
 loop-again c =
-    let t = c .before .before in
-    let s = t .before .before .before in
-    let e = t .before .edge-at2 .ensures in
-    let test = rw e at (t .starts-at-corner .ensures) in
-    rw (c .direction2 .ensures, e)
-    (⊎-elim (λ w. rw (w .1, w .2) (finding-corner _ _ _ _ _ _ _ _ anyEdge (s .loop .inv) (t .before .before .loop-test .taken) (sym test ∙ w .0 .taken)))
-    (λ w. rw (w .1, w .2) (finding-none _ _ _ _ _ _ _ _ anyEdge (s .loop .inv) (t .before .before .loop-test .taken) (sym test ∙ w .0 .left)))
-    (c .before .if2 .came))
+    let start = c .before .before .before .before .before .before .before .before .before .before .before in
+    let at = c .before .before .before .before .loop in
+    let edges = edgesOf (start .args .kinds .now) (start .args .points .now) in
+    let h : at .i < length edges = omega (arith, edges-length (start .args .kinds .now) (start .args .points .now)) in
+    let e = c .before .before .edge-at2 .ensures in (
+      at .inv .0,
+      omega arith,
+      simp length-set (at .inv .2),
+      at .inv .3
+          ∙ rw (c .direction2 .ensures, c .before .starts-at-corner .ensures, e, flags-next (start .args .threshold) (at .prev) edges (at .i) anyEdge h)
+          (over-next (at .i) _ _ (at .flags) (omega arith)),
+    )
 
 same-length : tie.Need-same-length Inv-loop μ-loop
 same-length c = omega arith
 
 returns-2 : tie.Need-returns-2 Inv-loop μ-loop
-returns-2 c = (finding-ends _ _ _ _ _ _ _ _ (c .before .loop .inv) (c .loop-test .left), (c .before .loop .inv .long, omega arith))
+returns-2 c =
+    let start = c .before .before .before .before .before .before .before .before in
+    let at = c .before .loop in
+    let edges = edgesOf (start .args .kinds .now) (start .args .points .now) in
+    sym
+    (at .inv .3
+    ∙ rw (flags-end (start .args .threshold) (at .prev) edges (at .i) (omega (arith, edges-length (start .args .kinds .now) (start .args .points .now))))
+    (over-nothing (at .i) (at .flags)))
 
 pub identify-corners-spec : {M : Type 1} → statement M
 identify-corners-spec =
@@ -92,9 +109,7 @@ identify-corners-spec =
     loop-holds
     edge-at-requires-2
     starts-at-corner-requires
-    mul-corners
-    slice-write-corners
-    add-count
+    slice-write-flags
     direction-requires-2
     add-i
     loop-less

@@ -1,37 +1,21 @@
--- `coloring::edge_coloring::edge_coloring` meets its contract: a refusal of the checks, 11 where the count says so, or the contours coloured.
-use mathlib.Core.Path.{_≡_, refl, sym, _∙_}
+-- `edge_coloring` meets its contract: a refusal of the checks, or the colouring.
 use borrow.Author.Needs.{needs}
-use borrow.Author.Tests.{not-true, not-false}
+use mathlib.Core.Path.{_≡_, sym, _∙_}
 use lib.ListN.{length}
+use lib.Seq.{length-take-le}
 use Rattle.coloring.specs.declared.outline.Checked.the-variants.{Passed}
-use Rattle.coloring.specs.Switching.{initColor}
-use Rattle.coloring.specs.Outline.{Outline, Result, contours, check, encode, fits, deliver}
-use Rattle.coloring.specs.Coloring.{colorContour, colorContours, resultEdges}
-use Rattle.coloring.proofs.DeliverLaws.{passed-agrees, hasRoom, result-fits, room-fits}
+use Rattle.coloring.specs.Outline.{outline, check, deliver, Agrees}
+use Rattle.coloring.specs.EdgeColoring.{edgeColoring}
+use Rattle.coloring.proofs.shape.DeliverLaws.{passed-agrees}
 use Rattle.coloring.proofs.edge_coloring.edge_coloring.Statement.{statement}
 use Rattle.coloring.proofs.edge_coloring.edge_coloring.Tie as tie
 
--- the outline and the result buffers at the call
-abbrev outline : tie.Start → Outline
-outline c = record { lengths = c .args .lengths .now; kinds = c .args .kinds .now; points = c .args .points .now }
-
-abbrev old : tie.Start → Result
-old c = record { lengths = c .args .out-lengths .now; kinds = c .args .out-kinds .now; points = c .args .out-points .now; colors = c .args .out-colors .now }
-
-passed : (c : tie.After-enum-told) → check (outline (c .before .before .before .before .before .before .before .before .before .before)) (c .before .before .before .before .before .before .before .before .before .before .args .threshold) ≡ Passed
+passed : (c : tie.After-enum-told)
+    → check (outline (c .before .before .before .before .before .before .before .before .before .before .args .lengths .now) (c .before .before .before .before .before .before .before .before .before .before .args .kinds .now) (c .before .before .before .before .before .before .before .before .before .before .args .points .now)) (c .before .before .before .before .before .before .before .before .before .before .args .settings .threshold) ≡ Passed
 passed c = sym (c .before .before .check .ensures) ∙ c .enum-told .given .1
 
--- the answer on room is that for the result
-room : (c : tie.After-has-room)
-    → c .has-room .result ≡ hasRoom (length (c .before .before .before .before .before .before .before .before .before .before .before .before .args .lengths .now)) (resultEdges (c .before .before .before .before .before .before .before .before .before .before .before .before .args .threshold) (contours (outline (c .before .before .before .before .before .before .before .before .before .before .before .before)))) (old (c .before .before .before .before .before .before .before .before .before .before .before .before))
-room c = rw (← c .before .result-edges .ensures .0) (c .has-room .ensures)
-
-fit : (c : tie.After-has-room)
-    → let s = c .before .before .before .before .before .before .before .before .before .before .before .before in
-    fits (encode (colorContours (colorContour (s .args .ink-trap) (s .args .threshold)) (initColor (s .args .seed)) (contours (outline s)))) (old s) ≡ c .has-room .result
-fit c =
-    let s = c .before .before .before .before .before .before .before .before .before .before .before .before in
-    result-fits (s .args .ink-trap) (s .args .threshold) (initColor (s .args .seed)) (outline s) (old s) ∙ sym (room c)
+agrees : (c : tie.After-enum-told) → Agrees (outline (c .before .before .before .before .before .before .before .before .before .before .args .lengths .now) (c .before .before .before .before .before .before .before .before .before .before .args .kinds .now) (c .before .before .before .before .before .before .before .before .before .before .args .points .now))
+agrees c = passed-agrees _ _ (passed c)
 
 check-requires : tie.Need-check-requires
 check-requires c κs = search needs
@@ -40,31 +24,27 @@ enum-known-checked : tie.Need-enum-known-checked
 enum-known-checked c = search needs
 
 returns : tie.Need-returns
-unfolding deliver
+unfolding edgeColoring deliver
 returns c =
     let failed = sym (c .before .before .before .check .ensures) ∙ c .before .checked .given .1 in
-    rw failed (record { answers = refl; lengths-are = refl; kinds-are = refl; points-are = refl; colors-are = refl })
+    rw failed
 
 enum-told : tie.Need-enum-told
 enum-told c = search needs
 
-result-edges-requires : tie.Need-result-edges-requires
-result-edges-requires c κs = passed-agrees _ _ (passed c)
+array-borrow-prefix-flags : tie.Need-array-borrow-prefix-flags
+array-borrow-prefix-flags c = agrees c .few
 
-has-room-requires : tie.Need-has-room-requires
-has-room-requires c κs = search needs
+slice-aggregate-color-outline : tie.Need-slice-aggregate-color-outline
+slice-aggregate-color-outline c =
+    let start = c .before .before .before .before .before .before .before .before .before .before .before in
+    sym (length-take-le (length (start .args .kinds .now)) _ (agrees (c .before) .few))
 
-returns-2 : tie.Need-returns-2
-unfolding deliver
-returns-2 c =
-    rw (passed (c .before .before .before), fit (c .before), not-true (c .before .has-room .result) (c .if1 .taken))
-    (record { answers = refl; lengths-are = refl; kinds-are = refl; points-are = refl; colors-are = refl })
-
-color-contours-requires : tie.Need-color-contours-requires
-color-contours-requires c κs =
-    let s = c .before .before .before .before .before .before .before .before .before .before .before .before .before .before .before .before .before in
-    let h = c .before .before .before .before .before in
-    (passed-agrees _ _ (passed (h .before .before)), room-fits _ _ (old s) (sym (room h) ∙ not-false (h .has-room .result) (c .before .before .before .before .if1 .left)))
+color-outline-requires : tie.Need-color-outline-requires
+color-outline-requires c κs =
+    let start = c .before .before .before .before .before .before .before .before .before .before .before .before .before .before .before in
+    let a = agrees (c .before .before .before .before .before) in
+    (record { places = a .places; flagged = length-take-le (length (start .args .kinds .now)) _ (a .few); few = a .few }, sym (a .edges))
 
 same-length : tie.Need-same-length
 same-length c = search needs
@@ -78,11 +58,12 @@ same-length-3 c = search needs
 same-length-4 : tie.Need-same-length-4
 same-length-4 c = search needs
 
-returns-3 : tie.Need-returns-3
-unfolding deliver
-returns-3 c =
-    let h = c .before .before .before .before .before .before .before .before .before .before .before .before .before .before in
-    rw (passed (h .before .before), fit h, not-false (h .has-room .result) (c .before .before .before .before .before .before .before .before .before .before .before .before .before .if1 .left)) (c .before .before .before .before .before .before .before .before .color-contours .ensures)
+returns-2 : tie.Need-returns-2
+unfolding edgeColoring
+returns-2 c =
+    let place = c .before .before .before .before .before .before .before .before .before .before .before .before .before .before .before in
+    let color-outline = c .before .before .before .before .before .before .before .before .before in
+    rw (passed place) (color-outline .color-outline .ensures)
 
 pub edge-coloring-spec : {M : Type 1} → statement M
 edge-coloring-spec =
@@ -92,12 +73,11 @@ edge-coloring-spec =
     enum-known-checked
     returns
     enum-told
-    result-edges-requires
-    has-room-requires
-    returns-2
-    color-contours-requires
+    array-borrow-prefix-flags
+    slice-aggregate-color-outline
+    color-outline-requires
     same-length
     same-length-2
     same-length-3
     same-length-4
-    returns-3)
+    returns-2)

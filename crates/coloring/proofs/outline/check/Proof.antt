@@ -6,13 +6,16 @@ use native.Mathlib.Omega.{arith}
 use lib.Dec.{leb, eqb}
 use lib.ListN.{length}
 use borrow.Author.Tests.{le-leb, lt-leb, eq-eqb, ne-eqb, not-true, not-false}
-use Rattle.coloring.specs.Outline.{check, maxContours, maxEdges, total, all, knownKind, coordinatesFit}
+use Rattle.coloring.specs.Places.{total}
+use Rattle.coloring.specs.Outline.{check, maxContours, maxEdges, all, knownKind, coordinatesFit}
 use borrow.Author.Needs.{needs}
 use Rattle.coloring.proofs.outline.check.Statement.{statement}
 use Rattle.coloring.proofs.outline.check.Tie as tie
 
 few : (c : tie.Else2) → (leb (length (c .before .before .before .before .before .before .args .lengths .now)) 64 && leb (total (c .before .before .before .before .before .before .args .lengths .now)) 256) ≡ true
-few c = rw (le-leb (length (c .before .before .before .before .before .before .args .lengths .now)) 64 (c .before .before .if1 .left), ← c .before .total .ensures, le-leb (c .before .total .result) 256 (c .if2 .left))
+few c =
+    let start = c .before .before .before .before .before .before in
+    rw (le-leb (length (start .args .lengths .now)) 64 (c .before .before .if1 .left), ← c .before .total .ensures, le-leb (c .before .total .result) 256 (c .if2 .left))
 
 returns : tie.Need-returns
 unfolding check maxContours
@@ -23,22 +26,30 @@ total-requires c κs = search needs
 
 returns-2 : tie.Need-returns-2
 unfolding check maxContours maxEdges
-returns-2 c = rw (le-leb (length (c .before .before .before .before .before .before .args .lengths .now)) 64 (c .before .before .if1 .left), ← c .before .total .ensures, lt-leb (c .before .total .result) 256 (c .if2 .taken))
+returns-2 c =
+    let start = c .before .before .before .before .before .before in
+    rw (le-leb (length (start .args .lengths .now)) 64 (c .before .before .if1 .left), ← c .before .total .ensures, lt-leb (c .before .total .result) 256 (c .if2 .taken))
 
 returns-3 : tie.Need-returns-3
 unfolding check maxContours maxEdges
-returns-3 c = rw (few (c .before), ← c .before .before .total .ensures, ne-eqb (length (c .before .before .before .before .before .before .before .args .kinds .now)) (c .before .before .total .result) (c .if3 .taken))
+returns-3 c =
+    let start = c .before .before .before .before .before .before .before in
+    rw (few (c .before), ← c .before .before .total .ensures, ne-eqb (length (start .args .kinds .now)) (c .before .before .total .result) (c .if3 .taken))
 
 mul-if4 : tie.Need-mul-if4
 mul-if4 c = search needs
 
 returns-4 : tie.Need-returns-4
 unfolding check maxContours maxEdges
-returns-4 c = rw (few (c .before .before), ← c .before .before .before .total .ensures, eq-eqb (length (c .before .before .before .before .before .before .before .before .args .kinds .now)) (c .before .before .before .total .result) (c .before .if3 .left), ne-eqb (length (c .before .before .before .before .before .before .before .before .args .points .now)) (8 * c .before .before .before .total .result) (c .if4 .taken))
+returns-4 c =
+    let start = c .before .before .before .before .before .before .before .before in
+    rw (few (c .before .before), ← c .before .before .before .total .ensures, eq-eqb (length (start .args .kinds .now)) (c .before .before .before .total .result) (c .before .if3 .left), ne-eqb (length (start .args .points .now)) (8 * c .before .before .before .total .result) (c .if4 .taken))
 
 agree : (c : tie.Else4) → (eqb (length (c .before .before .before .before .before .before .before .before .args .kinds .now)) (total (c .before .before .before .before .before .before .before .before .args .lengths .now))
     && eqb (length (c .before .before .before .before .before .before .before .before .args .points .now)) (8 * total (c .before .before .before .before .before .before .before .before .args .lengths .now))) ≡ true
-agree c = rw (← c .before .before .before .total .ensures, eq-eqb (length (c .before .before .before .before .before .before .before .before .args .kinds .now)) (c .before .before .before .total .result) (c .before .if3 .left), eq-eqb (length (c .before .before .before .before .before .before .before .before .args .points .now)) (8 * c .before .before .before .total .result) (c .if4 .left))
+agree c =
+    let start = c .before .before .before .before .before .before .before .before in
+    rw (← c .before .before .before .total .ensures, eq-eqb (length (start .args .kinds .now)) (c .before .before .before .total .result) (c .before .if3 .left), eq-eqb (length (start .args .points .now)) (8 * c .before .before .before .total .result) (c .if4 .left))
 
 kinds-known-requires : tie.Need-kinds-known-requires
 kinds-known-requires c κs = search needs
@@ -55,7 +66,9 @@ coordinates-fit-requires c κs = (omega arith, known c)
 
 returns-6 : tie.Need-returns-6
 unfolding check maxContours maxEdges
-returns-6 c = rw (few (c .before .before .before .before .before .before), agree (c .before .before .before .before), known (c .before .before), ← c .before .coordinates-fit .ensures, not-true (c .before .coordinates-fit .result) (c .if6 .taken))
+returns-6 c =
+    let place = c .before .before .before .before .before .before in
+    rw (few place, agree (c .before .before .before .before), known (c .before .before), ← c .before .coordinates-fit .ensures, not-true (c .before .coordinates-fit .result) (c .if6 .taken))
 
 fit : (c : tie.Else6) → coordinatesFit (c .before .before .before .before .before .before .before .before .before .before .before .before .args .kinds .now) (c .before .before .before .before .before .before .before .before .before .before .before .before .args .points .now) ≡ true
 fit c = sym (c .before .coordinates-fit .ensures) ∙ not-false _ (c .if6 .left)
@@ -65,11 +78,17 @@ between-requires c κs = search needs
 
 returns-7 : tie.Need-returns-7
 unfolding check maxContours maxEdges
-returns-7 c = rw (few (c .before .before .before .before .before .before .before .before), agree (c .before .before .before .before .before .before), known (c .before .before .before .before), fit (c .before .before), ← c .before .between .ensures, not-true (c .before .between .result) (c .if7 .taken))
+returns-7 c =
+    let place = c .before .before .before .before .before .before .before .before in
+    let place2 = c .before .before .before .before .before .before in
+    rw (few place, agree (place2), known (c .before .before .before .before), fit (c .before .before), ← c .before .between .ensures, not-true (c .before .between .result) (c .if7 .taken))
 
 returns-8 : tie.Need-returns-8
 unfolding check maxContours maxEdges
-returns-8 c = rw (few (c .before .before .before .before .before .before .before .before), agree (c .before .before .before .before .before .before), known (c .before .before .before .before), fit (c .before .before), ← c .before .between .ensures, not-false (c .before .between .result) (c .if7 .left))
+returns-8 c =
+    let place = c .before .before .before .before .before .before .before .before in
+    let place2 = c .before .before .before .before .before .before in
+    rw (few place, agree (place2), known (c .before .before .before .before), fit (c .before .before), ← c .before .between .ensures, not-false (c .before .between .result) (c .if7 .left))
 
 pub check-spec : {M : Type 1} → statement M
 check-spec =

@@ -6,7 +6,7 @@ use borrow.Author.Needs.{needs}
 use borrow.Author.Tests.{not-true, not-false}
 use lib.ListN.{length, take, drop, getD}
 use Rattle.coloring.specs.Outline.{all, inRange, usedPlaces, coordinatesFit}
-use Rattle.coloring.proofs.OutlineCheckLaws.{kind-at, fit-fail, fit-more, fit-end}
+use Rattle.coloring.proofs.outline.CheckLaws.{kind-at, fit-fail, fit-more, fit-end}
 use Rattle.coloring.proofs.outline.coordinates_fit.Statement.{statement}
 use Rattle.coloring.proofs.outline.coordinates_fit.Tie as tie
 
@@ -30,7 +30,9 @@ used-places-requires c κs = kind-at _ _ (c .before .before .before .before .bef
 
 -- an edge uses at most its eight places
 used : (c : tie.After-used-places Inv-loop μ-loop) → c .used-places .result ≤ 8
-used c = omega (arith, kind-at (c .before .before .before .before .before .before .args .kinds .now) (c .before .before .before .loop .i) (c .before .before .before .before .before .before .pre .1) (c .before .before .loop-test .taken))
+used c =
+    let start = c .before .before .before .before .before .before in
+    omega (arith, kind-at (start .args .kinds .now) (c .before .before .before .loop .i) (start .pre .1) (c .before .before .loop-test .taken))
 
 add-end : tie.Need-add-end Inv-loop μ-loop
 add-end c = omega (arith, used c)
@@ -55,12 +57,14 @@ tested : (c : tie.After-places-fit Inv-loop μ-loop) → c .places-fit .result
     ≡ all inRange (take (usedPlaces (getD (c .before .before .before .before .before .before .before .before .args .kinds .now) (c .before .before .before .before .before .loop .i) 0))
     (drop (8 * c .before .before .before .before .before .loop .i) (c .before .before .before .before .before .before .before .before .args .points .now)))
 tested c =
-    let e : 8 * c .before .before .before .before .before .loop .i + c .before .before .used-places .result - 8 * c .before .before .before .before .before .loop .i ≡ usedPlaces (getD (c .before .before .before .before .before .before .before .before .args .kinds .now) (c .before .before .before .before .before .loop .i) 0) = omega arith in
+    let start = c .before .before .before .before .before .before .before .before in
+    let e : 8 * c .before .before .before .before .before .loop .i + c .before .before .used-places .result - 8 * c .before .before .before .before .before .loop .i ≡ usedPlaces (getD (start .args .kinds .now) (c .before .before .before .before .before .loop .i) 0) = omega arith in
     c .places-fit .ensures ∙ rw e
 
 returns : tie.Need-returns Inv-loop μ-loop
 returns c =
-    fit-fail _ _ _ (c .before .before .before .before .before .before .loop .inv .1) (c .before .before .before .before .before .loop-test .taken)
+    let turn = c .before .before .before .before .before .before in
+    fit-fail _ _ _ (turn .loop .inv .1) (c .before .before .before .before .before .loop-test .taken)
     (sym (tested (c .before)) ∙ not-true _ (c .if1 .taken))
 
 add-i : tie.Need-add-i Inv-loop μ-loop
@@ -70,11 +74,12 @@ loop-less : tie.Need-loop-less Inv-loop μ-loop
 loop-less c = omega arith
 
 loop-again : tie.Need-loop-again Inv-loop μ-loop
-loop-again c = (
-  omega arith,
-  fit-more _ _ _ (c .before .before .before .before .before .before .loop .inv .1) (c .before .before .before .before .before .loop-test .taken)
-      (sym (tested (c .before)) ∙ not-false _ (c .if1 .left)),
-)
+loop-again c =
+    let turn = c .before .before .before .before .before .before in (
+      omega arith,
+      fit-more _ _ _ (turn .loop .inv .1) (c .before .before .before .before .before .loop-test .taken)
+          (sym (tested (c .before)) ∙ not-false _ (c .if1 .left)),
+    )
 
 returns-2 : tie.Need-returns-2 Inv-loop μ-loop
 returns-2 c = fit-end _ _ _ (c .before .loop .inv .1) (c .loop-test .left)

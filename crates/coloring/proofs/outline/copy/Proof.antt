@@ -1,21 +1,22 @@
 -- `coloring::outline::copy` meets its contract.
-use mathlib.Core.Path.{_≡_}
+use mathlib.Core.Path.{_≡_, sym, _∙_}
 use Prim.Native.Nat.{_≤_, _-_}
 use native.Mathlib.Omega.{arith}
 use lib.Ieee.{nan}
 use lib.ListN.{length, drop, length-set}
-use Rattle.coloring.proofs.WriteLaws.{Writing, writing-all, writing-next, writing-done}
+use Rattle.coloring.specs.Outline.{overFrom}
+use Rattle.coloring.proofs.Writing.{over-all, over-step, over-done}
 use Rattle.coloring.proofs.outline.copy.Statement.{statement}
 use Rattle.coloring.proofs.outline.copy.Tie as tie
 
 abbrev Inv-loop : tie.InvT-loop
-Inv-loop from to₀ k₀ to k = (k ≤ length from) × (length to ≡ length from) × Writing from k to (drop k from)
+Inv-loop from to₀ k₀ to k = (k ≤ length from) × (length to ≡ length from) × (from ≡ overFrom k (drop k from) to)
 
 abbrev μ-loop : tie.MeasureT-loop
 μ-loop from to₀ k₀ to k = length from - k
 
 loop-holds : tie.Need-loop-holds Inv-loop μ-loop
-loop-holds c = (omega arith, c .pre, writing-all _ _ (c .pre))
+loop-holds c = (omega arith, c .pre, sym (over-all _ _ (c .pre)))
 
 mul-to : tie.Need-mul-to Inv-loop μ-loop
 mul-to c = omega arith
@@ -36,13 +37,13 @@ loop-less : tie.Need-loop-less Inv-loop μ-loop
 loop-less c = omega arith
 
 loop-again : tie.Need-loop-again Inv-loop μ-loop
-loop-again c = (omega arith, simp length-set (c .before .before .loop .inv .1), writing-next _ _ nan (c .before .before .loop .inv .2) (c .before .loop-test .taken) (omega arith))
+loop-again c = (omega arith, simp length-set (c .before .before .loop .inv .1), c .before .before .loop .inv .2 ∙ over-step _ _ _ nan (c .before .loop-test .taken) (omega arith))
 
 same-length : tie.Need-same-length Inv-loop μ-loop
 same-length c = omega arith
 
 returns : tie.Need-returns Inv-loop μ-loop
-returns c = writing-done _ _ (c .before .loop .inv .2) (c .loop-test .left)
+returns c = sym (c .before .loop .inv .2 ∙ over-done _ _ _ (c .loop-test .left))
 
 pub copy-spec : {M : Type 1} → statement M
 copy-spec =

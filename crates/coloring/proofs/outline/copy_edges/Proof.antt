@@ -6,9 +6,10 @@ use native.Mathlib.Omega.{arith}
 use native.Mathlib.Numerals.{add-one}
 use lib.ListN.{length, drop, drop-of-length-le}
 use lib.Seq.{drop-cons}
-use Rattle.coloring.specs.Outline.{anyEdge, edgesOf, kindOf, placesOf, concat}
-use Rattle.coloring.proofs.OutlineLaws.{edges-length}
-use Rattle.coloring.proofs.StoreLaws.{Storing, storing-all, storing-one, storing-ends}
+use Rattle.coloring.specs.Places.{concat}
+use Rattle.coloring.specs.Outline.{anyEdge, edgesOf, kindOf, placesOf}
+use Rattle.coloring.proofs.outline.EdgeLaws.{edges-length}
+use Rattle.coloring.proofs.outline.StoreLaws.{Storing, storing-all, storing-one, storing-ends}
 use Rattle.coloring.proofs.outline.copy_edges.Statement.{statement}
 use Rattle.coloring.proofs.outline.copy_edges.Tie as tie
 
@@ -21,13 +22,15 @@ abbrev μ-loop : tie.MeasureT-loop
 μ-loop kinds points out-kinds₀ out-points₀ i₀ out-kinds out-points i = length kinds - i
 
 loop-holds : tie.Need-loop-holds Inv-loop μ-loop
-loop-holds c = (omega arith, c .before .before .before .before .pre .1, storing-all _ _ _ (c .before .before .before .before .pre .1 ∙ sym (edges-length (c .before .before .before .before .args .kinds .now) (c .before .before .before .before .args .points .now))) (omega (arith, edges-length (c .before .before .before .before .args .kinds .now) (c .before .before .before .before .args .points .now))))
+loop-holds c = (omega arith, c .before .before .before .before .pre .0 .1, storing-all _ _ _ (c .before .before .before .before .pre .0 .1 ∙ sym (edges-length (c .before .before .before .before .args .kinds .now) (c .before .before .before .before .args .points .now))) (omega (arith, edges-length (c .before .before .before .before .args .kinds .now) (c .before .before .before .before .args .points .now))))
 
 edge-at-requires : tie.Need-edge-at-requires Inv-loop μ-loop
 edge-at-requires c κs = omega arith
 
 write-edge-requires : tie.Need-write-edge-requires Inv-loop μ-loop
-write-edge-requires c κs = omega (arith, edges-length (c .before .before .before .before .before .before .before .before .before .args .kinds .now) (c .before .before .before .before .before .before .before .before .before .args .points .now), c .before .before .before .loop-test .taken)
+write-edge-requires c κs =
+    let start = c .before .before .before .before .before .before .before .before .before in
+    omega (arith, edges-length (start .args .kinds .now) (start .args .points .now), c .before .before .before .loop-test .taken)
 
 add-i : tie.Need-add-i Inv-loop μ-loop
 add-i c = omega arith
@@ -37,11 +40,14 @@ loop-less c = omega arith
 
 loop-again : tie.Need-loop-again Inv-loop μ-loop
 loop-again c =
-    let edges = edgesOf (c .before .before .before .before .before .before .before .before .before .before .before .before .before .before .args .kinds .now) (c .before .before .before .before .before .before .before .before .before .before .before .before .before .before .args .points .now) in
-    let i = c .before .before .before .before .before .before .before .before .before .loop .i in
-    let next : drop i edges ≡ c .before .before .before .before .before .before .before .edge-at .result ∷ drop (i + 1) edges =
-    rw (add-one, c .before .before .before .before .before .before .before .edge-at .ensures) (drop-cons edges i anyEdge (omega (arith, edges-length (c .before .before .before .before .before .before .before .before .before .before .before .before .before .before .args .kinds .now) (c .before .before .before .before .before .before .before .before .before .before .before .before .before .before .args .points .now)))) in
-    (omega arith, c .before .before .before .before .write-edge .kept .1 .1 .0 ∙ c .before .before .before .before .before .before .before .before .before .loop .inv .1, rw (c .before .before .before .before .write-edge .ensures .0, c .before .before .before .before .write-edge .ensures .1) (storing-one _ (drop (i + 1) edges) (i + 1) refl (rw next at (c .before .before .before .before .before .before .before .before .before .loop .inv .2))))
+    let start = c .before .before .before .before .before .before .before .before .before .before .before .before .before .before in
+    let turn = c .before .before .before .before .before .before .before .before .before in
+    let edge-at = c .before .before .before .before .before .before .before in
+    let edges = edgesOf (start .args .kinds .now) (start .args .points .now) in
+    let i = turn .loop .i in
+    let next : drop i edges ≡ edge-at .edge-at .result ∷ drop (i + 1) edges =
+    rw (add-one, edge-at .edge-at .ensures) (drop-cons edges i anyEdge (omega (arith, edges-length (start .args .kinds .now) (start .args .points .now)))) in
+    (omega arith, c .before .before .before .before .write-edge .kept .1 .1 .0 ∙ turn .loop .inv .1, rw (c .before .before .before .before .write-edge .ensures .0, c .before .before .before .before .write-edge .ensures .1) (storing-one _ (drop (i + 1) edges) (i + 1) refl (rw next at (turn .loop .inv .2))))
 
 same-length : tie.Need-same-length Inv-loop μ-loop
 same-length c = omega arith
@@ -51,9 +57,11 @@ same-length-2 c = omega arith
 
 returns : tie.Need-returns Inv-loop μ-loop
 returns c =
-    let edges = edgesOf (c .before .before .before .before .before .before .args .kinds .now) (c .before .before .before .before .before .before .args .points .now) in
-    let none : drop (c .before .loop .i) edges ≡ [] = drop-of-length-le edges {i = c .before .loop .i} (omega (arith, edges-length (c .before .before .before .before .before .before .args .kinds .now) (c .before .before .before .before .before .before .args .points .now))) in
-    storing-ends (rw none at (c .before .loop .inv .2))
+    let start = c .before .before .before .before .before .before in
+    let edges = edgesOf (start .args .kinds .now) (start .args .points .now) in
+    let none : drop (c .before .loop .i) edges ≡ [] = drop-of-length-le edges {i = c .before .loop .i} (omega (arith, edges-length (start .args .kinds .now) (start .args .points .now))) in
+    let ends = storing-ends (rw none at (c .before .loop .inv .2)) in
+    record { kinds-are = ends .0; points-are = ends .1 }
 
 pub copy-edges-spec : {M : Type 1} → statement M
 copy-edges-spec =

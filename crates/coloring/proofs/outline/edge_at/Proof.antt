@@ -4,7 +4,7 @@ use Prim.Native.Nat.{_+_, _*_, _-_}
 use native.Mathlib.Omega.{arith}
 use lib.ListN.{getD, take, drop}
 use Rattle.coloring.specs.Outline.{anyEdge, decoded, edgeOf, edgesOf}
-use Rattle.coloring.proofs.OutlineLaws.{edges-at}
+use Rattle.coloring.proofs.outline.EdgeLaws.{edges-at}
 use borrow.Author.Needs.{needs}
 use Rattle.coloring.proofs.outline.edge_at.Statement.{statement}
 use Rattle.coloring.proofs.outline.edge_at.Tie as tie
@@ -56,10 +56,11 @@ stands : (c : tie.After-from-stored) → decoded (c .from-stored .result)
     ≡ getD (edgesOf (c .before .before .before .before .before .before .before .before .args .kinds .now) (c .before .before .before .before .before .before .before .before .args .points .now)) (c .before .before .before .before .before .before .before .before .args .i) anyEdge
 unfolding edgeOf
 stands c =
-    let i = c .before .before .before .before .before .before .before .before .args .i in
+    let start = c .before .before .before .before .before .before .before .before in
+    let i = start .args .i in
     let eight : 8 * i + 8 - 8 * i ≡ 8 = omega arith in
-    let places : c .before .before .before .copy .last .1 .0 ≡ take 8 (drop (8 * i) (c .before .before .before .before .before .before .before .before .args .points .now)) = c .before .before .before .copy .ensures ∙ rw eight in
-    ap decoded (c .from-stored .ensures) ∙ rw places (sym (edges-at _ _ i anyEdge (c .before .before .before .before .before .before .before .before .pre .0)))
+    let places : c .before .before .before .copy .last .1 .0 ≡ take 8 (drop (8 * i) (start .args .points .now)) = c .before .before .before .copy .ensures ∙ rw eight in
+    ap decoded (c .from-stored .ensures) ∙ rw places (sym (edges-at _ _ i anyEdge (start .pre .0)))
 
 returns : tie.Need-returns
 returns c = sym (ap decoded (c .before .e .given .1)) ∙ stands (c .before .before .before)

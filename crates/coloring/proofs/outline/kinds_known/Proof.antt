@@ -6,7 +6,7 @@ use borrow.Author.Needs.{needs}
 use borrow.Author.Tests.{not-true, not-false}
 use lib.ListN.{length, drop}
 use Rattle.coloring.specs.Outline.{all, knownKind}
-use Rattle.coloring.proofs.OutlineCheckLaws.{scan-fail, scan-more, scan-end}
+use Rattle.coloring.proofs.outline.CheckLaws.{scan-fail, scan-more, scan-end}
 use Rattle.coloring.proofs.outline.kinds_known.Statement.{statement}
 use Rattle.coloring.proofs.outline.kinds_known.Tie as tie
 

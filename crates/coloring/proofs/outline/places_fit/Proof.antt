@@ -7,7 +7,7 @@ use borrow.Author.Tests.{not-true, not-false}
 use lib.Ieee.{nan}
 use lib.ListN.{length, drop}
 use Rattle.coloring.specs.Outline.{all, inRange}
-use Rattle.coloring.proofs.OutlineCheckLaws.{scan-fail, scan-more, scan-end}
+use Rattle.coloring.proofs.outline.CheckLaws.{scan-fail, scan-more, scan-end}
 use Rattle.coloring.proofs.outline.places_fit.Statement.{statement}
 use Rattle.coloring.proofs.outline.places_fit.Tie as tie
 

@@ -3,8 +3,8 @@ use mathlib.Core.Path.{_≡_}
 use Prim.Native.Nat.{_≤_, _+_, _*_, _-_}
 use native.Mathlib.Omega.{arith}
 use lib.ListN.{length, drop}
-use Rattle.coloring.specs.Outline.{total}
-use Rattle.coloring.proofs.OutlineCheckLaws.{total-step, total-end}
+use Rattle.coloring.specs.Places.{total}
+use Rattle.coloring.proofs.outline.CheckLaws.{total-step, total-end}
 use Rattle.coloring.proofs.outline.total.Statement.{statement}
 use Rattle.coloring.proofs.outline.total.Tie as tie
 

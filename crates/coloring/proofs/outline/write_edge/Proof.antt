@@ -3,7 +3,8 @@ use mathlib.Core.Path.{_≡_}
 use Prim.Native.Nat.{_+_, _*_, _-_}
 use native.Mathlib.Omega.{arith}
 use lib.ListN.{length, length-take, length-drop}
-use Rattle.coloring.proofs.OutlineLaws.{places-length}
+use Rattle.coloring.proofs.outline.EdgeLaws.{places-length}
+use Rattle.coloring.proofs.Writing.{over-part}
 use borrow.Author.Needs.{needs}
 use Rattle.coloring.proofs.outline.write_edge.Statement.{statement}
 use Rattle.coloring.proofs.outline.write_edge.Tie as tie
@@ -49,9 +50,11 @@ same-length-2 c = search needs
 
 returns : tie.Need-returns
 returns c =
-    let i = c .before .before .before .before .before .before .before .before .before .args .i in
+    let start = c .before .before .before .before .before .before .before .before .before in
+    let to-stored = c .before .before .before .before .before .before in
+    let i = start .args .i in
     let eight : 8 * i + 8 - 8 * i ≡ 8 = omega arith in
-    (rw (c .before .before .before .before .before .before .to-stored .ensures), rw (eight, c .before .before .copy .ensures, c .before .before .before .before .before .before .to-stored .ensures))
+    (rw (to-stored .to-stored .ensures), rw (eight, c .before .before .copy .ensures, to-stored .to-stored .ensures) (over-part (8 * i) 8 _ _ (places-length _)))
 
 pub write-edge-spec : {M : Type 1} → statement M
 write-edge-spec =

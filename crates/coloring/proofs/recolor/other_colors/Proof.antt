@@ -1,5 +1,5 @@
 -- `other_colors` meets its contract: a shift by at most 2 loses no bit.
-use Rattle.coloring.proofs.FreeColorLaws.{shifted, others}
+use Rattle.coloring.proofs.recolor.FreeColorLaws.{shifted, others}
 use borrow.Author.Needs.{needs}
 use Rattle.coloring.proofs.recolor.other_colors.Statement.{statement}
 use Rattle.coloring.proofs.recolor.other_colors.Tie as tie

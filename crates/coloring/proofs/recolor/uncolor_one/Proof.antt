@@ -3,8 +3,8 @@ use native.Mathlib.Omega.{arith}
 use mathlib.Core.Logic.{⊎-elim}
 use Prim.Native.Nat.{_<_}
 use borrow.Author.Tests.{eqb-true, eqb-false}
-use Rattle.coloring.specs.SplineTable.{uncolored}
-use Rattle.coloring.proofs.UncolorLaws.{ring-room, put-one, skip-entry, skip-color}
+use Rattle.coloring.specs.Recolor.{uncolored}
+use Rattle.coloring.proofs.recolor.UncolorLaws.{ring-room, put-one, skip-entry, skip-color}
 use borrow.Author.Needs.{needs}
 use Rattle.coloring.proofs.recolor.uncolor_one.Statement.{statement}
 use Rattle.coloring.proofs.recolor.uncolor_one.Tie as tie

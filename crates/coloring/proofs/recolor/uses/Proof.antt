@@ -4,14 +4,14 @@ use mathlib.Core.Bool.{_||_, or-assoc, or-false}
 use Prim.Native.Nat.{_≤_, _-_}
 use native.Mathlib.Omega.{arith}
 use lib.ListN.{length, drop}
-use Rattle.coloring.specs.SplineTable as table
-use Rattle.coloring.proofs.FreeColorLaws.{uses-step, uses-end}
+use Rattle.coloring.specs.Recolor as defined
+use Rattle.coloring.proofs.recolor.FreeColorLaws.{uses-step, uses-end}
 use Rattle.coloring.proofs.recolor.uses.Statement.{statement}
 use Rattle.coloring.proofs.recolor.uses.Tie as tie
 
 abbrev Inv-loop : tie.InvT-loop
 Inv-loop coloring entries c found₀ i₀ found i =
-    (i ≤ length coloring) × ((found || table.uses c (drop i coloring) (drop i entries)) ≡ table.uses c coloring entries)
+    (i ≤ length coloring) × ((found || defined.uses c (drop i coloring) (drop i entries)) ≡ defined.uses c coloring entries)
 
 abbrev μ-loop : tie.MeasureT-loop
 μ-loop coloring entries c found₀ i₀ found i = length coloring - i
@@ -35,12 +35,14 @@ loop-again : tie.Need-loop-again Inv-loop μ-loop
 loop-again c =
     let own = c .before .before .before in
     let args = own .before .args in
-    (omega arith, or-assoc (own .loop .found) _ _ ∙ ap (λ b. own .loop .found || b) (sym (uses-step (args .c) (args .coloring .now) (args .entries .now) (own .loop .i) (omega arith) (omega arith))) ∙ own .loop .inv .1)
+    let step = uses-step (args .c) (args .coloring .now) (args .entries .now) (own .loop .i) (omega arith) (omega arith) in
+    (omega arith, or-assoc (own .loop .found) _ _ ∙ ap (λ b. own .loop .found || b) (sym step) ∙ own .loop .inv .1)
 
 returns : tie.Need-returns Inv-loop μ-loop
 returns c =
-    let args = c .before .before .args in
-    sym (or-false (c .before .loop .found)) ∙ ap (λ b. c .before .loop .found || b) (sym (uses-end (args .c) (args .coloring .now) _ (c .before .loop .i) (omega arith))) ∙ c .before .loop .inv .1
+    let own = c .before in
+    let end = uses-end (own .before .args .c) (own .before .args .coloring .now) _ (own .loop .i) (omega arith) in
+    sym (or-false (own .loop .found)) ∙ ap (λ b. own .loop .found || b) (sym end) ∙ own .loop .inv .1
 
 pub uses-spec : {M : Type 1} → statement M
 uses-spec =

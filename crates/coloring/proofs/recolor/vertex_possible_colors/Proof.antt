@@ -1,7 +1,7 @@
 -- `vertex_possible_colors` meets its contract: the sum of the three sets, which stays below 8.
 use native.Mathlib.Omega.{arith}
-use Rattle.coloring.specs.SplineTable.{vertexPossibleColors}
-use Rattle.coloring.proofs.FreeColorLaws.{possible-below}
+use Rattle.coloring.specs.Recolor.{vertexPossibleColors}
+use Rattle.coloring.proofs.recolor.FreeColorLaws.{possible-below}
 use borrow.Author.Needs.{needs}
 use Rattle.coloring.proofs.recolor.vertex_possible_colors.Statement.{statement}
 use Rattle.coloring.proofs.recolor.vertex_possible_colors.Tie as tie
@@ -30,12 +30,14 @@ returns c = cc
 
 add-result : tie.Need-add-result
 add-result c =
-    let args = c .before .before .before .before .before .before .before .before .args in
+    let first = c .before .before .before .before in
+    let args = first .before .before .before .before .args in
     omega (arith, returns c, possible-below (args .coloring .now) (args .entries .now))
 
 add-result-2 : tie.Need-add-result-2
 add-result-2 c =
-    let args = c .before .before .before .before .before .before .before .before .args in
+    let first = c .before .before .before .before in
+    let args = first .before .before .before .before .args in
     omega (arith, returns c, possible-below (args .coloring .now) (args .entries .now))
 
 pub vertex-possible-colors-spec : {M : Type 1} → statement M

@@ -1,0 +1,2 @@
+-- The proofs of what is handed to C.
+mod Handing

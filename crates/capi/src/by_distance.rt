@@ -1,0 +1,80 @@
+// The collecting pass, and by-distance colouring of an outline.
+use crate::edge_coloring::code;
+use crate::wide;
+use coloring::by_distance;
+use coloring::outline::Colored;
+ghost use mathlib.Core.Path.{_≡_};
+ghost use Rattle.coloring.specs.Outline.{outline, result};
+ghost use Rattle.coloring.specs.ByDistance.{collectSplines, edgeColoringByDistance};
+ghost use Rattle.capi.specs.EdgeColoring.{collectedCode, coloredCode, handed, handOut};
+
+// The number of edges and 2^16 times that of splines, or 2^32 and the number of the refusal.
+fn collected_code(answer: Colored) -> u64
+    ensures { λ r. ⌜ r ≡ collectedCode answer ⌝ }
+{
+    match answer {
+        Colored::Edges(counts) => {
+            (counts.edges % 65536) as u64 + 65536 * (counts.splines % 65536) as u64
+        }
+        Colored::Refused(refusal) => 4294967296 + wide(refusal.number()),
+    }
+}
+
+#[no_mangle]
+pub extern "C" fn capi_collect_splines(
+    lengths: &[u16],
+    kinds: &[u8],
+    points: &[f64],
+    threshold: f64,
+    out_lengths: &mut [u16],
+    out_kinds: &mut [u8],
+    out_points: &mut [f64],
+    out_splines: &mut [u8],
+) -> u64
+    ensures { λ r. ⌜ handed r (result (now («out_lengths» .exit)) (now («out_kinds» .exit)) (now («out_points» .exit)) (now («out_splines» .exit))) ≡
+        handOut collectedCode (collectSplines (outline (now (lengths .entry)) (now (kinds .entry)) (now (points .entry))) threshold
+        (result (now («out_lengths» .entry)) (now («out_kinds» .entry)) (now («out_points» .entry)) (now («out_splines» .entry)))) ⌝ }
+{
+    collected_code(by_distance::collect_splines(
+        lengths,
+        kinds,
+        points,
+        threshold,
+        out_lengths,
+        out_kinds,
+        out_points,
+        out_splines,
+    ))
+}
+
+#[no_mangle]
+pub extern "C" fn capi_edge_coloring_by_distance(
+    lengths: &[u16],
+    kinds: &[u8],
+    points: &[f64],
+    threshold: f64,
+    seed: u64,
+    distances: &[f64],
+    out_lengths: &mut [u16],
+    out_kinds: &mut [u8],
+    out_points: &mut [f64],
+    out_colors: &mut [u8],
+) -> u64
+    ensures { λ r. ⌜ handed r (result (now («out_lengths» .exit)) (now («out_kinds» .exit)) (now («out_points» .exit)) (now («out_colors» .exit))) ≡
+        handOut coloredCode (edgeColoringByDistance (outline (now (lengths .entry)) (now (kinds .entry)) (now (points .entry))) threshold seed
+        (now (distances .entry))
+        (result (now («out_lengths» .entry)) (now («out_kinds» .entry)) (now («out_points» .entry)) (now («out_colors» .entry)))) ⌝ }
+{
+    code(by_distance::edge_coloring_by_distance(
+        lengths,
+        kinds,
+        points,
+        threshold,
+        seed,
+        distances,
+        out_lengths,
+        out_kinds,
+        out_points,
+        out_colors,
+    ))
+}

@@ -1,0 +1,74 @@
+-- Laws on lists that the library has not: defaults, maps of parts, parts of parts, lists of lists.
+use mathlib.Core.Path.{_≡_, refl, ap, _∙_}
+use mathlib.Core.List.{List, [], _∷_, _++_, map, append-assoc, append-nil, List·Memᴰ, List·Memᴰ·not-nil}
+use Prim.Native.Nat.{ℕ, zero, suc, _+_, _≤_, _<_}
+use native.Mathlib.Nat.{zero-add}
+use native.Mathlib.Numerals.{add-one}
+use native.Mathlib.Omega.{arith}
+use lib.ListN.{length, take, drop, getD, length-append, length-map, drop-of-length-le, List·getD-map}
+use lib.Seq.{take-nil, take-length, drop-cons}
+use Rattle.coloring.specs.Places.{concat, total}
+
+module _ {A : Type 0} where
+  -- below the length the default does not matter
+  pub getD-any : (xs : List A) (i : ℕ) (d e : A) → i < length xs → getD xs i d ≡ getD xs i e
+  getD-any [] i d e h = absurd (omega arith)
+  getD-any (x ∷ xs) zero d e h = refl
+  getD-any (x ∷ xs) (suc i) d e h = getD-any xs i d e (omega arith)
+
+  -- beyond the end there is the default
+  pub getD-beyond : (xs : List A) (i : ℕ) (d : A) → length xs ≤ i → getD xs i d ≡ d
+  getD-beyond [] i d h = refl
+  getD-beyond (x ∷ xs) zero d h = absurd (omega arith)
+  getD-beyond (x ∷ xs) (suc i) d h = getD-beyond xs i d (omega arith)
+
+  -- what follows place i, from its element on
+  pub drop-next : (xs : List A) (i : ℕ) (d : A) → i < length xs → drop i xs ≡ getD xs i d ∷ drop (i + 1) xs
+  drop-next xs i d h = rw add-one (drop-cons xs i d h)
+
+  pub length-zero : (xs : List A) → length xs ≡ 0 → xs ≡ []
+  length-zero [] e = refl
+  length-zero (x ∷ xs) e = absurd (omega arith)
+
+  -- those after some of the first are the first of those after
+  pub drop-take : (n m : ℕ) (xs : List A) → drop n (take (n + m) xs) ≡ take m (drop n xs)
+  drop-take zero m xs = rw zero-add
+  drop-take (suc n) m [] = rw (take-nil, take-nil)
+  drop-take (suc n) m (x ∷ xs) =
+      let e : suc n + m ≡ suc (n + m) = omega arith in
+      rw e (drop-take n m xs)
+
+  -- a list with an element is not empty
+  pub member-some : {x : A} (l : List A) → List·Memᴰ x l → 0 < length l
+  member-some [] m = absurd (List·Memᴰ·not-nil m)
+  member-some (y ∷ l) m = omega arith
+
+  -- a copy of a whole list over one of the same length
+  pub copied : (from to : List A) → length to ≡ length from → take (length from) from ++ drop (length from) to ≡ from
+  copied from to e =
+      let h : length to ≤ length from = omega arith in
+      rw (take-length, drop-of-length-le to h) (append-nil from)
+
+  pub concat-append : (xs ys : List (List A)) → concat (xs ++ ys) ≡ concat xs ++ concat ys
+  unfolding concat
+  concat-append [] ys = refl
+  concat-append (x ∷ xs) ys = rw (concat-append xs ys, append-assoc)
+
+  pub concat-length : (xss : List (List A)) → length (concat xss) ≡ total (map (λ (xs : List A). length xs) xss)
+  unfolding concat total
+  concat-length [] = refl
+  concat-length (xs ∷ xss) = length-append xs (concat xss) ∙ ap (λ n. length xs + n) (concat-length xss)
+
+module _ {A B : Type 0} (f : A → B) where
+  pub getD-mapped : (xs : List A) (i : ℕ) (d : A) (e : B) → i < length xs → getD (map f xs) i e ≡ f (getD xs i d)
+  getD-mapped xs i d e h = getD-any (map f xs) i e (f d) (simp length-map h) ∙ List·getD-map f xs i d
+
+  pub map-take : (n : ℕ) (xs : List A) → map f (take n xs) ≡ take n (map f xs)
+  map-take zero xs = refl
+  map-take (suc n) [] = refl
+  map-take (suc n) (x ∷ xs) = ap (λ (ys : List B). f x ∷ ys) (map-take n xs)
+
+  pub map-drop : (n : ℕ) (xs : List A) → map f (drop n xs) ≡ drop n (map f xs)
+  map-drop zero xs = refl
+  map-drop (suc n) [] = refl
+  map-drop (suc n) (x ∷ xs) = map-drop n xs

@@ -1,0 +1,2 @@
+-- Laws on the colours of one contour.
+pub mod ColorLaws

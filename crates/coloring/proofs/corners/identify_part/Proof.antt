@@ -1,0 +1,87 @@
+-- `identify_part` meets its contract: the parts passed on hold the contour, and take its flags.
+use borrow.Author.Needs.{needs}
+use mathlib.Core.Path.{_≡_, _∙_}
+use Prim.Native.Nat.{_-_}
+use native.Mathlib.Omega.{arith}
+use lib.ListN.{length, take, drop, length-take, length-drop}
+use Rattle.coloring.specs.Corners.{cornerFlags}
+use Rattle.coloring.specs.Outline.{edgesOf}
+use Rattle.coloring.proofs.Writing.{over-part}
+use Rattle.coloring.proofs.outline.EdgeLaws.{edges-length, edges-between, part-matching}
+use Rattle.coloring.proofs.corners.SearchLaws.{flags-length}
+use Rattle.coloring.proofs.corners.identify_part.Statement.{statement}
+use Rattle.coloring.proofs.corners.identify_part.Tie as tie
+
+mul-from : tie.Need-mul-from
+mul-from c = search needs
+
+mul-to : tie.Need-mul-to
+mul-to c = search needs
+
+sub-identify-corners : tie.Need-sub-identify-corners
+sub-identify-corners c = search needs
+
+part-identify-corners-start : tie.Need-part-identify-corners-start
+part-identify-corners-start c = search needs
+
+part-identify-corners-end : tie.Need-part-identify-corners-end
+part-identify-corners-end c = search needs
+
+mul-identify-corners : tie.Need-mul-identify-corners
+mul-identify-corners c = search needs
+
+sub-identify-corners-2 : tie.Need-sub-identify-corners-2
+sub-identify-corners-2 c = search needs
+
+part-identify-corners-start-2 : tie.Need-part-identify-corners-start-2
+part-identify-corners-start-2 c = search needs
+
+part-identify-corners-end-2 : tie.Need-part-identify-corners-end-2
+part-identify-corners-end-2 c = search needs
+
+sub-identify-corners-3 : tie.Need-sub-identify-corners-3
+sub-identify-corners-3 c = search needs
+
+part-identify-corners-start-3 : tie.Need-part-identify-corners-start-3
+part-identify-corners-start-3 c = search needs
+
+part-identify-corners-end-3 : tie.Need-part-identify-corners-end-3
+part-identify-corners-end-3 c = search needs
+
+identify-corners-requires : tie.Need-identify-corners-requires
+identify-corners-requires c κs =
+    let start = c .before .before .before .before .before .before in
+    part-matching (start .pre)
+
+same-length : tie.Need-same-length
+same-length c = search needs
+
+returns : tie.Need-returns
+returns c =
+    let start = c .before .before .before .before .before .before .before .before .before in
+    let a = start .args in
+    let contour = take (a .end - a .at) (drop (a .at) (edgesOf (a .kinds .now) (a .points .now))) in
+    let long : length (cornerFlags (a .threshold) contour) ≡ a .end - a .at =
+    flags-length (a .threshold) contour ∙ simp (length-take, length-drop) (omega (arith, start .pre .inside, edges-length (a .kinds .now) (a .points .now))) in
+    rw (c .before .before .identify-corners .ensures, edges-between (a .at) (a .end) (a .kinds .now) (a .points .now) (start .pre .start))
+    (over-part (a .at) (a .end - a .at) (cornerFlags (a .threshold) contour) (a .flags .now) long)
+
+pub identify-part-spec : {M : Type 1} → statement M
+identify-part-spec =
+    tie.close
+    (tie.spec
+    mul-from
+    mul-to
+    sub-identify-corners
+    part-identify-corners-start
+    part-identify-corners-end
+    mul-identify-corners
+    sub-identify-corners-2
+    part-identify-corners-start-2
+    part-identify-corners-end-2
+    sub-identify-corners-3
+    part-identify-corners-start-3
+    part-identify-corners-end-3
+    identify-corners-requires
+    same-length
+    returns)

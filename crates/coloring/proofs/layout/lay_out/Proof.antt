@@ -1,0 +1,196 @@
+-- `lay_out` meets its contract: the contours passed are laid out.
+use native.Mathlib.Omega.{arith}
+use mathlib.Core.Path.{_≡_, refl, sym, ap, _∙_}
+use mathlib.Core.List.{List, [], map}
+use Prim.Native.Nat.{ℕ, _+_, _-_, _≤_}
+use lib.Ieee.{Float}
+use lib.ListN.{length, getD, take, drop, length-set, length-drop}
+use lib.Seq.{length-take-le}
+use Rattle.coloring.specs.Places.{total}
+use Rattle.coloring.specs.Layout.{resultEdges}
+use Rattle.coloring.specs.Corners.{Cornered, cornered}
+use Rattle.coloring.specs.Outline.{edgesOf, cut, over, overFrom, Result, result}
+use Rattle.coloring.proofs.outline.EdgeLaws.{edges-length}
+use Rattle.coloring.proofs.outline.CutLaws.{along-starts, along-room, left, left-step}
+use Rattle.coloring.proofs.layout.CountLaws.{edges-bound}
+use Rattle.coloring.proofs.layout.LayoutLaws.{laid, Laying, laying-next, laying-ends}
+use Rattle.coloring.proofs.layout.lay_out.Statement.{statement}
+use Rattle.coloring.proofs.layout.lay_out.Tie as tie
+
+-- what the buffers will be
+abbrev over-laid : List Cornered → List ℕ → List ℕ → List Float → Result
+over-laid found lengths kinds points = result (over (laid found .lengths) lengths) (over (laid found .kinds) kinds) (over (laid found .points) points) []
+
+abbrev Inv-loop : tie.InvT-loop
+Inv-loop lengths kinds points flags out-lengths₀ out-kinds₀ out-points₀ at₀ to₀ i₀ out-lengths out-kinds out-points at to i =
+    (length out-lengths ≡ length out-lengths₀) × (length out-kinds ≡ length out-kinds₀) × (length out-points ≡ length out-points₀)
+    × Laying lengths (edgesOf kinds points) flags (total (map resultEdges (cut lengths flags)))
+    (over-laid (cornered lengths (edgesOf kinds points) flags) out-lengths₀ out-kinds₀ out-points₀)
+    out-lengths out-kinds out-points at to i
+
+abbrev μ-loop : tie.MeasureT-loop
+μ-loop lengths kinds points flags out-lengths₀ out-kinds₀ out-points₀ at₀ to₀ i₀ out-lengths out-kinds out-points at to i = length lengths - i
+
+-- the next contour lies within the edges
+room : (c : tie.In-loop Inv-loop μ-loop)
+    → c .before .loop .at + getD (c .before .before .before .before .before .before .before .before .before .args .lengths .now) (c .before .loop .i) 0 ≤ length (c .before .before .before .before .before .before .before .before .before .args .kinds .now)
+room c =
+    let start = c .before .before .before .before .before .before .before .before .before in
+    let a = start .args in
+    rw (edges-length (a .kinds .now) (a .points .now)) at (along-room _ _ _ _ (c .before .loop .inv .3 .along) (c .loop-test .taken))
+
+module _ (c : tie.After-part-edges Inv-loop μ-loop) where
+  -- what it comes to
+  counted : c .part-edges .result ≡ resultEdges (take (getD (c .before .before .before .before .before .before .before .before .before .before .before .args .lengths .now) (c .before .before .before .loop .i) 0) (drop (c .before .before .before .loop .at) (c .before .before .before .before .before .before .before .before .before .before .before .args .flags .now)))
+  counted =
+      let n = getD (c .before .before .before .before .before .before .before .before .before .before .before .args .lengths .now) (c .before .before .before .loop .i) 0 in
+      let m : c .before .before .before .loop .at + n - c .before .before .before .loop .at ≡ n = omega arith in
+      rw m at (c .part-edges .ensures)
+
+  -- there is room for it
+  fit : c .before .before .before .loop .to + c .part-edges .result ≤ total (map resultEdges (cut (c .before .before .before .before .before .before .before .before .before .before .before .args .lengths .now) (c .before .before .before .before .before .before .before .before .before .before .before .args .flags .now)))
+  fit =
+      let s = c .before .before .before .loop in
+      omega (arith, counted, s .inv .3 .counted, left-step resultEdges (c .before .before .before .before .before .before .before .before .before .before .before .args .lengths .now) (c .before .before .before .before .before .before .before .before .before .before .before .args .flags .now) (s .i) (s .at) (c .before .before .loop-test .taken))
+
+  bound : c .part-edges .result ≤ 768
+  bound =
+      let start = c .before .before .before .before .before .before .before .before .before .before .before in
+      let n = getD (start .args .lengths .now) (c .before .before .before .loop .i) 0 in
+      let flags = drop (c .before .before .before .loop .at) (start .args .flags .now) in
+      let inside = room (c .before .before) in
+      let long = length-take-le n flags (omega (arith, length-drop (c .before .before .before .loop .at) (start .args .flags .now), start .pre .0 .0 .flagged)) in
+      omega (arith, counted, edges-bound (take n flags), start .pre .0 .0 .few)
+
+loop-holds : tie.Need-loop-holds Inv-loop μ-loop
+unfolding overFrom
+loop-holds c =
+    let start = c .before .before .before .before .before .before .before in
+    let a = start .args in (
+      refl,
+      refl,
+      refl,
+      record {
+        along = along-starts _ _ (start .pre .0 .1 ∙ sym (edges-length (a .kinds .now) (a .points .now)));
+        counted = omega arith;
+        lengths-so-far = refl;
+        kinds-so-far = refl;
+        points-so-far = refl;
+      },
+    )
+
+mul-end : tie.Need-mul-end Inv-loop μ-loop
+mul-end c = omega arith
+
+shared-slice-read-end : tie.Need-shared-slice-read-end Inv-loop μ-loop
+shared-slice-read-end c = omega arith
+
+cast-end : tie.Need-cast-end Inv-loop μ-loop
+cast-end c =
+    let start = c .before .before .before .before .before .before .before .before .before .before in
+    omega (arith, room (c .before), start .pre .0 .0 .few)
+
+add-end : tie.Need-add-end Inv-loop μ-loop
+add-end c =
+    let start = c .before .before .before .before .before .before .before .before .before .before in
+    omega (arith, room (c .before), start .pre .0 .0 .few)
+
+part-edges-requires : tie.Need-part-edges-requires Inv-loop μ-loop
+part-edges-requires c κs =
+    let start = c .before .before .before .before .before .before .before .before .before .before in
+    let pre = start .pre .0 .0 in
+    (omega arith, omega (arith, room (c .before), pre .flagged), omega (arith, pre .flagged, pre .few))
+
+add-next : tie.Need-add-next Inv-loop μ-loop
+add-next c =
+    let start = c .before .before .before .before .before .before .before .before .before .before .before in
+    omega (arith, fit c, start .pre .1 .kinds-fit, start .good)
+
+cast-out-lengths : tie.Need-cast-out-lengths Inv-loop μ-loop
+cast-out-lengths c = omega (arith, bound c)
+
+mul-out-lengths : tie.Need-mul-out-lengths Inv-loop μ-loop
+mul-out-lengths c = omega arith
+
+slice-write-out-lengths : tie.Need-slice-write-out-lengths Inv-loop μ-loop
+slice-write-out-lengths c =
+    let start = c .before .before .before .before .before .before .before .before .before .before .before in
+    omega (arith, c .before .before .before .loop .inv .0, start .pre .1 .lengths-fit, c .before .before .loop-test .taken)
+
+lay-out-part-requires : tie.Need-lay-out-part-requires Inv-loop μ-loop
+lay-out-part-requires c κs =
+    let start = c .before .before .before .before .before .before .before .before .before .before .before .before .before in
+    let at = c .before .before .before .before .before .loop in
+    let edges = c .before .before in (
+      (record { matching = start .pre .0 .0; start = omega arith; inside = room (c .before .before .before .before) }, ap (λ k. at .to + k) (edges .part-edges .ensures)),
+      (omega (arith, fit edges, at .inv .1, start .pre .1 .kinds-fit), omega (arith, fit edges, at .inv .2, start .pre .1 .points-fit)),
+    )
+
+add-i : tie.Need-add-i Inv-loop μ-loop
+add-i c =
+    let start = c .before .before .before .before .before .before .before .before .before .before .before .before .before .before .before .before .before .before in
+    let branch = c .before .before .before .before .before .before .before .before .before in
+    omega (arith, branch .loop-test .taken, start .good)
+
+loop-less : tie.Need-loop-less Inv-loop μ-loop
+loop-less c = omega arith
+
+loop-again : tie.Need-loop-again Inv-loop μ-loop
+loop-again c =
+    let turn = c .before .before .before .before .before .before .before .before .before .before in
+    let branch = c .before .before .before .before .before .before .before .before .before in
+    let start = c .before .before .before .before .before .before .before .before .before .before .before .before .before .before .before .before .before .before in
+    let a = start .args in
+    let at = turn .loop in
+    let edges = c .before .before .before .before .before .before .before in
+    let laid-out = c .before .before .before .before .lay-out-part in
+    let n = getD (a .lengths .now) (at .i) 0 in
+    let m : at .at + n - at .at ≡ n = omega arith in
+    let stored = rw m at (laid-out .ensures) in
+    let h = branch .loop-test .taken in (
+      simp length-set (at .inv .0),
+      laid-out .kept .1 .1 .1 .1 .1 .1 .1 .0 ∙ at .inv .1,
+      laid-out .kept .1 .1 .1 .1 .1 .1 .1 .1 .0 ∙ at .inv .2,
+      rw (stored .kinds-are, stored .points-are, counted edges)
+          (laying-next _ _ _ _ _ _ _ _ _ _ _ (at .inv .3) (start .pre .0 .0 .flagged ∙ sym (edges-length (a .kinds .now) (a .points .now))) h
+          (omega (arith, at .inv .0, start .pre .1 .lengths-fit)) (omega (arith, at .inv .1, start .pre .1 .kinds-fit)) (omega (arith, at .inv .2, start .pre .1 .points-fit))),
+    )
+
+same-length : tie.Need-same-length Inv-loop μ-loop
+same-length c = c .before .loop .inv .0
+
+same-length-2 : tie.Need-same-length-2 Inv-loop μ-loop
+same-length-2 c = c .before .loop .inv .1
+
+same-length-3 : tie.Need-same-length-3 Inv-loop μ-loop
+same-length-3 c = c .before .loop .inv .2
+
+returns : tie.Need-returns Inv-loop μ-loop
+returns c =
+    let ends = laying-ends _ _ _ _ _ _ _ _ _ _ _ (c .before .loop .inv .3) (c .loop-test .left) in
+    record { lengths-are = ends .0; kinds-are = ends .1; points-are = ends .2 }
+
+pub lay-out-spec : {M : Type 1} → statement M
+lay-out-spec =
+    tie.close
+    (tie.spec
+    Inv-loop
+    μ-loop
+    loop-holds
+    mul-end
+    shared-slice-read-end
+    cast-end
+    add-end
+    part-edges-requires
+    add-next
+    cast-out-lengths
+    mul-out-lengths
+    slice-write-out-lengths
+    lay-out-part-requires
+    add-i
+    loop-less
+    loop-again
+    same-length
+    same-length-2
+    same-length-3
+    returns)

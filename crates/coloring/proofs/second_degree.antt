@@ -1,0 +1,2 @@
+-- The starting colours: laws of the definition.
+pub mod StartingLaws

@@ -1,0 +1,174 @@
+-- `color_contours` meets its contract: the contours passed are coloured, and the pen goes on.
+use native.Mathlib.Omega.{arith}
+use borrow.Author.Needs.{needs}
+use mathlib.Core.Path.{_≡_, refl, sym, ap, _∙_}
+use mathlib.Core.List.{List, _∷_, _++_, map}
+use Prim.Native.Nat.{ℕ, _+_, _-_, _≤_}
+use lib.ListN.{length, getD, take, drop, length-map}
+use Rattle.geometry.specs.EdgeColor.{bitsOf}
+use Rattle.coloring.specs.declared.switching.Pen.{Pen}
+use Rattle.coloring.specs.declared.settings.Strategy.{Strategy}
+use Rattle.coloring.specs.Places.{total, concat}
+use Rattle.coloring.specs.Layout.{resultEdges}
+use Rattle.coloring.specs.Corners.{Cornered, cornered}
+use Rattle.coloring.specs.Outline.{edgesOf, cut, over, overFrom}
+use Rattle.coloring.specs.Contour.{colorContour}
+use Rattle.coloring.specs.Shape.{colorContours}
+use Rattle.coloring.proofs.Writing.{over-more, over-nothing}
+use Rattle.coloring.proofs.outline.CutLaws.{Along, along-starts, along-room, along-next, cornered-step, cornered-end, left, left-step}
+use Rattle.coloring.proofs.contour.ColorLaws.{contour-length}
+use Rattle.coloring.proofs.shape.color_contours.Statement.{statement}
+use Rattle.coloring.proofs.shape.color_contours.Tie as tie
+
+-- the bytes of coloured contours
+abbrev colorBytes : Strategy → Pen → List Cornered → List ℕ
+colorBytes strategy pen found = concat (map (map bitsOf) (colorContours strategy pen found))
+
+bytes-next : (strategy : Strategy) (pen : Pen) (contour : Cornered) (rest : List Cornered)
+    → let colored = colorContour strategy pen contour in
+    colorBytes strategy pen (contour ∷ rest) ≡ map bitsOf (colored .colors) ++ colorBytes strategy (colored .pen) rest
+unfolding colorContours concat
+bytes-next strategy pen contour rest = refl
+
+abbrev Inv-loop : tie.InvT-loop
+Inv-loop strategy lengths kinds points flags seed out₀ pen₀ at₀ to₀ i₀ out pen at to i =
+    Along lengths (length kinds) at i × (length out ≡ length out₀)
+    × (to + left resultEdges lengths flags i at ≡ total (map resultEdges (cut lengths flags)))
+    × (over (colorBytes strategy pen₀ (cornered lengths (edgesOf kinds points) flags)) out₀
+    ≡ overFrom to (colorBytes strategy pen (cornered (drop i lengths) (drop at (edgesOf kinds points)) (drop at flags))) out)
+
+abbrev μ-loop : tie.MeasureT-loop
+μ-loop strategy lengths kinds points flags seed out₀ pen₀ at₀ to₀ i₀ out pen at to i = length lengths - i
+
+-- the next contour lies within the edges
+room : (c : tie.In-loop Inv-loop μ-loop)
+    → c .before .loop .at + getD (c .before .before .before .before .before .before .before .before .args .lengths .now) (c .before .loop .i) 0 ≤ length (c .before .before .before .before .before .before .before .before .args .kinds .now)
+room c = along-room _ _ _ _ (c .before .loop .inv .0) (c .loop-test .taken)
+
+module _ (c : tie.After-part-edges Inv-loop μ-loop) where
+  -- what it comes to
+  counted : c .part-edges .result ≡ resultEdges (take (getD (c .before .before .before .before .before .before .before .before .before .before .args .lengths .now) (c .before .before .before .loop .i) 0) (drop (c .before .before .before .loop .at) (c .before .before .before .before .before .before .before .before .before .before .args .flags .now)))
+  counted =
+      let n = getD (c .before .before .before .before .before .before .before .before .before .before .args .lengths .now) (c .before .before .before .loop .i) 0 in
+      let m : c .before .before .before .loop .at + n - c .before .before .before .loop .at ≡ n = omega arith in
+      rw m at (c .part-edges .ensures)
+
+  -- there is room for it
+  fit : c .before .before .before .loop .to + c .part-edges .result ≤ length (c .before .before .before .loop .out)
+  fit =
+      let s = c .before .before .before .loop in
+      let start = c .before .before .before .before .before .before .before .before .before .before in
+      omega (arith, counted, s .inv .1, s .inv .2, start .pre .1, left-step resultEdges (start .args .lengths .now) (start .args .flags .now) (s .i) (s .at) (c .before .before .loop-test .taken))
+
+init-color-requires : tie.Need-init-color-requires Inv-loop μ-loop
+init-color-requires c κs = search needs
+
+loop-holds : tie.Need-loop-holds Inv-loop μ-loop
+unfolding overFrom
+loop-holds c =
+    let start = c .before .before .before .before .before .before in
+    (along-starts _ _ (start .pre .0 .1), refl, omega arith, refl)
+
+mul-end : tie.Need-mul-end Inv-loop μ-loop
+mul-end c = omega arith
+
+shared-slice-read-end : tie.Need-shared-slice-read-end Inv-loop μ-loop
+shared-slice-read-end c = omega arith
+
+cast-end : tie.Need-cast-end Inv-loop μ-loop
+cast-end c =
+    let start = c .before .before .before .before .before .before .before .before .before in
+    omega (arith, room (c .before), start .pre .0 .0 .few)
+
+add-end : tie.Need-add-end Inv-loop μ-loop
+add-end c =
+    let start = c .before .before .before .before .before .before .before .before .before in
+    omega (arith, room (c .before), start .pre .0 .0 .few)
+
+part-edges-requires : tie.Need-part-edges-requires Inv-loop μ-loop
+part-edges-requires c κs =
+    let start = c .before .before .before .before .before .before .before .before .before in
+    let pre = start .pre .0 .0 in
+    (omega arith, omega (arith, room (c .before), pre .flagged), omega (arith, pre .flagged, pre .few))
+
+add-next : tie.Need-add-next Inv-loop μ-loop
+add-next c =
+    let start = c .before .before .before .before .before .before .before .before .before .before in
+    omega (arith, fit c, c .before .before .before .loop .inv .1, start .good)
+
+color-part-requires : tie.Need-color-part-requires Inv-loop μ-loop
+color-part-requires c κs =
+    let start = c .before .before .before .before .before .before .before .before .before .before .before in
+    let at = c .before .before .before .before .loop in (
+      record { matching = start .pre .0 .0; start = omega arith; inside = room (c .before .before .before) },
+      (ap (λ k. at .to + k) (c .before .part-edges .ensures), fit (c .before)),
+    )
+
+add-i : tie.Need-add-i Inv-loop μ-loop
+add-i c =
+    let start = c .before .before .before .before .before .before .before .before .before .before .before .before .before .before in
+    let branch = c .before .before .before .before .before .before in
+    omega (arith, branch .loop-test .taken, start .good)
+
+loop-less : tie.Need-loop-less Inv-loop μ-loop
+loop-less c = omega arith
+
+loop-again : tie.Need-loop-again Inv-loop μ-loop
+loop-again c =
+    let turn = c .before .before .before .before .before .before .before in
+    let branch = c .before .before .before .before .before .before in
+    let start = c .before .before .before .before .before .before .before .before .before .before .before .before .before .before in
+    let a = start .args in
+    let at = turn .loop in
+    let h = branch .loop-test .taken in
+    let edges = c .before .before .before .before in
+    let n = getD (a .lengths .now) (at .i) 0 in
+    let m : at .at + n - at .at ≡ n = omega arith in
+    let painted = rw m at (c .before .before .color-part .ensures) in
+    let xs = edgesOf (a .kinds .now) (a .points .now) in
+    let here : Cornered = record { edges = take n (drop (at .at) xs); corners = take n (drop (at .at) (a .flags .now)) } in
+    let colors = colorContour (a .strategy) (at .pen) here .colors in
+    let long : length (map bitsOf colors) ≡ resultEdges (here .corners) = length-map colors bitsOf ∙ contour-length (a .strategy) (at .pen) here in (
+      along-next _ _ _ _ (at .inv .0) h,
+      c .before .before .color-part .kept .1 .1 .1 .1 .1 .1 .1 .1 .1 .0 ∙ at .inv .1,
+      omega (arith, counted edges, at .inv .2, left-step resultEdges (a .lengths .now) (a .flags .now) (at .i) (at .at) h),
+      at .inv .3
+          ∙ rw (painted .colors-are, painted .pen-is, counted edges, cornered-step (a .lengths .now) xs (a .flags .now) (at .i) (at .at) h, bytes-next (a .strategy) (at .pen) here _)
+          (over-more (at .to) (resultEdges (here .corners)) (map bitsOf colors) _ (at .out) long (rw (counted edges) at (fit edges))),
+    )
+
+same-length : tie.Need-same-length Inv-loop μ-loop
+same-length c = c .before .loop .inv .1
+
+returns : tie.Need-returns Inv-loop μ-loop
+unfolding colorContours concat
+returns c =
+    let start = c .before .before .before .before .before .before .before .before in
+    let a = start .args in
+    let at = c .before .loop in
+    let found = cornered (a .lengths .now) (edgesOf (a .kinds .now) (a .points .now)) (a .flags .now) in
+    let none = cornered-end (a .lengths .now) (edgesOf (a .kinds .now) (a .points .now)) (a .flags .now) (at .i) (at .at) (c .loop-test .left) in
+    let whole : over (colorBytes (a .strategy) (c .before .before .init-color .result) found) (a .out .now) ≡ at .out =
+    at .inv .3 ∙ rw none (over-nothing (at .to) (at .out)) in
+    sym (rw (c .before .before .init-color .ensures) at whole)
+
+pub color-contours-spec : {M : Type 1} → statement M
+color-contours-spec =
+    tie.close
+    (tie.spec
+    Inv-loop
+    μ-loop
+    init-color-requires
+    loop-holds
+    mul-end
+    shared-slice-read-end
+    cast-end
+    add-end
+    part-edges-requires
+    add-next
+    color-part-requires
+    add-i
+    loop-less
+    loop-again
+    same-length
+    returns)

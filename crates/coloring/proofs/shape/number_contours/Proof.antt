@@ -1,0 +1,165 @@
+-- `number_contours` meets its contract: the contours passed are numbered.
+use native.Mathlib.Omega.{arith}
+use mathlib.Core.Path.{_≡_, refl, sym, ap, _∙_}
+use mathlib.Core.Bool.{Bool}
+use mathlib.Core.List.{List, map}
+use Prim.Native.Nat.{_+_, _-_, _≤_}
+use lib.ListN.{length, getD, take, drop}
+use Rattle.coloring.specs.Places.{range, total, concat}
+use Rattle.coloring.specs.Layout.{resultEdges}
+use Rattle.coloring.specs.Splines.{splineCount, paint}
+use Rattle.coloring.specs.Outline.{cut, over, overFrom}
+use Rattle.coloring.specs.Shape.{noSpline, numberFlags}
+use Rattle.coloring.proofs.Writing.{over-more, over-nothing}
+use Rattle.coloring.proofs.outline.CutLaws.{Along, along-starts, along-room, along-next, cut-step, cut-end, left, left-step}
+use Rattle.coloring.proofs.splines.PaintLaws.{paint-length}
+use Rattle.coloring.proofs.shape.number_contours.Statement.{statement}
+use Rattle.coloring.proofs.shape.number_contours.Tie as tie
+
+abbrev Inv-loop : tie.InvT-loop
+Inv-loop lengths flags out₀ first₀ at₀ to₀ i₀ out first at to i =
+    Along lengths (length flags) at i × (length out ≡ length out₀)
+    × (to + left resultEdges lengths flags i at ≡ total (map resultEdges (cut lengths flags)))
+    × (first + left splineCount lengths flags i at ≡ total (map splineCount (cut lengths flags)))
+    × (over (concat (numberFlags 0 (cut lengths flags))) out₀ ≡ overFrom to (concat (numberFlags first (cut (drop i lengths) (drop at flags)))) out)
+
+abbrev μ-loop : tie.MeasureT-loop
+μ-loop lengths flags out₀ first₀ at₀ to₀ i₀ out first at to i = length lengths - i
+
+-- the next contour lies within the edges
+room : (c : tie.In-loop Inv-loop μ-loop)
+    → c .before .loop .at + getD (c .before .before .before .before .before .args .lengths .now) (c .before .loop .i) 0 ≤ length (c .before .before .before .before .before .args .flags .now)
+room c = along-room _ _ _ _ (c .before .loop .inv .0) (c .loop-test .taken)
+
+module _ (c : tie.After-part-edges Inv-loop μ-loop) where
+  -- its flags
+  abbrev part : List Bool
+  part = take (getD (c .before .before .before .before .before .before .before .args .lengths .now) (c .before .before .before .loop .i) 0) (drop (c .before .before .before .loop .at) (c .before .before .before .before .before .before .before .args .flags .now))
+
+  whole : c .before .before .before .loop .at + getD (c .before .before .before .before .before .before .before .args .lengths .now) (c .before .before .before .loop .i) 0 - c .before .before .before .loop .at ≡ getD (c .before .before .before .before .before .before .before .args .lengths .now) (c .before .before .before .loop .i) 0
+  whole = omega arith
+
+  -- what it comes to
+  counted : c .part-edges .result ≡ resultEdges part
+  counted = rw whole at (c .part-edges .ensures)
+
+  -- there is room for it, and numbers for its splines
+  fit : c .before .before .before .loop .to + c .part-edges .result ≤ length (c .before .before .before .loop .out)
+  fit =
+      let s = c .before .before .before .loop in
+      let start = c .before .before .before .before .before .before .before in
+      omega (arith, counted, s .inv .1, s .inv .2, start .pre .1, left-step resultEdges (start .args .lengths .now) (start .args .flags .now) (s .i) (s .at) (c .before .before .loop-test .taken))
+
+  few : c .before .before .before .loop .first + splineCount part ≤ 64
+  few =
+      let s = c .before .before .before .loop in
+      let start = c .before .before .before .before .before .before .before in
+      omega (arith, s .inv .3, start .pre .0 .2, left-step splineCount (start .args .lengths .now) (start .args .flags .now) (s .i) (s .at) (c .before .before .loop-test .taken))
+
+loop-holds : tie.Need-loop-holds Inv-loop μ-loop
+unfolding overFrom
+loop-holds c = (along-starts _ _ (c .before .before .before .pre .0 .0), refl, omega arith, omega arith, refl)
+
+mul-end : tie.Need-mul-end Inv-loop μ-loop
+mul-end c = omega arith
+
+shared-slice-read-end : tie.Need-shared-slice-read-end Inv-loop μ-loop
+shared-slice-read-end c = omega arith
+
+cast-end : tie.Need-cast-end Inv-loop μ-loop
+cast-end c =
+    let start = c .before .before .before .before .before .before in
+    omega (arith, room (c .before), start .pre .0 .1)
+
+add-end : tie.Need-add-end Inv-loop μ-loop
+add-end c =
+    let start = c .before .before .before .before .before .before in
+    omega (arith, room (c .before), start .pre .0 .1)
+
+part-edges-requires : tie.Need-part-edges-requires Inv-loop μ-loop
+part-edges-requires c κs =
+    let start = c .before .before .before .before .before .before in
+    (omega arith, room (c .before), start .pre .0 .1)
+
+add-next : tie.Need-add-next Inv-loop μ-loop
+add-next c =
+    let start = c .before .before .before .before .before .before .before in
+    omega (arith, fit c, c .before .before .before .loop .inv .1, start .good)
+
+number-part-requires : tie.Need-number-part-requires Inv-loop μ-loop
+number-part-requires c κs =
+    let start = c .before .before .before .before .before .before .before .before in
+    let at = c .before .before .before .before .loop in (
+      (omega arith, room (c .before .before .before), start .pre .0 .1),
+      (rw (whole (c .before)) (few (c .before)), (ap (λ k. at .to + k) (c .before .part-edges .ensures), fit (c .before))),
+    )
+
+add-first : tie.Need-add-first Inv-loop μ-loop
+add-first c =
+    let done = rw (whole (c .before .before .before .before)) at (c .before .before .number-part .ensures .0) in
+    omega (arith, done, few (c .before .before .before .before))
+
+add-i : tie.Need-add-i Inv-loop μ-loop
+add-i c =
+    let start = c .before .before .before .before .before .before .before .before .before .before .before in
+    let branch = c .before .before .before .before .before .before in
+    omega (arith, branch .loop-test .taken, start .good)
+
+loop-less : tie.Need-loop-less Inv-loop μ-loop
+loop-less c = omega arith
+
+loop-again : tie.Need-loop-again Inv-loop μ-loop
+unfolding numberFlags concat
+loop-again c =
+    let turn = c .before .before .before .before .before .before .before in
+    let branch = c .before .before .before .before .before .before in
+    let start = c .before .before .before .before .before .before .before .before .before .before .before in
+    let a = start .args in
+    let at = turn .loop in
+    let h = branch .loop-test .taken in
+    let edges = c .before .before .before .before in
+    let flags = part edges in
+    let done = c .before .before .number-part in
+    let splines : done .result ≡ splineCount flags = rw (whole edges) at (done .ensures .0) in
+    let numbers : done .last .1 .1 .1 .1 .1 .1 .0 ≡ overFrom (at .to) (paint noSpline (range (at .first) (splineCount flags)) flags) (at .out) =
+    rw (whole edges, splines) at (done .ensures .1) in
+    let long = paint-length noSpline (range (at .first) (splineCount flags)) flags in (
+      along-next _ _ _ _ (at .inv .0) h,
+      done .kept .1 .1 .1 .1 .1 .1 .0 ∙ at .inv .1,
+      omega (arith, counted edges, at .inv .2, left-step resultEdges (a .lengths .now) (a .flags .now) (at .i) (at .at) h),
+      omega (arith, splines, at .inv .3, left-step splineCount (a .lengths .now) (a .flags .now) (at .i) (at .at) h),
+      at .inv .4
+          ∙ rw (numbers, splines, counted edges, cut-step (a .lengths .now) (a .flags .now) (at .i) (at .at) h)
+          (over-more (at .to) (resultEdges flags) (paint noSpline (range (at .first) (splineCount flags)) flags) _ (at .out) long (rw (counted edges) at (fit edges))),
+    )
+
+same-length : tie.Need-same-length Inv-loop μ-loop
+same-length c = c .before .loop .inv .1
+
+returns : tie.Need-returns Inv-loop μ-loop
+unfolding numberFlags concat
+returns c =
+    let a = c .before .before .before .before .before .args in
+    let at = c .before .loop in
+    sym (at .inv .4 ∙ rw (cut-end (a .lengths .now) (a .flags .now) (at .i) (at .at) (c .loop-test .left)) (over-nothing (at .to) (at .out)))
+
+pub number-contours-spec : {M : Type 1} → statement M
+number-contours-spec =
+    tie.close
+    (tie.spec
+    Inv-loop
+    μ-loop
+    loop-holds
+    mul-end
+    shared-slice-read-end
+    cast-end
+    add-end
+    part-edges-requires
+    add-next
+    number-part-requires
+    add-first
+    add-i
+    loop-less
+    loop-again
+    same-length
+    returns)

@@ -1,0 +1,3 @@
+-- The colours of the splines: laws and theorems.
+pub mod OrderLaws
+pub mod KeptPairs

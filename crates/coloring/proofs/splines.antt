@@ -1,0 +1,3 @@
+-- Laws on splines: values spread over the edges, painted contours.
+pub mod SpreadLaws
+pub mod PaintLaws

@@ -1,0 +1,2 @@
+-- Laws on colour switching: colours stored as bytes.
+pub mod DrawLaws

@@ -1,0 +1,62 @@
+-- Worked examples of by-distance colouring of outlines, computed from the definitions: P7 whole, and some that refute wrong programs.
+use mathlib.Core.Path.{_≡_, refl}
+use mathlib.Core.Bool.{true, false}
+use mathlib.Core.List.{List, [], _∷_, map}
+use lib.Ieee as Ieee
+use lib.Ieee.{Float}
+use Rattle.math.specs.Scalar.{f0, f1}
+use Rattle.math.specs.Sqrt.{sqrtOf}
+use Rattle.math.specs.Vector2.{sub, dot, cross, divScalar, squaredLength, lengthOf, normalize}
+use Rattle.geometry.specs.EdgeSegment.{direction}
+use Rattle.coloring.specs.declared.refusal.Refusal.the-variants.{TooMany, LengthMismatch, BadDistance}
+use Rattle.coloring.specs.declared.outline.Checked.the-variants.{Failed}
+use Rattle.coloring.specs.declared.settings.Marking.the-variants.{Numbers}
+use Rattle.coloring.specs.SplineTable.{offer}
+use Rattle.coloring.specs.PairOrder.{validDistance}
+use Rattle.coloring.specs.SplineColors.{offerSplines, colorSplines}
+use Rattle.coloring.specs.Corners.{Cornered, searchCorners, cornerCount, firstCorner}
+use Rattle.coloring.specs.Outline.{all}
+use Rattle.coloring.specs.Shape.{painted, numberContours}
+use Rattle.coloring.specs.ByDistance.{maxSplines, checkSplines, checkDistances, withBytes, splineByte, splineColor}
+use Rattle.coloring.specs.Examples.{square, eighth}
+
+-- ---- P7: the square's four splines, distance 0 beside and 1 across, seed 0; its splines' colours and offers are in SplineColorsExamples
+
+abbrev distances : List Float
+distances = f0 ∷ f1 ∷ f0 ∷ f0 ∷ f1 ∷ f0 ∷ []
+
+abbrev found : List Cornered
+found = map (searchCorners eighth) (square ∷ [])
+
+-- the edges' splines, and their colours
+pub square-edges :
+    (painted Numbers found .colors ≡ (0 ∷ 1 ∷ 2 ∷ 3 ∷ []))
+    × (withBytes (splineByte (colorSplines 4 distances 0)) (painted Numbers found) .colors ≡ (3 ∷ 6 ∷ 5 ∷ 6 ∷ []))
+unfolding square searchCorners cornerCount firstCorner painted splineColor offerSplines offer direction sub dot cross divScalar squaredLength lengthOf normalize sqrtOf Ieee.add Ieee.sub Ieee.mul Ieee.div Ieee.ne Ieee.le Ieee.lt Ieee.eq Ieee.ofBits
+square-edges = (refl, refl)
+
+-- ---- numbers
+
+-- refutes one that numbers each contour from 0, or gives the White edge of a teardrop a spline: a teardrop of three edges and then a smooth contour
+pub numbers-go-on :
+    numberContours 0 (record { edges = []; corners = true ∷ false ∷ false ∷ [] } ∷ record { edges = []; corners = false ∷ false ∷ [] } ∷ [])
+    ≡ ((0 ∷ 255 ∷ 1 ∷ []) ∷ (2 ∷ 2 ∷ []) ∷ [])
+unfolding numberContours cornerCount firstCorner
+numbers-go-on = refl
+
+-- refutes one that colours the White edge: 255 stays White
+pub white-stays : map (splineByte (2 ∷ 1 ∷ [])) (0 ∷ 255 ∷ 1 ∷ []) ≡ (5 ∷ 7 ∷ 6 ∷ [])
+unfolding splineColor
+white-stays = refl
+
+-- ---- the order of refusals
+
+-- refutes one that counts the distances first: 65 splines and no distance give 4
+pub splines-first : (checkSplines 65 (checkDistances 65 []) ≡ Failed TooMany) × (checkSplines 64 (checkDistances 64 []) ≡ Failed LengthMismatch)
+unfolding maxSplines
+splines-first = (refl, refl)
+
+-- refutes one that looks at the distances before their count
+pub count-first : (checkDistances 3 (Ieee.nan ∷ []) ≡ Failed LengthMismatch) × (checkDistances 2 (Ieee.nan ∷ []) ≡ Failed BadDistance)
+unfolding all validDistance Ieee.le Ieee.lt Ieee.ofBits
+count-first = (refl, refl)

@@ -1,0 +1,26 @@
+-- Lists by place: ranges, a list from a place on and around, and back; lists joined, numbers added up.
+use Prim.Native.Nat.{ℕ, zero, suc, _+_, _-_}
+use mathlib.Core.List.{List, [], _∷_, _++_}
+use lib.ListN.{length, take, drop}
+
+-- i, i + 1, .., k of them
+unfoldable pub range : ℕ → ℕ → List ℕ
+range i zero = []
+range i (suc k) = i ∷ range (suc i) k
+
+-- the list from place k on, then what stands before it
+unfoldable pub rotate : {A : Type 0} → ℕ → List A → List A
+rotate k xs = drop k xs ++ take k xs
+
+-- what was listed in the order (start + i) mod m, by place
+unfoldable pub byPlace : {A : Type 0} → ℕ → List A → List A
+unfolding rotate
+byPlace start xs = rotate (length xs - start) xs
+
+unfoldable pub concat : {A : Type 0} → List (List A) → List A
+concat [] = []
+concat (xs ∷ rest) = xs ++ concat rest
+
+unfoldable pub total : List ℕ → ℕ
+total [] = 0
+total (n ∷ numbers) = n + total numbers

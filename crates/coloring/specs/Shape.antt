@@ -1,0 +1,75 @@
+-- The result of a whole shape, contour by contour: its edges, and a byte for each of them.
+use Prim.Native.Nat.{ℕ, _+_, _≤_}
+use mathlib.Core.Bool.{Bool}
+use mathlib.Core.List.{List, [], _∷_, map}
+use lib.ListN.{length}
+use Rattle.geometry.specs.EdgeColor.{bitsOf}
+use Rattle.geometry.specs.declared.edge_color.EdgeColor.{EdgeColor}
+use Rattle.coloring.specs.declared.switching.Pen.{Pen}
+use Rattle.coloring.specs.declared.settings.Strategy.{Strategy}
+use Rattle.coloring.specs.declared.settings.Marking.{Marking}
+use Rattle.coloring.specs.declared.settings.Marking.the-variants.{Colors, Numbers}
+use Rattle.coloring.specs.declared.outline.Counts.{Counts}
+use Rattle.coloring.specs.declared.outline.Checked.{Checked}
+use Rattle.coloring.specs.Places.{range, total}
+use Rattle.coloring.specs.Switching.{initColor}
+use Rattle.coloring.specs.Corners.{Cornered}
+use Rattle.coloring.specs.Layout.{layout}
+use Rattle.coloring.specs.Splines.{splineCount, splineTotal, paint}
+use Rattle.coloring.specs.Contour.{colorContour}
+use Rattle.coloring.specs.Outline.{Result, Outcome, cut, encode, deliver}
+
+-- the colours: the contours in order, each with the pen that the one before left
+unfoldable pub colorContours : Strategy → Pen → List Cornered → List (List EdgeColor)
+unfolding colorContour
+colorContours strategy pen [] = []
+colorContours strategy pen (contour ∷ rest) =
+    let colored = colorContour strategy pen contour in
+    colored .colors ∷ colorContours strategy (colored .pen) rest
+
+-- in the place of a spline's number: the edge is White
+unfoldable pub noSpline : ℕ
+noSpline = 255
+
+-- the numbers: those of each contour's splines follow those of the one before
+unfoldable pub numberContours : ℕ → List Cornered → List (List ℕ)
+unfolding range splineCount paint noSpline
+numberContours first [] = []
+numberContours first (contour ∷ rest) =
+    let count = splineCount (contour .corners) in
+    paint noSpline (range first count) (contour .corners) ∷ numberContours (first + count) rest
+
+unfoldable pub markContours : Marking → List Cornered → List (List ℕ)
+unfolding initColor colorContours numberContours
+markContours (Colors strategy seed) found = map (map bitsOf) (colorContours strategy (initColor seed) found)
+markContours Numbers found = numberContours 0 found
+
+-- the result of contours with their corners
+unfoldable pub painted : Marking → List Cornered → Result
+unfolding layout encode markContours
+painted marking found = encode (map layout found) (markContours marking found)
+
+unfoldable pub countsOf : List Cornered → Result → Counts
+unfolding splineTotal
+countsOf found written = record { edges = length (written .kinds); splines = splineTotal found }
+
+-- the outcome of an entry, once its checks are made and its corners found
+abbrev pub deliverFound : Checked → Marking → List Cornered → Result → Outcome
+deliverFound checked marking found old =
+    let written = painted marking found in
+    deliver checked (countsOf found written) written old
+
+-- ---- what the functions behind it ask of each other
+
+-- the numbers by the flags of contours alone
+unfoldable pub numberFlags : ℕ → List (List Bool) → List (List ℕ)
+unfolding range splineCount paint noSpline
+numberFlags first [] = []
+numberFlags first (flags ∷ rest) =
+    let count = splineCount flags in
+    paint noSpline (range first count) flags ∷ numberFlags (first + count) rest
+
+-- numbers are given to at most 64 splines
+abbrev pub Markable : Marking → List ℕ → List Bool → Type 0
+Markable (Colors strategy seed) lengths flags = Unit {0}
+Markable Numbers lengths flags = total (map splineCount (cut lengths flags)) ≤ 64

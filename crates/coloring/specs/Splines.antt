@@ -1,0 +1,46 @@
+-- A contour's corners cut it into splines. Whatever a colouring gives to the splines, colours or numbers, is spread over the edges in one way.
+use Prim.Native.Nat.{ℕ, suc, _-_, _≤_, _<_}
+use mathlib.Core.Path.{_≡_}
+use mathlib.Core.Bool.{Bool, true, false, cond}
+use mathlib.Core.List.{List, [], _∷_, map}
+use lib.ListN.{length, getD}
+use lib.Dec.{eqb, ltb}
+use Rattle.coloring.specs.Places.{total}
+use Rattle.coloring.specs.Corners.{Cornered, cornerCount}
+use Rattle.coloring.specs.Layout.{resultEdges}
+use Rattle.coloring.specs.Teardrop.{teardrop}
+
+-- one spline without a corner, two with one corner, else one a corner; none in an empty contour
+unfoldable pub splineCount : List Bool → ℕ
+splineCount [] = 0
+splineCount (flag ∷ flags) =
+    let k = cornerCount (flag ∷ flags) in
+    cond (ltb k 2) (suc k) k
+
+-- the splines of all contours
+unfoldable pub splineTotal : List Cornered → ℕ
+unfolding total splineCount
+splineTotal found = total (map (λ (contour : Cornered). splineCount (contour .corners)) found)
+
+-- by place: at a corner the next spline begins; `value` is that of the spline before
+unfoldable pub spread : {A : Type 0} → A → List A → List Bool → List A
+spread value values [] = []
+spread value values (false ∷ flags) = value ∷ spread value values flags
+spread value [] (true ∷ flags) = value ∷ spread value [] flags
+spread value (next ∷ values) (true ∷ flags) = next ∷ spread next values flags
+
+-- The values of the result's edges, by place, from those of the splines. What stands before the first corner belongs to the last spline.
+unfoldable pub paint : {A : Type 0} → A → List A → List Bool → List A
+unfolding teardrop spread
+paint middle values flags =
+    elim (eqb (cornerCount flags) 1) [
+      | true ↦ teardrop (getD values 0 middle) middle (getD values 1 middle) flags
+      | false ↦ spread (getD values (length values - 1) middle) values flags
+    ]
+
+-- where splines' values may be painted: one a spline of a contour that is not empty, and as many places as its result has edges
+pub record Paintable (flags : List Bool) (values out : List ℕ) : Type 0 where
+  pub some : 0 < length flags
+  pub few : length flags ≤ 256
+  pub valued : length values ≡ splineCount flags
+  pub room : length out ≡ resultEdges flags

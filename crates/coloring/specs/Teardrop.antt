@@ -1,0 +1,22 @@
+-- A contour with one corner: three runs from it on, the first spline's, a middle one, the last spline's. After `color_teardrop` of coloring/mod.rs.
+use Prim.Native.Nat.{ℕ, zero, suc}
+use mathlib.Core.Bool.{Bool}
+use mathlib.Core.List.{List, map}
+use lib.IntN.{ℤ, pos, negsuc}
+use Rattle.coloring.specs.Trichotomy.{symmetricalTrichotomy}
+use Rattle.coloring.specs.Places.{range, byPlace}
+use Rattle.coloring.specs.Layout.{resultEdges, resultCorner}
+
+abbrev pub thirdOf : {A : Type 0} → A → A → A → ℤ → A
+thirdOf first middle last (pos zero) = middle
+thirdOf first middle last (pos (suc n)) = last
+thirdOf first middle last (negsuc n) = first
+
+-- The runs of m edges. Of the 3 or 6 edges of a split contour they are a third each.
+unfoldable pub runs : {A : Type 0} → A → A → A → ℕ → List A
+unfolding range symmetricalTrichotomy
+runs first middle last m = map (λ i. thirdOf first middle last (symmetricalTrichotomy i m)) (range 0 m)
+
+unfoldable pub teardrop : {A : Type 0} → A → A → A → List Bool → List A
+unfolding byPlace runs resultEdges resultCorner
+teardrop first middle last flags = byPlace (resultCorner flags) (runs first middle last (resultEdges flags))

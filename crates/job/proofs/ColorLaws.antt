@@ -1,0 +1,244 @@
+-- A job that was read passes the checks of an outline, and its buffers hold its contours: so colouring the buffers is colouring the job.
+use mathlib.Core.Path.{_≡_, refl, sym, ap, _∙_}
+use mathlib.Core.Bool.{Bool, true, false, cond, _&&_}
+use mathlib.Core.List.{List, [], _∷_, map}
+use Prim.Native.Nat.{ℕ, _+_, _*_, _≤_}
+use native.Mathlib.Omega.{arith}
+use lib.Dec.{leb, eqb}
+use lib.Ieee.{Float, binary64, ofBits}
+use lib.ListN.{length, take, drop, length-append, length-map}
+use lib.Seq.{take-at, drop-at}
+use borrow.Author.Tests.{le-leb, eq-eqb}
+use Rattle.geometry.specs.EdgeSegment.{toStored, fromStored}
+use Rattle.geometry.specs.declared.edge_segment.EdgeSegment.{EdgeSegment}
+use Rattle.geometry.specs.declared.edge_segment.EdgeSegment.the-variants as segment
+use Rattle.coloring.specs.declared.outline.Checked.{Checked}
+use Rattle.coloring.specs.declared.outline.Checked.the-variants.{Passed}
+use Rattle.coloring.specs.declared.settings.Strategy.the-variants.{Simple, InkTrap}
+use Rattle.coloring.specs.declared.settings.Strategy.{Strategy}
+use Rattle.coloring.specs.declared.settings.Marking.the-variants.{Colors, Numbers}
+use Rattle.coloring.specs.Places.{concat, total}
+use Rattle.coloring.specs.Corners.{Cornered}
+use Rattle.coloring.specs.Splines.{splineTotal}
+use Rattle.coloring.specs.SplineColors.{colorSplines}
+use Rattle.coloring.specs.Outline as outline
+use Rattle.coloring.specs.declared.outline.Colored.the-variants as color
+use Rattle.coloring.specs.Outline.{Result, Outcome, outcome, over, cut, edgeOf, edgesOf, contours, knownKind, coordinatesFit, maxContours, maxEdges, check, deliver}
+use Rattle.coloring.specs.Shape.{painted, countsOf}
+use Rattle.coloring.specs.EdgeColoring.{edgeColoring}
+use Rattle.coloring.specs.ByDistance.{maxDistances, checkSplines, checkDistances, splineByte, withBytes, edgeColoringByDistance}
+use Rattle.job.specs.declared.progress.Numbers.{Numbers as JobNumbers}
+use Rattle.job.specs.declared.progress.Read.{Read}
+use Rattle.job.specs.declared.progress.Read.the-variants as read
+use Rattle.coloring.specs.declared.refusal.Refusal.{Refusal}
+use Rattle.job.specs.Job.{Job, Reading, reads, refuses, readJob}
+use Rattle.job.specs.Progress.{edgeCount, numbersOf}
+use Rattle.job.specs.Buffers.{Buffers, buffers, kindsOf, placesOf, stored, overEach, roomFor, hasRoom, Hold}
+use Rattle.job.specs.Reader.{readInto, Delivers}
+use Rattle.job.specs.Color.{foundIn, checkJob, colored, colorJob, colorReading, colorFile, outlineOf, colorStored, HoldsJobs}
+use Rattle.job.proofs.ReadingLaws.{edgeFits}
+use Rattle.job.proofs.ProgressLaws.{Sound, job-sound, contours-few, edges-few}
+use Rattle.job.proofs.StoredLaws.{lengthsOf, kinds-length, places-length}
+
+-- ---- the buffers hold the contours
+
+pub total-lengths : (contours : List (List EdgeSegment)) → total (lengthsOf contours) ≡ edgeCount contours
+unfolding total concat
+total-lengths [] = refl
+total-lengths (c ∷ contours) = ap (λ (n : ℕ). length c + n) (total-lengths contours) ∙ sym (length-append c (concat contours))
+
+edges-again : (edges : List EdgeSegment) → edgesOf (kindsOf edges) (placesOf edges) ≡ edges
+unfolding edgesOf edgeOf toStored fromStored concat
+edges-again [] = refl
+edges-again (segment.Line p0 p1 ∷ edges) = ap (λ (r : List EdgeSegment). segment.Line p0 p1 ∷ r) (edges-again edges)
+edges-again (segment.Quadratic p0 p1 p2 ∷ edges) = ap (λ (r : List EdgeSegment). segment.Quadratic p0 p1 p2 ∷ r) (edges-again edges)
+edges-again (segment.Cubic p0 p1 p2 p3 ∷ edges) = ap (λ (r : List EdgeSegment). segment.Cubic p0 p1 p2 p3 ∷ r) (edges-again edges)
+
+cut-again : (contours : List (List EdgeSegment)) → cut (lengthsOf contours) (concat contours) ≡ contours
+unfolding cut concat
+cut-again [] = refl
+cut-again (c ∷ contours) = rw (take-at c (concat contours) (length c) refl, drop-at c (concat contours) (length c) refl, cut-again contours)
+
+contours-again : (job : Job) → contours (outlineOf (stored job)) ≡ job .contours
+unfolding contours stored
+contours-again job = rw (edges-again (concat (job .contours))) (cut-again (job .contours))
+
+-- ---- and pass the checks
+
+kinds-known : (edges : List EdgeSegment) → outline.all knownKind (kindsOf edges) ≡ true
+unfolding outline.all toStored
+kinds-known [] = refl
+kinds-known (segment.Line p0 p1 ∷ edges) = kinds-known edges
+kinds-known (segment.Quadratic p0 p1 p2 ∷ edges) = kinds-known edges
+kinds-known (segment.Cubic p0 p1 p2 p3 ∷ edges) = kinds-known edges
+
+and-next : (a b c : Bool) → (a && b) ≡ true → (b ≡ true → c ≡ true) → (a && c) ≡ true
+and-next true b c h then = then h
+and-next false b c h then = h
+
+coordinates-pass : (edges : List EdgeSegment) → outline.all edgeFits edges ≡ true → coordinatesFit (kindsOf edges) (placesOf edges) ≡ true
+unfolding coordinatesFit outline.all toStored concat
+coordinates-pass [] h = refl
+coordinates-pass (segment.Line p0 p1 ∷ edges) h = and-next (edgeFits (segment.Line p0 p1)) _ _ h (λ k. coordinates-pass edges k)
+coordinates-pass (segment.Quadratic p0 p1 p2 ∷ edges) h = and-next (edgeFits (segment.Quadratic p0 p1 p2)) _ _ h (λ k. coordinates-pass edges k)
+coordinates-pass (segment.Cubic p0 p1 p2 p3 ∷ edges) h = and-next (edgeFits (segment.Cubic p0 p1 p2 p3)) _ _ h (λ k. coordinates-pass edges k)
+
+module _ (job : Job) (so : Sound job) (contours-fit : length (job .contours) ≤ 64) (edges-fit : edgeCount (job .contours) ≤ 256) where
+  pub passes : check (outlineOf (stored job)) (job .threshold) ≡ Passed
+  unfolding check maxContours maxEdges stored
+  passes =
+      let edges = concat (job .contours) in
+      let sum = total-lengths (job .contours) in
+      rw (
+        sum,
+        length-map (job .contours) (λ (c : List EdgeSegment). length c),
+        kinds-length edges,
+        places-length edges,
+        le-leb (length (job .contours)) 64 contours-fit,
+        le-leb (edgeCount (job .contours)) 256 edges-fit,
+        eq-eqb (length edges) (length edges) refl,
+        eq-eqb (8 * length edges) (8 * length edges) refl,
+        kinds-known edges,
+        coordinates-pass edges (so .coordinates-fit),
+        so .threshold-fits,
+      )
+
+  -- ---- so each colouring of the buffers is that of the job
+
+  module _ (old : Result) where
+    by-colors : (strategy : Strategy) → edgeColoring (record { strategy = strategy; threshold = job .threshold }) (outlineOf (stored job)) (job .seed) old
+        ≡ deliver Passed (countsOf (foundIn job) (painted (Colors strategy (job .seed)) (foundIn job))) (painted (Colors strategy (job .seed)) (foundIn job)) old
+    unfolding edgeColoring foundIn
+    by-colors strategy = rw (passes, contours-again job)
+
+    abbrev numbered : Result
+    numbered = withBytes (splineByte (colorSplines (splineTotal (foundIn job)) (job .distances) (job .seed))) (painted Numbers (foundIn job))
+
+    abbrev distances-checked : Checked
+    distances-checked = let splines = splineTotal (foundIn job) in checkSplines splines (checkDistances splines (job .distances))
+
+    by-numbers : edgeColoringByDistance (outlineOf (stored job)) (job .threshold) (job .seed) (job .distances) old ≡ deliver distances-checked (countsOf (foundIn job) numbered) numbered old
+    unfolding edgeColoringByDistance maxDistances foundIn countsOf
+    by-numbers = rw (le-leb (length (job .distances)) 2016 (so .distances-few), passes, contours-again job)
+
+    stored-is : stored job .distances ≡ job .distances
+    unfolding stored
+    stored-is = refl
+
+    pub stored-colored : colorStored (job .strategy) (job .seed) (job .threshold) (stored job) old ≡ colorJob job old
+    unfolding colorStored colorJob checkJob colored
+    stored-colored = rw (stored-is, by-colors Simple, by-colors InkTrap, by-numbers) (go (eqb (job .strategy) 1) (eqb (job .strategy) 2) _ _ _ _)
+      where
+        go : (a b : Bool) (x y z : Result) (k : Checked)
+            → cond a (deliver Passed (countsOf (foundIn job) x) x old) (cond b (deliver Passed (countsOf (foundIn job) y) y old) (deliver k (countsOf (foundIn job) z) z old))
+            ≡ deliver (cond a Passed (cond b Passed k)) (countsOf (foundIn job) (cond a x (cond b y z))) (cond a x (cond b y z)) old
+        go true b x y z k = refl
+        go false true x y z k = refl
+        go false false x y z k = refl
+
+-- ---- from what the reader delivers
+
+take-over : {A : Type 0} (n : ℕ) (xs ys : List A) → length xs ≡ n → take n (over xs ys) ≡ xs
+unfolding over
+take-over n xs ys e = take-at xs _ n e
+
+within : {A : Type 0} {n : ℕ} (xs ys : List A) → length xs ≡ n → n ≤ length (over xs ys)
+unfolding over
+within xs ys e = omega (arith, e, length-append xs (drop (length xs) ys))
+
+-- a job that was read has room
+job-room : (file : List ℕ) (job : Job) (old : Buffers) → readJob file ≡ reads job → HoldsJobs old → hasRoom (numbersOf job) old ≡ true
+unfolding roomFor
+job-room file job old e h =
+    let few = contours-few file job e in
+    let edges = edges-few file job e in
+    let distances = job-sound file job e .distances-few in
+    rw (
+      le-leb (length (job .contours)) (length (old .lengths)) (omega (arith, h .lengths-fit)),
+      le-leb (edgeCount (job .contours)) (length (old .kinds)) (omega (arith, h .kinds-fit)),
+      le-leb (8 * edgeCount (job .contours)) (length (old .points)) (omega (arith, h .points-fit)),
+      le-leb (length (job .distances)) (length (old .distances)) (omega (arith, h .distances-fit)),
+    )
+
+-- what the buffers hold after reading
+pub record Holding (file : List ℕ) (n : JobNumbers) (old : Buffers) (lengths kinds : List ℕ) (points distances : List Float) : Type 0 where
+  pub job : Job
+  pub is-read : readJob file ≡ reads job
+  pub numbers : n ≡ numbersOf job
+  pub holds : Hold (overEach (stored job) old) lengths kinds points distances
+
+module _ (file : List ℕ) (old : Buffers) (room : HoldsJobs old) (lengths kinds : List ℕ) (points distances : List Float) where
+  pub read-job : (answer : Read) (n : JobNumbers) → answer ≡ read.Job n → Delivers (readInto (readJob file) old) answer lengths kinds points distances
+      → Holding file n old lengths kinds points distances
+  unfolding readInto
+  read-job answer n is d = go (readJob file) refl (rw is at d)
+    where
+      go : (reading : Reading) → readJob file ≡ reading → Delivers (readInto reading old) (read.Job n) lengths kinds points distances → Holding file n old lengths kinds points distances
+      go (reads job) e d =
+          let given = rw (job-room file job old e room) at d in
+          record { job = job; is-read = e; numbers = let same = given .answers in cc; holds = given .holds }
+      go (refuses refusal) e d = let no = d .answers in let z : _≡_ {A = ℕ} 0 1 = cc in absurd (omega arith)
+
+  pub read-refused : (answer : Read) (refusal : Refusal) (out : Result) → answer ≡ read.Refused refusal → Delivers (readInto (readJob file) old) answer lengths kinds points distances
+      → outcome (color.Refused refusal) out ≡ colorFile file out
+  unfolding readInto colorFile colorReading
+  read-refused answer refusal out is d = go (readJob file) refl (rw is at d)
+    where
+      go : (reading : Reading) → readJob file ≡ reading → Delivers (readInto reading old) (read.Refused refusal) lengths kinds points distances
+          → outcome (color.Refused refusal) out ≡ colorReading reading out
+      go (reads job) e d =
+          let given = rw (job-room file job old e room) at d in
+          let no = given .answers in
+          let z : _≡_ {A = ℕ} 0 1 = cc in
+          absurd (omega arith)
+      go (refuses other) e d = let same : refusal ≡ other = (let a = d .answers in cc) in ap (λ (r : Refusal). outcome (color.Refused r) out) same
+
+module _ {file : List ℕ} {n : JobNumbers} {old : Buffers} {lengths kinds : List ℕ} {points distances : List Float} (h : Holding file n old lengths kinds points distances) where
+  -- the parts of the buffers that hold the job
+  abbrev held : Buffers
+  held = buffers (take (n .contours) lengths) (take (n .edges) kinds) (take (8 * n .edges) points) (take (n .distances) distances)
+
+  held-is : held ≡ stored (h .job)
+  unfolding overEach stored
+  held-is =
+      let job = h .job in
+      let edges = concat (job .contours) in
+      rw (
+        h .numbers,
+        h .holds .lengths-are,
+        h .holds .kinds-are,
+        h .holds .points-are,
+        h .holds .distances-are,
+        take-over (length (job .contours)) (lengthsOf (job .contours)) (old .lengths) (length-map (job .contours) (λ (c : List EdgeSegment). length c)),
+        take-over (length edges) (kindsOf edges) (old .kinds) (kinds-length edges),
+        take-over (8 * length edges) (placesOf edges) (old .points) (places-length edges),
+        take-over (length (job .distances)) (job .distances) (old .distances) refl,
+      )
+
+  pub held-colored : (threshold : Float) (out : Result) → threshold ≡ ofBits binary64 (n .threshold) → colorStored (n .strategy) (n .seed) threshold held out ≡ colorFile file out
+  unfolding colorFile colorReading
+  held-colored threshold out e =
+      let job = h .job in
+      let so = job-sound file job (h .is-read) in
+      rw (held-is, e, h .numbers, so .threshold-back, h .is-read)
+      (stored-colored job so (contours-few file job (h .is-read)) (edges-few file job (h .is-read)) out)
+
+  -- and they lie within the buffers
+  pub edges-most : n .edges ≤ 256
+  edges-most = rw (h .numbers) (edges-few file (h .job) (h .is-read))
+
+  pub contours-within : n .contours ≤ length lengths
+  unfolding overEach stored
+  contours-within = rw (h .numbers, h .holds .lengths-are) (within (lengthsOf (h .job .contours)) (old .lengths) (length-map (h .job .contours) (λ (c : List EdgeSegment). length c)))
+
+  pub kinds-within : n .edges ≤ length kinds
+  unfolding overEach stored
+  kinds-within = rw (h .numbers, h .holds .kinds-are) (within (kindsOf (concat (h .job .contours))) (old .kinds) (kinds-length (concat (h .job .contours))))
+
+  pub places-within : 8 * n .edges ≤ length points
+  unfolding overEach stored
+  places-within = rw (h .numbers, h .holds .points-are) (within (placesOf (concat (h .job .contours))) (old .points) (places-length (concat (h .job .contours))))
+
+  pub distances-within : n .distances ≤ length distances
+  unfolding overEach stored
+  distances-within = rw (h .numbers, h .holds .distances-are) (within (h .job .distances) (old .distances) refl)

@@ -1,0 +1,324 @@
+-- The buffers follow the job: after each record they hold the job so far, over what stood there.
+use mathlib.Core.Path.{_≡_, refl, sym, ap, subst, _∙_}
+use mathlib.Core.Bool.{Bool, true, false, _&&_}
+use mathlib.Core.List.{List, [], _∷_, _++_}
+use Prim.Native.Nat.{ℕ, _+_, _*_, _-_, _<_, _≤_}
+use native.Mathlib.Omega.{arith}
+use lib.Dec.{leb}
+use lib.ListN.{length, take, drop, set, length-append, length-map}
+use lib.Ieee.{Float}
+use borrow.Author.Tests.{leb-true}
+use Rattle.geometry.specs.declared.edge_segment.EdgeSegment.{EdgeSegment}
+use Rattle.geometry.specs.EdgeSegment.{toStored}
+use Rattle.coloring.specs.Places.{concat}
+use Rattle.coloring.specs.Outline.{over}
+use Rattle.coloring.specs.declared.refusal.Refusal.{Refusal}
+use Rattle.job.specs.declared.records.State.{State}
+use Rattle.job.specs.declared.records.Item.{Item}
+use Rattle.job.specs.declared.progress.Progress.{Progress}
+use Rattle.job.specs.Patterns.{words, floats}
+use Rattle.job.specs.Records.{Record, header, contour, edge, distances, Step, next, ends, fails, controls, kindOf, edgeOf, itemOf, allowed, closing, recordSize, readRecord, after, Records, complete, fault, _then_, recordsFrom}
+use Rattle.job.specs.Job.{Job, withEdge, enter, Reading, reads, refuses, jobFrom, readJob}
+use Rattle.job.specs.Progress.{edgeCount, numbersOf, begin, advanced}
+use Rattle.job.specs.Reader.{Fits, filled}
+use Rattle.job.specs.Buffers.{Buffers, buffers, kindsOf, placesOf, kindNumber, placesFrom, stored, overEach, written, roomFor, hasRoom, Hold, Room}
+use Rattle.job.proofs.ReadingLaws.{recordMark, Taken, taken, Read-as, records-end, records-fault}
+use Rattle.job.proofs.ProgressLaws.{Reached, reached-begin, begin-job, reached-next, next-job, reached-end, reached-fault, Ready, with-edge-length, with-edge-concat, more-concat, not-closing, record-taken, is-ready, contours-are, edges-are, ahead}
+use Rattle.job.proofs.BufferLaws.{over-more, over-length, over-set, over-getD, over-part}
+use Rattle.job.proofs.StoredLaws.{lengthsOf, map-snoc, lengths-edge, last-few, kind-number, places-eight, kinds-edge, places-edge, kinds-length, places-length}
+
+-- ---- a job so far is a part of the whole
+
+enter-grows : (job : Job) (r : Record) → (length (job .contours) ≤ length (enter job r .contours)) × (edgeCount (job .contours) ≤ edgeCount (enter job r .contours))
+unfolding enter withEdge concat
+enter-grows job (header strategy seed threshold) = (omega arith, omega arith)
+enter-grows job contour = (omega (arith, length-append (job .contours) ([] ∷ [])), omega (arith, ap length (more-concat (job .contours))))
+enter-grows job (edge e) = (omega (arith, with-edge-length (job .contours) e), more (job .contours))
+  where
+    more : (contours : List (List EdgeSegment)) → edgeCount contours ≤ edgeCount (withEdge contours e)
+    more [] = omega arith
+    more (c ∷ contours) = omega (arith, ap length (with-edge-concat (c ∷ contours) e (omega arith)), length-append (concat (c ∷ contours)) (e ∷ []))
+enter-grows job (distances ds) = (omega arith, omega arith)
+
+grows : (job whole : Job) (records : Records) → jobFrom job records ≡ reads whole
+    → (length (job .contours) ≤ length (whole .contours)) × (edgeCount (job .contours) ≤ edgeCount (whole .contours))
+unfolding jobFrom
+grows job whole complete e =
+    let same : job ≡ whole = cc in
+    (omega (arith, ap (λ (j : Job). length (j .contours)) same), omega (arith, ap (λ (j : Job). edgeCount (j .contours)) same))
+grows job whole (fault refusal) e = let z : _≡_ {A = ℕ} 0 1 = cc in absurd (omega arith)
+grows job whole (r then rest) e =
+    let one = enter-grows job r in
+    let all = grows (enter job r) whole rest e in
+    (omega arith, omega arith)
+
+-- nothing comes after the distances
+closing-final : (s : State) (bytes : List ℕ) (job whole : Job) → closing (s .phase) ≡ true → jobFrom job (recordsFrom s bytes) ≡ reads whole → job ≡ whole
+unfolding jobFrom
+closing-final s bytes job whole h e = go (readRecord s bytes) refl
+  where
+    go : (step : Step) → readRecord s bytes ≡ step → job ≡ whole
+    go (next r rest) f =
+        let no = not-closing s r (taken s bytes r rest f .may) in
+        let z : _≡_ {A = ℕ} 0 1 = cc in absurd (omega arith)
+    go ends f = let done = sym (ap (jobFrom job) (records-end s bytes f)) ∙ e in cc
+    go (fails refusal) f = let stopped = sym (ap (jobFrom job) (records-fault s bytes refusal f)) ∙ e in cc
+
+-- ---- room
+
+pub record Fitting (b old : Buffers) : Type 0 where
+  pub lengths-fit : length (b .lengths) ≤ length (old .lengths)
+  pub kinds-fit : length (b .kinds) ≤ length (old .kinds)
+  pub points-fit : length (b .points) ≤ length (old .points)
+  pub distances-fit : length (b .distances) ≤ length (old .distances)
+
+and-both : (a b : Bool) → (a && b) ≡ true → (a ≡ true) × (b ≡ true)
+and-both true b h = (refl, h)
+and-both false b h = (h, cc)
+
+-- what the code tests
+pub record Roomy (contours edges distances : ℕ) (old : Buffers) : Type 0 where
+  pub contours-fit : contours ≤ length (old .lengths)
+  pub edges-fit : edges ≤ length (old .kinds)
+  pub places-fit : 8 * edges ≤ length (old .points)
+  pub distances-fit : distances ≤ length (old .distances)
+
+pub roomy : (job : Job) (old : Buffers) → hasRoom (numbersOf job) old ≡ true → Roomy (length (job .contours)) (edgeCount (job .contours)) (length (job .distances)) old
+unfolding roomFor
+roomy job old h =
+    let l = leb (length (job .contours)) (length (old .lengths)) in
+    let k = leb (edgeCount (job .contours)) (length (old .kinds)) in
+    let p = leb (8 * edgeCount (job .contours)) (length (old .points)) in
+    let d = leb (length (job .distances)) (length (old .distances)) in
+    let a = and-both (l && k && p) d h in
+    let b = and-both (l && k) p (a .0) in
+    let c = and-both l k (b .0) in
+    record {
+      contours-fit = leb-true _ _ (c .0);
+      edges-fit = leb-true _ _ (c .1);
+      places-fit = leb-true _ _ (b .1);
+      distances-fit = leb-true _ _ (a .1);
+    }
+
+fitting : (job : Job) (old : Buffers) (contours edges : ℕ) → length (job .contours) ≤ contours → edgeCount (job .contours) ≤ edges → Roomy contours edges (length (job .distances)) old → Fitting (stored job) old
+unfolding stored
+fitting job old contours edges h k room = record {
+  lengths-fit = omega (arith, length-map (job .contours) (λ (c : List EdgeSegment). length c), room .contours-fit);
+  kinds-fit = omega (arith, kinds-length (concat (job .contours)), room .edges-fit);
+  points-fit = omega (arith, places-length (concat (job .contours)), room .places-fit);
+  distances-fit = room .distances-fit;
+}
+
+-- ---- one record more
+
+same : {l l' k k' : List ℕ} {p p' d d' : List Float} → l ≡ l' → k ≡ k' → p ≡ p' → d ≡ d' → buffers l k p d ≡ buffers l' k' p' d'
+same {l' = l'} {k = k} {k' = k'} {p = p} {p' = p'} {d = d} a b c e =
+    ap (λ (x : List ℕ). buffers x k p d) a ∙ ap (λ (x : List ℕ). buffers l' x p d) b ∙ ap (λ (x : List Float). buffers l' k' x d) c ∙ ap (λ (x : List Float). buffers l' k' p' x) e
+
+module _ (job : Job) (old : Buffers) (s : State) (bytes : List ℕ) (contours-at : s .contours ≡ length (job .contours)) (edges-at : s .edges ≡ edgeCount (job .contours)) where
+  abbrev contours : List (List EdgeSegment)
+  contours = job .contours
+
+  abbrev edges : List EdgeSegment
+  edges = concat contours
+
+  count : length (lengthsOf contours) ≡ length contours
+  count = length-map contours (λ (c : List EdgeSegment). length c)
+
+  written-contour : Fitting (stored (enter job contour)) old → written (itemOf contour) s bytes (overEach (stored job) old) ≡ overEach (stored (enter job contour)) old
+  unfolding written overEach stored enter
+  written-contour fit =
+      let more : lengthsOf (contours ++ ([] ∷ [])) ≡ lengthsOf contours ++ (0 ∷ []) = map-snoc (λ (c : List EdgeSegment). length c) contours [] in
+      let at : s .contours ≡ length (lengthsOf contours) = contours-at ∙ sym count in
+      same
+      (ap (λ (n : ℕ). set (over (lengthsOf contours) (old .lengths)) n 0) at
+      ∙ over-more (lengthsOf contours) (old .lengths) 0 (omega (arith, fit .lengths-fit, ap length more, length-append (lengthsOf contours) (0 ∷ [])))
+      ∙ ap (λ (x : List ℕ). over x (old .lengths)) (sym more))
+      (rw (more-concat contours))
+      (rw (more-concat contours))
+      refl
+
+  written-edge : (e : EdgeSegment) → 0 < length contours → Fitting (stored (enter job (edge e))) old
+      → e ≡ edgeOf (kindOf e) (floats (words (2 * controls (kindOf e)) (take (16 * controls (kindOf e)) (drop 2 bytes))))
+      → written (itemOf (edge e)) s bytes (overEach (stored job) old) ≡ overEach (stored (enter job (edge e))) old
+  unfolding written overEach stored enter placesFrom
+  written-edge e opened fit held =
+      let all : concat (withEdge contours e) ≡ edges ++ (e ∷ []) = with-edge-concat contours e opened in
+      let last : s .contours - 1 ≡ length contours - 1 = omega arith in
+      let inside : length contours - 1 < length (lengthsOf contours) = omega (arith, count) in
+      let fewer : length (lengthsOf contours) ≤ length (old .lengths) = omega (arith, count, fit .lengths-fit, length-map (withEdge contours e) (λ (c : List EdgeSegment). length c), with-edge-length contours e) in
+      let at : s .edges ≡ length (kindsOf edges) = edges-at ∙ sym (kinds-length edges) in
+      let kinds : kindsOf (concat (withEdge contours e)) ≡ kindsOf edges ++ (kindNumber (kindOf e) ∷ []) = ap kindsOf all ∙ kinds-edge edges e ∙ ap (λ (n : ℕ). kindsOf edges ++ (n ∷ [])) (kind-number e) in
+      let points : placesOf (concat (withEdge contours e)) ≡ placesOf edges ++ toStored e .points = ap placesOf all ∙ places-edge edges e in
+      same
+      (rw (last, over-getD (lengthsOf contours) (old .lengths) (length contours - 1) 0 inside) (over-set (lengthsOf contours) (old .lengths) (length contours - 1) _ inside fewer)
+      ∙ ap (λ (x : List ℕ). over x (old .lengths)) (sym (lengths-edge contours e opened)))
+      (ap (λ (n : ℕ). set (over (kindsOf edges) (old .kinds)) n (kindNumber (kindOf e))) at
+      ∙ over-more (kindsOf edges) (old .kinds) (kindNumber (kindOf e)) (omega (arith, fit .kinds-fit, ap length kinds, length-append (kindsOf edges) (kindNumber (kindOf e) ∷ [])))
+      ∙ ap (λ (x : List ℕ). over x (old .kinds)) (sym kinds))
+      (ap (λ (x : EdgeSegment). take (8 * s .edges) (over (placesOf edges) (old .points)) ++ (toStored x .points ++ drop 8 (drop (8 * s .edges) (over (placesOf edges) (old .points))))) (sym held)
+      ∙ over-part (placesOf edges) (toStored e .points) (old .points) (8 * s .edges) 8 (omega (arith, edges-at, places-length edges)) (sym (places-eight e))
+      ∙ ap (λ (x : List Float). over x (old .points)) (sym points))
+      refl
+
+  written-distances : (ds : List Float) → job .distances ≡ [] → ds ≡ floats (words (length ds) (drop 4 bytes))
+      → written (itemOf (distances ds)) s bytes (overEach (stored job) old) ≡ overEach (stored (enter job (distances ds))) old
+  unfolding written overEach stored enter over
+  written-distances ds none held = same refl refl refl (rw none (ap (λ (x : List Float). x ++ drop (length x) (old .distances)) (sym held)))
+
+  written-next : (r : Record) (rest : List ℕ) → Taken s bytes r rest → Ready job r → (closing (s .phase) ≡ false → job .distances ≡ []) → Fitting (stored (enter job r)) old
+      → written (itemOf r) s bytes (overEach (stored job) old) ≡ overEach (stored (enter job r)) old
+  written-next (header strategy seed threshold) rest t ready none fit = unfold written overEach stored enter in refl
+  written-next contour rest t ready none fit = written-contour fit
+  written-next (edge e) rest t ready none fit = written-edge e ready fit (t .held)
+  written-next (distances ds) rest t ready none fit = written-distances ds (none (not-closing s (distances ds) (t .may))) (t .held .1)
+
+  -- there is room for the record
+  room-contour : Fitting (stored (enter job contour)) old → Room (itemOf contour) s bytes (overEach (stored job) old)
+  unfolding overEach stored enter
+  room-contour fit =
+      let more : length (lengthsOf (contours ++ ([] ∷ []))) ≡ length contours + 1 = length-map (contours ++ ([] ∷ [])) (λ (c : List EdgeSegment). length c) ∙ length-append contours ([] ∷ []) in
+      rw (over-length (lengthsOf contours) (old .lengths) (omega (arith, count, more, fit .lengths-fit))) (omega (arith, more, fit .lengths-fit))
+
+  room-edge : (e : EdgeSegment) → 0 < length contours → edgeCount contours ≤ 256 → 2 + 16 * controls (kindOf e) ≤ length bytes → Fitting (stored (enter job (edge e))) old
+      → Room (itemOf (edge e)) s bytes (overEach (stored job) old)
+  unfolding overEach stored enter
+  room-edge e opened few whole fit =
+      let all : edgeCount (withEdge contours e) ≡ edgeCount contours + 1 = ap length (with-edge-concat contours e opened) ∙ length-append edges (e ∷ []) in
+      let lengths-in : length (lengthsOf contours) ≤ length (old .lengths) = omega (arith, count, fit .lengths-fit, length-map (withEdge contours e) (λ (c : List EdgeSegment). length c), with-edge-length contours e) in
+      let kinds-in : edgeCount contours + 1 ≤ length (old .kinds) = omega (arith, fit .kinds-fit, kinds-length (concat (withEdge contours e)), all) in
+      let points-in : 8 * (edgeCount contours + 1) ≤ length (old .points) = omega (arith, fit .points-fit, places-length (concat (withEdge contours e)), all) in
+      let last : s .contours - 1 ≡ length contours - 1 = omega arith in (
+        omega arith,
+        omega (arith, over-length (lengthsOf contours) (old .lengths) lengths-in, count),
+        rw (last, over-getD (lengthsOf contours) (old .lengths) (length contours - 1) 0 (omega (arith, count))) (omega (arith, last-few contours opened)),
+        omega (arith, over-length (kindsOf edges) (old .kinds) (omega (arith, kinds-length edges))),
+        omega (arith, over-length (placesOf edges) (old .points) (omega (arith, places-length edges))),
+        whole,
+      )
+
+  room-distances : (ds : List Float) → job .distances ≡ [] → 4 + 8 * length ds ≤ length bytes → Fitting (stored (enter job (distances ds))) old
+      → Room (itemOf (distances ds)) s bytes (overEach (stored job) old)
+  unfolding overEach stored enter over
+  room-distances ds none whole fit = (rw none (fit .distances-fit), whole)
+
+  room-next : (r : Record) (rest : List ℕ) → Taken s bytes r rest → Ready job r → (closing (s .phase) ≡ false → job .distances ≡ []) → edgeCount contours ≤ 256 → Fitting (stored (enter job r)) old
+      → Room (itemOf r) s bytes (overEach (stored job) old)
+  room-next (header strategy seed threshold) rest t ready none few fit = tt
+  room-next contour rest t ready none few fit = room-contour fit
+  room-next (edge e) rest t ready none few fit = room-edge e ready few (t .whole) fit
+  room-next (distances ds) rest t ready none few fit = room-distances ds (none (not-closing s (distances ds) (t .may))) (t .whole) fit
+
+-- the distances of the job so far are those of the whole, or none
+distances-so-far : (job whole : Job) (s : State) (bytes rest : List ℕ) (r : Record) → allowed s (recordMark r) ≡ true → (closing (s .phase) ≡ false → job .distances ≡ [])
+    → jobFrom (enter job r) (recordsFrom (after s r) rest) ≡ reads whole → length (enter job r .distances) ≤ length (whole .distances)
+unfolding enter
+distances-so-far job whole s bytes rest (header strategy seed threshold) may none e = omega (arith, ap length (none (not-closing s (header strategy seed threshold) may)))
+distances-so-far job whole s bytes rest contour may none e = omega (arith, ap length (none (not-closing s contour may)))
+distances-so-far job whole s bytes rest (edge x) may none e = omega (arith, ap length (none (not-closing s (edge x) may)))
+distances-so-far job whole s bytes rest (distances ds) may none e =
+    omega (arith, ap (λ (j : Job). length (j .distances)) (closing-final (after s (distances ds)) rest (enter job (distances ds)) whole refl e))
+
+-- ---- in the file
+
+module _ (file : List ℕ) (p : Progress) (at : Reached file p) (r : Record) (rest : List ℕ) (e : readRecord (p .state) (drop (p .at) file) ≡ next r rest)
+    (old : Buffers) (whole : Job) (f : readJob file ≡ reads whole) (room : hasRoom (numbersOf whole) old ≡ true) where
+  still : jobFrom (enter (at .job) r) (recordsFrom (after (p .state) r) (drop (p .at + recordSize r) file)) ≡ reads whole
+  still = ahead file p at r rest e ∙ f
+
+  fitting-next : Fitting (stored (enter (at .job) r)) old
+  fitting-next =
+      let t = record-taken file p at r rest e in
+      let most = grows (enter (at .job) r) whole (recordsFrom (after (p .state) r) (drop (p .at + recordSize r) file)) still in
+      let space = roomy whole old room in
+      fitting (enter (at .job) r) old (length (whole .contours)) (edgeCount (whole .contours)) (most .0) (most .1)
+      (record {
+        contours-fit = space .contours-fit;
+        edges-fit = space .edges-fit;
+        places-fit = space .places-fit;
+        distances-fit = omega (arith, space .distances-fit, distances-so-far (at .job) whole (p .state) file (drop (p .at + recordSize r) file) r (t .may) (at .none-yet) still);
+      })
+
+  pub room-here : Room (itemOf r) (p .state) (drop (p .at) file) (overEach (stored (at .job)) old)
+  room-here =
+      room-next (at .job) old (p .state) (drop (p .at) file) (contours-are file p at r rest e) (edges-are file p at r rest e) r rest
+      (record-taken file p at r rest e) (is-ready file p at r rest e) (at .none-yet) (at .edges-fit) fitting-next
+
+  pub written-here : written (itemOf r) (p .state) (drop (p .at) file) (overEach (stored (at .job)) old) ≡ overEach (stored (enter (at .job) r)) old
+  written-here =
+      written-next (at .job) old (p .state) (drop (p .at) file) (contours-are file p at r rest e) (edges-are file p at r rest e) r rest
+      (record-taken file p at r rest e) (is-ready file p at r rest e) (at .none-yet) fitting-next
+
+-- ---- the buffers on the way
+
+pub record Filling (file : List ℕ) (old : Buffers) (p : Progress) (lengths kinds : List ℕ) (points distances : List Float) : Type 0 where
+  pub at : Reached file p
+  pub holds : Hold (overEach (stored (at .job)) old) lengths kinds points distances
+  pub lengths-kept : length lengths ≡ length (old .lengths)
+  pub kinds-kept : length kinds ≡ length (old .kinds)
+  pub points-kept : length points ≡ length (old .points)
+  pub distances-kept : length distances ≡ length (old .distances)
+
+pub filling-begin : (file : List ℕ) (old : Buffers) → Filling file old begin (old .lengths) (old .kinds) (old .points) (old .distances)
+unfolding overEach stored over concat
+filling-begin file old = record {
+  at = reached-begin file;
+  holds = rw (begin-job file) (record { lengths-are = refl; kinds-are = refl; points-are = refl; distances-are = refl });
+  lengths-kept = refl;
+  kinds-kept = refl;
+  points-kept = refl;
+  distances-kept = refl;
+}
+
+held-as : (b : Buffers) {lengths kinds : List ℕ} {points distances : List Float} → Hold b lengths kinds points distances → buffers lengths kinds points distances ≡ b
+held-as b h = same (h .lengths-are) (h .kinds-are) (h .points-are) (h .distances-are)
+
+record Whole (reading : Reading) (old : Buffers) : Type 0 where
+  job : Job
+  is : reading ≡ reads job
+  room : hasRoom (numbersOf job) old ≡ true
+
+whole-of : (reading : Reading) (old : Buffers) → Fits reading old → Whole reading old
+whole-of (refuses refusal) old h = absurd h
+whole-of (reads job) old h = record { job = job; is = refl; room = h }
+
+module _ (file : List ℕ) (old : Buffers) (fits : Fits (readJob file) old) (p : Progress) (lengths kinds : List ℕ) (points ds : List Float)
+    (filling : Filling file old p lengths kinds points ds) where
+  abbrev before : Buffers
+  before = buffers lengths kinds points ds
+
+  abbrev whole : Whole (readJob file) old
+  whole = whole-of (readJob file) old fits
+
+  module _ (item : Item) (read : Read-as (readRecord (p .state) (drop (p .at) file)) item) where
+    pub filling-room : Room item (p .state) (drop (p .at) file) before
+    filling-room =
+        rw (held-as (overEach (stored (filling .at .job)) old) (filling .holds), ← read .is-item)
+        (room-here file p (filling .at) (read .r) (read .rest) (read .is-next) old (whole .job) (whole .is) (whole .room))
+
+    pub filling-next : (lengths' kinds' : List ℕ) (points' ds' : List Float) → Hold (written item (p .state) (drop (p .at) file) before) lengths' kinds' points' ds'
+        → length lengths' ≡ length lengths → length kinds' ≡ length kinds → length points' ≡ length points → length ds' ≡ length ds
+        → Filling file old (advanced p item) lengths' kinds' points' ds'
+    filling-next lengths' kinds' points' ds' h l k q d =
+        let job = filling .at .job in
+        let next = reached-next file p (filling .at) (read .r) (read .rest) (read .is-next) in
+        let after : written item (p .state) (drop (p .at) file) before ≡ overEach (stored (next .job)) old =
+        ap (written item (p .state) (drop (p .at) file)) (held-as (overEach (stored job) old) (filling .holds))
+        ∙ ap (λ (i : Item). written i (p .state) (drop (p .at) file) (overEach (stored job) old)) (sym (read .is-item))
+        ∙ written-here file p (filling .at) (read .r) (read .rest) (read .is-next) old (whole .job) (whole .is) (whole .room)
+        ∙ ap (λ (j : Job). overEach (stored j) old) (sym (next-job file p (filling .at) (read .r) (read .rest) (read .is-next))) in
+        subst (λ (i : Item). Filling file old (advanced p i) lengths' kinds' points' ds') (read .is-item)
+        (record {
+          at = next;
+          holds = subst (λ (b : Buffers). Hold b lengths' kinds' points' ds') after h;
+          lengths-kept = l ∙ filling .lengths-kept;
+          kinds-kept = k ∙ filling .kinds-kept;
+          points-kept = q ∙ filling .points-kept;
+          distances-kept = d ∙ filling .distances-kept;
+        })
+
+  pub filling-end : readRecord (p .state) (drop (p .at) file) ≡ ends → Hold (filled (readJob file) old) lengths kinds points ds
+  filling-end e = subst (λ (r : Reading). Hold (filled r old) lengths kinds points ds) (reached-end file p (filling .at) e) (filling .holds)
+
+  pub filling-fault : (refusal : Refusal) → readRecord (p .state) (drop (p .at) file) ≡ fails refusal → ⊥
+  filling-fault refusal e = subst (λ (r : Reading). Fits r old) (sym (reached-fault file p (filling .at) refusal e)) fits

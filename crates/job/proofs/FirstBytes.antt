@@ -1,0 +1,191 @@
+-- The first 34,000 bytes of a file decide how it is read.
+use mathlib.Core.Path.{_≡_, refl, sym, ap, _∙_}
+use mathlib.Core.Bool.{Bool, true, false}
+use mathlib.Core.List.{List, [], _∷_, _++_}
+use Prim.Native.Nat.{ℕ, zero, suc, _*_, _-_, _≤_}
+use native.Mathlib.Omega.{arith}
+use lib.Dec.{leb}
+use lib.ListN.{length, getD, take, drop, length-append, length-drop, take-append-drop}
+use lib.Seq.{drop-drop, take-all, take-append-le, drop-append-le, length-take-le}
+use lib.Ieee.{binary64, ofBits}
+use borrow.Author.Tests.{le-leb, leb-true, leb-false}
+use Rattle.coloring.specs.declared.refusal.Refusal.{Refusal}
+use Rattle.coloring.specs.declared.refusal.Refusal.the-variants.{Truncated, MisplacedMark, TooMany, UnknownKind, BadThreshold, BadCoordinate, BadDistance}
+use Rattle.job.specs.declared.records.Kind.{Kind}
+use Rattle.job.specs.declared.records.Mark.{Mark}
+use Rattle.job.specs.declared.records.Mark.the-variants.{Header, Contour, Edge, Distances, End}
+use Rattle.job.specs.declared.records.Marked.{Marked}
+use Rattle.job.specs.declared.records.Marked.the-variants.{Known, Unknown}
+use Rattle.job.specs.declared.records.Phase.{Phase}
+use Rattle.job.specs.declared.records.Phase.the-variants.{Start, Outside, Inside, Closing}
+use Rattle.job.specs.declared.records.State.{State}
+use Rattle.job.specs.declared.progress.Progress.{Progress}
+use Rattle.job.specs.Patterns.{number, words, floats, all, isThreshold, isCoordinate, isDistance}
+use Rattle.job.specs.Records.{Record, header, edge, distances, Step, next, ends, fails, require, knownStrategy, controls, bodySize, allowed, fits, closing, among, byDistance, edgeOf, itemOf, recordSize, markOf, readHeader, readEdge, readDistances, readEnd, readBody, readMarked, readRecord, after, Records, _then_, recordsFrom}
+use Rattle.job.specs.Job.{noJob, jobFrom, readJob}
+use Rattle.job.specs.Progress.{begin, advanced}
+use Rattle.job.proofs.RecordLaws.{controls-few}
+use Rattle.job.proofs.ReadingLaws.{taken, end-size, records-next, records-fault}
+use Rattle.job.proofs.ProgressLaws.{besides, among-contours, and-true, at-start, in-contour, Reached, reached-begin, reached-next, further, place-after, state-after}
+
+-- a step with more bytes after it
+abbrev extend : List ℕ → Step → Step
+extend more (next r rest) = next r (rest ++ more)
+extend more ends = ends
+extend more (fails refusal) = fails refusal
+
+-- so many numbers do not turn on the bytes after them
+words-more : (n : ℕ) (bytes more : List ℕ) → 8 * n ≤ length bytes → words n (bytes ++ more) ≡ words n bytes
+unfolding words
+words-more zero bytes more h = refl
+words-more (suc n) bytes more h =
+    rw (take-append-le 8 bytes more (omega arith), drop-append-le 8 bytes more (omega arith), words-more n (drop 8 bytes) more (rw length-drop (omega arith)))
+
+module _ (more : List ℕ) where
+  require-more : (b : Bool) (refusal : Refusal) (step step' : Step) → (b ≡ true → step' ≡ extend more step) → require b refusal step' ≡ extend more (require b refusal step)
+  require-more true refusal step step' f = f refl
+  require-more false refusal step step' f = refl
+
+  header-more : (body rest : List ℕ) → readHeader body (rest ++ more) ≡ extend more (readHeader body rest)
+  unfolding readHeader
+  header-more body rest =
+      let threshold = number (take 8 (drop 9 body)) in
+      let r = header (getD body 0 0) (number (take 8 (drop 1 body))) (ofBits binary64 threshold) in
+      require-more (knownStrategy (getD body 0 0)) UnknownKind (require (isThreshold threshold) BadThreshold (next r rest)) (require (isThreshold threshold) BadThreshold (next r (rest ++ more)))
+      (λ h. require-more (isThreshold threshold) BadThreshold (next r rest) (next r (rest ++ more)) (λ k. refl))
+
+  edge-more : (kind : Kind) (body rest : List ℕ) → readEdge kind body (rest ++ more) ≡ extend more (readEdge kind body rest)
+  unfolding readEdge
+  edge-more kind body rest =
+      let coordinates = words (2 * controls kind) body in
+      let r = edge (edgeOf kind (floats coordinates)) in
+      require-more (all isCoordinate coordinates) BadCoordinate (next r rest) (next r (rest ++ more)) (λ h. refl)
+
+  distances-more : (body rest : List ℕ) → 8 * 2016 ≤ length rest → readDistances body (rest ++ more) ≡ extend more (readDistances body rest)
+  unfolding readDistances
+  distances-more body rest enough =
+      let count = number body in
+      let read : List ℕ → Step = λ bytes. require (all isDistance (words count bytes)) BadDistance (next (distances (floats (words count bytes))) (drop (8 * count) bytes)) in
+      let there : List ℕ → Step = λ bytes. require (leb (8 * count) (length bytes)) Truncated (read bytes) in
+      require-more (leb count 2016) TooMany (there rest) (there (rest ++ more))
+      (λ h.
+      let few = leb-true count 2016 h in
+      let one : leb (8 * count) (length rest) ≡ true = le-leb (8 * count) (length rest) (omega arith) in
+      let two : leb (8 * count) (length (rest ++ more)) ≡ true = le-leb (8 * count) (length (rest ++ more)) (omega (arith, length-append rest more)) in
+      rw (one, two, words-more count rest more (omega arith), drop-append-le (8 * count) rest more (omega arith))
+      (require-more (all isDistance (words count rest)) BadDistance (next (distances (floats (words count rest))) (drop (8 * count) rest))
+      (next (distances (floats (words count rest))) (drop (8 * count) rest ++ more)) (λ k. refl)))
+
+  end-more : (rest : List ℕ) → 1 ≤ length rest → readEnd (rest ++ more) ≡ extend more (readEnd rest)
+  unfolding readEnd
+  end-more [] h = absurd (omega arith)
+  end-more (b ∷ rest) h = refl
+
+  -- a record of a known mark, where its fixed part and what it needs after that are there
+  known-more : (s : State) (mark : Mark) (bytes : List ℕ) → (allowed s mark ≡ true → bodySize mark ≤ length bytes)
+      → (allowed s mark ≡ true → readBody mark (take (bodySize mark) bytes) (drop (bodySize mark) bytes ++ more) ≡ extend more (readBody mark (take (bodySize mark) bytes) (drop (bodySize mark) bytes)))
+      → readMarked s (Known mark) (bytes ++ more) ≡ extend more (readMarked s (Known mark) bytes)
+  unfolding readMarked
+  known-more s mark bytes size body =
+      let n = bodySize mark in
+      let read : List ℕ → Step = λ b. require (leb n (length b)) Truncated (readBody mark (take n b) (drop n b)) in
+      require-more (allowed s mark) MisplacedMark (require (fits s mark) TooMany (read bytes)) (require (fits s mark) TooMany (read (bytes ++ more)))
+      (λ may. require-more (fits s mark) TooMany (read bytes) (read (bytes ++ more))
+      (λ room.
+      let whole = size may in
+      let one : leb n (length bytes) ≡ true = le-leb n (length bytes) whole in
+      let two : leb n (length (bytes ++ more)) ≡ true = le-leb n (length (bytes ++ more)) (omega (arith, length-append bytes more)) in
+      rw (one, two, take-append-le n bytes more whole, drop-append-le n bytes more whole) (body may)))
+
+  marked-more : (s : State) (m : Marked) (bytes : List ℕ) → 1 ≤ length bytes → (closing (s .phase) ≡ false → 16132 ≤ length bytes)
+      → readMarked s m (bytes ++ more) ≡ extend more (readMarked s m bytes)
+  marked-more s Unknown bytes some many = unfold readMarked in refl
+  marked-more s (Known Header) bytes some many =
+      unfold readBody in
+      known-more s Header bytes (λ may. omega (arith, many (at-start (s .phase) may))) (λ may. header-more (take 17 bytes) (drop 17 bytes))
+  marked-more s (Known Contour) bytes some many = unfold readBody in known-more s Contour bytes (λ may. omega arith) (λ may. refl)
+  marked-more s (Known (Edge kind)) bytes some many =
+      unfold readBody in
+      known-more s (Edge kind) bytes (λ may. omega (arith, many (in-contour (s .phase) may), controls-few kind))
+      (λ may. edge-more kind (take (16 * controls kind) bytes) (drop (16 * controls kind) bytes))
+  marked-more s (Known Distances) bytes some many =
+      unfold readBody in
+      known-more s Distances bytes (λ may. omega (arith, many (due may)))
+      (λ may. distances-more (take 2 bytes) (drop 2 bytes) (rw length-drop (omega (arith, many (due may)))))
+    where
+      due : allowed s Distances ≡ true → closing (s .phase) ≡ false
+      due may = among-contours (s .phase) (and-true (among (s .phase)) (byDistance (s .strategy)) may)
+  marked-more s (Known End) bytes some many = unfold readBody in known-more s End bytes (λ may. omega arith) (λ may. end-more bytes some)
+
+  record-more : (s : State) (bytes : List ℕ) → 3 ≤ length bytes → (closing (s .phase) ≡ false → 16134 ≤ length bytes)
+      → readRecord s (bytes ++ more) ≡ extend more (readRecord s bytes)
+  unfolding readRecord
+  record-more s [] some many = absurd (omega arith)
+  record-more s (a ∷ []) some many = absurd (omega arith)
+  record-more s (a ∷ b ∷ bytes) some many = marked-more s (markOf a b) bytes (omega arith) (λ h. omega (arith, many h))
+
+-- ---- the records of a file that is longer
+
+besides-most : (phase : Phase) → (besides phase ≤ 16151) × (closing phase ≡ false → besides phase ≤ 19)
+besides-most Start = (omega arith, λ h. omega arith)
+besides-most Outside = (omega arith, λ h. omega arith)
+besides-most Inside = (omega arith, λ h. omega arith)
+besides-most Closing = (omega arith, λ h. let z : _≡_ {A = ℕ} 0 1 = cc in absurd (omega arith))
+
+module _ (short more : List ℕ) (long : length short ≡ 34000) where
+  abbrev file : List ℕ
+  file = short ++ more
+
+  -- a place that is reached lies well before the cut
+  before-cut : (p : Progress) → Reached file p → (p .at ≤ 33175) × (closing (p .state .phase) ≡ false → p .at ≤ 17043)
+  before-cut p at =
+      let most = besides-most (p .state .phase) in
+      (omega (arith, at .sized, most .0, at .contours-fit, at .edges-fit), λ h. omega (arith, at .sized, most .1 h, at .contours-fit, at .edges-fit))
+
+  ahead-of : (p : Progress) → Reached file p → drop (p .at) file ≡ drop (p .at) short ++ more
+  ahead-of p at = drop-append-le (p .at) short more (omega (arith, before-cut p at .0))
+
+  same-step : (p : Progress) → Reached file p → readRecord (p .state) (drop (p .at) file) ≡ extend more (readRecord (p .state) (drop (p .at) short))
+  same-step p at =
+      let cut = before-cut p at in
+      ap (readRecord (p .state)) (ahead-of p at)
+      ∙ record-more more (p .state) (drop (p .at) short) (rw length-drop (omega (arith, cut .0))) (λ h. rw length-drop (omega (arith, cut .1 h)))
+
+  same-here : (p : Progress) → Reached file p
+      → ((r : Record) (rest : List ℕ) → readRecord (p .state) (drop (p .at) short) ≡ next r rest → recordsFrom (after (p .state) r) (rest ++ more) ≡ recordsFrom (after (p .state) r) rest)
+      → (step : Step) → readRecord (p .state) (drop (p .at) short) ≡ step → recordsFrom (p .state) (drop (p .at) file) ≡ recordsFrom (p .state) (drop (p .at) short)
+  same-here p at later (next r rest) e =
+      records-next (p .state) (drop (p .at) file) r (rest ++ more) (same-step p at ∙ ap (extend more) e)
+      ∙ ap (λ (x : Records). r then x) (later r rest e)
+      ∙ sym (records-next (p .state) (drop (p .at) short) r rest e)
+  same-here p at later ends e = absurd (omega (arith, end-size (p .state) (drop (p .at) short) e, length-drop (p .at) short, before-cut p at .0))
+  same-here p at later (fails refusal) e =
+      records-fault (p .state) (drop (p .at) file) refusal (same-step p at ∙ ap (extend more) e) ∙ sym (records-fault (p .state) (drop (p .at) short) refusal e)
+
+  same-records : (n : ℕ) (p : Progress) → Reached file p → 34000 - p .at ≤ n → recordsFrom (p .state) (drop (p .at) file) ≡ recordsFrom (p .state) (drop (p .at) short)
+  same-records zero p at h = absurd (omega (arith, before-cut p at .0))
+  same-records (suc n) p at h = same-here p at (λ r rest e. later (λ q. same-records n q) p at h r rest e) (readRecord (p .state) (drop (p .at) short)) refl
+    where
+      later : ((q : Progress) → Reached file q → 34000 - q .at ≤ n → recordsFrom (q .state) (drop (q .at) file) ≡ recordsFrom (q .state) (drop (q .at) short))
+          → (p : Progress) → Reached file p → 34000 - p .at ≤ suc n → (r : Record) (rest : List ℕ) → readRecord (p .state) (drop (p .at) short) ≡ next r rest
+          → recordsFrom (after (p .state) r) (rest ++ more) ≡ recordsFrom (after (p .state) r) rest
+      later same p at h r rest e =
+          let f : readRecord (p .state) (drop (p .at) file) ≡ next r (rest ++ more) = same-step p at ∙ ap (extend more) e in
+          let on = reached-next file p at r (rest ++ more) f in
+          let q = advanced p (itemOf r) in
+          let kept : rest ≡ drop (q .at) short = taken (p .state) (drop (p .at) short) r rest e .beyond ∙ drop-drop (recordSize r) (p .at) short ∙ ap (λ (k : ℕ). drop k short) (sym (place-after p r)) in
+          let all : rest ++ more ≡ drop (q .at) file = taken (p .state) (drop (p .at) file) r (rest ++ more) f .beyond ∙ drop-drop (recordSize r) (p .at) file ∙ ap (λ (k : ℕ). drop k file) (sym (place-after p r)) in
+          rw (← state-after p r, all, kept) (same q on (omega (arith, further file p at r (rest ++ more) f)))
+
+pub first-bytes-decide : (file : List ℕ) → readJob (take 34000 file) ≡ readJob file
+unfolding readJob
+first-bytes-decide file = go (leb (length file) 34000) refl
+  where
+    go : (b : Bool) → leb (length file) 34000 ≡ b → readJob (take 34000 file) ≡ readJob file
+    go true h = ap readJob (take-all 34000 file (leb-true _ _ h))
+    go false h =
+        let short = take 34000 file in
+        let more = drop 34000 file in
+        let size : length short ≡ 34000 = length-take-le 34000 file (omega (arith, leb-false (length file) 34000 h)) in
+        let whole : short ++ more ≡ file = take-append-drop 34000 file in
+        ap (jobFrom noJob) (sym (same-records short more size 34000 begin (reached-begin (short ++ more)) (omega arith))) ∙ ap readJob whole

@@ -1,0 +1,167 @@
+-- The text of an answer: its numbers of up to three digits, and how long it can get.
+use mathlib.Core.Path.{_≡_, refl, ap, _∙_}
+use mathlib.Core.Bool.{Bool, true, false}
+use mathlib.Core.List.{List, [], _∷_, _++_, append-assoc}
+use Prim.Native.Nat.{ℕ, suc, _+_, _*_, _/_, _%_, _<_, _≤_}
+use native.Mathlib.Omega.{arith}
+use lib.ListN.{length, take, drop, getD, length-append, length-take, length-drop, List·getD-eq-default}
+use native.Mathlib.Numerals.{add-one}
+use lib.Seq.{getD-take, getD-drop, drop-cons, drop-drop}
+use lib.Dec.{leb, ltb}
+use borrow.Author.Tests.{lt-ltb, le-ltb, leb-true, leb-false}
+use Rattle.coloring.specs.Places.{total}
+use Rattle.coloring.specs.Refusal.{refusalNumber}
+use Rattle.coloring.specs.declared.refusal.Refusal.{Refusal}
+use Rattle.job.specs.Listing.{digit, decimal, decimalWithin, letter, space, newline, edgesWord, refusedWord, field, line, contourLines, shapeLines, countLine, listing, refusalLine}
+
+-- ---- decimals
+
+last-digit : (d n : ℕ) → n < 10 → decimalWithin (suc d) n ≡ (digit n ∷ [])
+unfolding decimalWithin
+last-digit d n h = go (ltb n 10) (lt-ltb n 10 h)
+  where
+    go : (b : Bool) → b ≡ true → elim b [ true ↦ digit n ∷ [] | false ↦ decimalWithin d (n / 10) ++ (digit (n % 10) ∷ []) ] ≡ (digit n ∷ [])
+    go true h = refl
+    go false h = cc
+
+more-digits : (d n : ℕ) → 10 ≤ n → decimalWithin (suc d) n ≡ decimalWithin d (n / 10) ++ (digit (n % 10) ∷ [])
+unfolding decimalWithin
+more-digits d n h = go (ltb n 10) (le-ltb n 10 h)
+  where
+    go : (b : Bool) → b ≡ false → elim b [ true ↦ digit n ∷ [] | false ↦ decimalWithin d (n / 10) ++ (digit (n % 10) ∷ []) ] ≡ decimalWithin d (n / 10) ++ (digit (n % 10) ∷ [])
+    go true h = cc
+    go false h = refl
+
+pub decimal-one : (n : ℕ) → n < 10 → decimal n ≡ (digit n ∷ [])
+unfolding decimal
+decimal-one n h = last-digit 19 n h
+
+pub decimal-two : (n : ℕ) → 10 ≤ n → n < 100 → decimal n ≡ (digit (n / 10) ∷ digit (n % 10) ∷ [])
+unfolding decimal
+decimal-two n h k = more-digits 19 n h ∙ rw (last-digit 18 (n / 10) (omega arith))
+
+pub decimal-three : (n : ℕ) → 100 ≤ n → n < 1000 → decimal n ≡ (digit (n / 10 / 10) ∷ digit (n / 10 % 10) ∷ digit (n % 10) ∷ [])
+unfolding decimal
+decimal-three n h k = more-digits 19 n (omega arith) ∙ rw (more-digits 18 (n / 10) (omega arith), last-digit 17 (n / 10 / 10) (omega arith))
+
+-- ---- lengths
+
+one-digit : (n : ℕ) → n < 10 → length (decimal n) ≡ 1
+one-digit n h = ap length (decimal-one n h)
+
+two-digits : (n : ℕ) → n < 100 → length (decimal n) ≤ 2
+two-digits n h = go (leb 10 n) refl
+  where
+    go : (b : Bool) → leb 10 n ≡ b → length (decimal n) ≤ 2
+    go true e = omega (arith, ap length (decimal-two n (leb-true 10 n e) h))
+    go false e = omega (arith, one-digit n (leb-false 10 n e))
+
+three-digits : (n : ℕ) → n < 1000 → length (decimal n) ≤ 3
+three-digits n h = go (leb 100 n) refl
+  where
+    go : (b : Bool) → leb 100 n ≡ b → length (decimal n) ≤ 3
+    go true e = omega (arith, ap length (decimal-three n (leb-true 100 n e) h))
+    go false e = omega (arith, two-digits n (leb-false 100 n e))
+
+-- a line: a contour of two digits, a place of three, a letter, a colour of one digit, three spaces and the line's end
+pub line-length : (contour place kind color : ℕ) → length (line contour place kind color) ≡ length (decimal contour) + length (decimal place) + length (decimal color) + 5
+unfolding line
+line-length contour place kind color =
+    length-append (decimal contour) _ ∙ rw (length-append (decimal place) (space ∷ letter kind ∷ space ∷ (decimal color ++ (newline ∷ []))), length-append (decimal color) (newline ∷ [])) (omega arith)
+
+line-few : (contour place kind color : ℕ) → contour < 100 → place < 1000 → color < 10 → length (line contour place kind color) ≤ 11
+line-few contour place kind color h k l = omega (arith, line-length contour place kind color, two-digits contour h, three-digits place k, one-digit color l)
+
+abbrev pub AreColors : List ℕ → Type 0
+AreColors colors = (i : ℕ) → getD colors i 0 < 8
+
+contour-few : (contour place : ℕ) (kinds colors : List ℕ) → contour < 100 → place + length kinds ≤ 1000 → AreColors colors → length (contourLines contour place kinds colors) ≤ 11 * length kinds
+unfolding contourLines
+contour-few contour place [] colors h k l = omega arith
+contour-few contour place (kind ∷ kinds) colors h k l =
+    omega (
+      arith,
+      length-append (line contour place kind (getD colors 0 0)) (contourLines contour (suc place) kinds (drop 1 colors)),
+      line-few contour place kind (getD colors 0 0) h (omega arith) (omega (arith, l 0)),
+      contour-few contour (suc place) kinds (drop 1 colors) h (omega arith) (λ i. rw getD-drop (l (1 + i))),
+    )
+
+shape-few : (contour : ℕ) (lengths kinds colors : List ℕ) → contour + length lengths ≤ 100 → length kinds ≤ 1000 → AreColors colors → length (shapeLines contour lengths kinds colors) ≤ 11 * length kinds
+unfolding shapeLines
+shape-few contour [] kinds colors h k l = omega arith
+shape-few contour (n ∷ lengths) kinds colors h k l =
+    omega (
+      arith,
+      length-append (contourLines contour 0 (take n kinds) (take n colors)) (shapeLines (suc contour) lengths (drop n kinds) (drop n colors)),
+      contour-few contour 0 (take n kinds) (take n colors) (omega arith) (rw length-take (omega arith)) (λ i. taken i),
+      shape-few (suc contour) lengths (drop n kinds) (drop n colors) (omega arith) (rw length-drop (omega arith)) (λ i. rw getD-drop (l (n + i))),
+      length-take n kinds,
+      length-drop n kinds,
+    )
+  where
+    taken : (i : ℕ) → getD (take n colors) i 0 < 8
+    taken i = go (leb n i) refl
+      where
+        go : (b : Bool) → leb n i ≡ b → getD (take n colors) i 0 < 8
+        go true e = rw (List·getD-eq-default (take n colors) 0 {n = i} (rw length-take (omega (arith, leb-true n i e)))) (omega arith)
+        go false e = rw (getD-take n colors i 0 (leb-false n i e)) (l i)
+
+-- the longest text: 508 lines of 11 bytes, and the count's line of 10
+pub listing-few : (lengths kinds colors : List ℕ) → length lengths ≤ 64 → length kinds ≤ 508 → AreColors colors → length (listing lengths kinds colors) ≤ 5598
+unfolding listing
+listing-few lengths kinds colors h k l =
+    omega (arith, length-append (shapeLines 0 lengths kinds colors) (countLine (length kinds)), shape-few 0 lengths kinds colors (omega arith) (omega arith) l, count-length (length kinds), three-digits (length kinds) (omega arith))
+  where
+    count-length : (n : ℕ) → length (countLine n) ≡ length (decimal n) + 7
+    count-length n = unfold countLine in length-append edgesWord (decimal n ++ (newline ∷ [])) ∙ rw (length-append (decimal n) (newline ∷ [])) (omega arith)
+
+pub refusal-few : (refusal : Refusal) → refusalNumber refusal < 100 → length (refusalLine refusal) ≤ 11
+unfolding refusalLine
+refusal-few refusal h =
+    rw (length-append refusedWord (decimal (refusalNumber refusal) ++ (newline ∷ [])), length-append (decimal (refusalNumber refusal)) (newline ∷ []))
+    (omega (arith, two-digits (refusalNumber refusal) h))
+
+pub field-length : (n byte : ℕ) → length (field n byte) ≡ length (decimal n) + 1
+field-length n byte = length-append (decimal n) (byte ∷ [])
+
+-- a line is three fields, with the letter and a space before the last
+pub line-fields : (contour place kind color : ℕ)
+    → ((((field contour space ++ field place space) ++ (letter kind ∷ [])) ++ (space ∷ [])) ++ field color newline) ≡ line contour place kind color
+unfolding line
+line-fields contour place kind color = simp append-assoc
+
+-- ---- line by line
+
+pub contour-step : (contour i : ℕ) (kinds colors : List ℕ) → i < length kinds
+    → contourLines contour i (drop i kinds) (drop i colors) ≡ line contour i (getD kinds i 0) (getD colors i 0) ++ contourLines contour (i + 1) (drop (i + 1) kinds) (drop (i + 1) colors)
+unfolding contourLines
+contour-step contour i kinds colors h =
+    let color : getD (drop i colors) 0 0 ≡ getD colors i 0 = getD-drop i colors 0 0 ∙ ap (λ (k : ℕ). getD colors k 0) (omega arith) in
+    rw (drop-cons kinds i 0 h, color, drop-drop 1 i colors, add-one i)
+
+pub shape-step : (contour from n : ℕ) (lengths kinds colors : List ℕ) → contour < length lengths → n ≡ getD lengths contour 0
+    → shapeLines contour (drop contour lengths) (drop from kinds) (drop from colors)
+    ≡ contourLines contour 0 (take n (drop from kinds)) (take n (drop from colors)) ++ shapeLines (contour + 1) (drop (contour + 1) lengths) (drop (from + n) kinds) (drop (from + n) colors)
+unfolding shapeLines
+shape-step contour from n lengths kinds colors h e = rw (drop-cons lengths contour 0 h, ← e, drop-drop n from kinds, drop-drop n from colors, add-one contour)
+
+pub total-step : (contour : ℕ) (lengths : List ℕ) → contour < length lengths → total (drop contour lengths) ≡ getD lengths contour 0 + total (drop (contour + 1) lengths)
+unfolding total
+total-step contour lengths h = rw (drop-cons lengths contour 0 h, add-one contour)
+
+-- ---- the whole text
+
+pub listing-parts : (lengths kinds colors : List ℕ) → (shapeLines 0 lengths kinds colors ++ edgesWord) ++ field (length kinds) newline ≡ listing lengths kinds colors
+unfolding listing
+listing-parts lengths kinds colors = append-assoc (shapeLines 0 lengths kinds colors) edgesWord (field (length kinds) newline)
+
+pub listing-length : (lengths kinds colors : List ℕ) → length (listing lengths kinds colors) ≡ length (shapeLines 0 lengths kinds colors) + 6 + length (field (length kinds) newline)
+listing-length lengths kinds colors =
+    omega (arith, ap length (listing-parts lengths kinds colors), length-append (shapeLines 0 lengths kinds colors ++ edgesWord) (field (length kinds) newline), length-append (shapeLines 0 lengths kinds colors) edgesWord)
+
+pub refusal-parts : (refusal : Refusal) → refusedWord ++ field (refusalNumber refusal) newline ≡ refusalLine refusal
+unfolding refusalLine
+refusal-parts refusal = refl
+
+pub refusal-length : (refusal : Refusal) → length (refusalLine refusal) ≡ 8 + length (field (refusalNumber refusal) newline)
+refusal-length refusal = omega (arith, ap length (refusal-parts refusal), length-append refusedWord (field (refusalNumber refusal) newline))

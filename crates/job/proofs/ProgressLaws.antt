@@ -1,0 +1,398 @@
+-- How far a file is read: the counts that the code keeps are those of the job so far, and the records ahead decide the rest.
+use mathlib.Core.Path.{_≡_, refl, sym, ap, subst, _∙_}
+use mathlib.Core.Bool.{Bool, true, false, _&&_}
+use mathlib.Core.List.{List, [], _∷_, _++_, append-nil, append-assoc}
+use Prim.Native.Nat.{ℕ, zero, suc, _+_, _*_, _-_, _<_, _≤_, _^_}
+use native.Mathlib.Omega.{arith}
+use lib.ListN.{length, drop, length-append, length-drop}
+use lib.Seq.{drop-drop}
+use lib.Ieee as Ieee
+use lib.Ieee.{binary64, ofBits, toBits}
+use borrow.Author.Tests.{ltb-true}
+use Rattle.geometry.specs.declared.edge_segment.EdgeSegment.{EdgeSegment}
+use Rattle.math.specs.Scalar.{f1}
+use Rattle.coloring.specs.Outline as outline
+use Rattle.coloring.specs.Outline.{between}
+use Rattle.coloring.specs.Places.{concat}
+use Rattle.coloring.specs.declared.refusal.Refusal.{Refusal}
+use Rattle.job.specs.declared.records.Phase.{Phase}
+use Rattle.job.specs.declared.records.Phase.the-variants.{Start, Outside, Inside, Closing}
+use Rattle.job.specs.declared.records.State.{State}
+use Rattle.job.specs.declared.progress.Progress.{Progress}
+use Rattle.job.specs.Records.{Record, header, contour, edge, distances, Step, next, ends, fails, atStart, kindOf, inside, among, closing, byDistance, allowed, fits, start, recordSize, itemOf, readRecord, after, _then_, recordsFrom}
+use Rattle.job.specs.Job.{Job, noJob, withEdge, enter, reads, refuses, jobFrom, readJob}
+use Rattle.job.specs.Progress.{edgeCount, begin, itemSize, advanced, numbersAt, numbersOf, Counts}
+use Rattle.job.proofs.RecordLaws.{controls-few}
+use Rattle.job.proofs.ReadingLaws.{recordMark, Held, edgeFits, InRange, end-size, Taken, taken, size-some, records-next, records-end, records-fault}
+
+-- ---- an edge more in the last contour
+
+pub with-edge-length : (contours : List (List EdgeSegment)) (e : EdgeSegment) → length (withEdge contours e) ≡ length contours
+unfolding withEdge
+with-edge-length [] e = refl
+with-edge-length (c ∷ []) e = refl
+with-edge-length (c ∷ d ∷ contours) e = ap suc (with-edge-length (d ∷ contours) e)
+
+pub with-edge-concat : (contours : List (List EdgeSegment)) (e : EdgeSegment) → 0 < length contours → concat (withEdge contours e) ≡ concat contours ++ (e ∷ [])
+unfolding withEdge concat
+with-edge-concat [] e h = absurd (omega arith)
+with-edge-concat (c ∷ []) e h = append-nil (c ++ (e ∷ [])) ∙ ap (λ (x : List EdgeSegment). x ++ (e ∷ [])) (sym (append-nil c))
+with-edge-concat (c ∷ d ∷ contours) e h =
+    ap (λ (x : List EdgeSegment). c ++ x) (with-edge-concat (d ∷ contours) e (omega arith)) ∙ sym (append-assoc c (concat (d ∷ contours)) (e ∷ []))
+
+pub more-concat : (contours : List (List EdgeSegment)) → concat (contours ++ ([] ∷ [])) ≡ concat contours
+unfolding concat
+more-concat [] = refl
+more-concat (c ∷ contours) = ap (λ (x : List EdgeSegment). c ++ x) (more-concat contours)
+
+-- ---- the counts of a job
+
+abbrev progressAt : ℕ → Phase → Job → Progress
+progressAt at phase job = record {
+  at = at;
+  state = record { phase = phase; strategy = job .strategy; contours = length (job .contours); edges = edgeCount (job .contours) };
+  seed = job .seed;
+  threshold = toBits binary64 (job .threshold);
+  distances = length (job .distances);
+}
+
+abbrev phaseAfter : Phase → Record → Phase
+phaseAfter phase (header strategy seed threshold) = Outside
+phaseAfter phase contour = Inside
+phaseAfter phase (edge e) = phase
+phaseAfter phase (distances ds) = Closing
+
+-- an edge comes only where a contour is open
+abbrev pub Ready : Job → Record → Type 0
+Ready job (header strategy seed threshold) = Unit
+Ready job contour = Unit
+Ready job (edge e) = 0 < length (job .contours)
+Ready job (distances ds) = Unit
+
+progress-next : (at : ℕ) (phase : Phase) (job : Job) (r : Record) → Ready job r
+    → advanced (progressAt at phase job) (itemOf r) ≡ progressAt (at + recordSize r) (phaseAfter phase r) (enter job r)
+unfolding advanced enter concat
+progress-next at phase job (header strategy seed threshold) ready = refl
+progress-next at phase job contour ready = rw (length-append (job .contours) ([] ∷ []), more-concat (job .contours))
+progress-next at phase job (edge e) ready =
+    rw (with-edge-length (job .contours) e, with-edge-concat (job .contours) e ready, length-append (concat (job .contours)) (e ∷ []))
+progress-next at phase job (distances ds) ready = refl
+
+-- ---- a job whose floats lie within their ranges
+
+pub record Sound (job : Job) : Type 0 where
+  pub threshold-fits : between (Ieee.neg f1) (job .threshold) f1 ≡ true
+  pub threshold-back : ofBits binary64 (toBits binary64 (job .threshold)) ≡ job .threshold
+  pub coordinates-fit : outline.all edgeFits (concat (job .contours)) ≡ true
+  pub distances-few : length (job .distances) ≤ 2016
+
+sound-begin : Sound noJob
+unfolding concat outline.all toBits ofBits Ieee.neg Ieee.le
+sound-begin = record { threshold-fits = refl; threshold-back = refl; coordinates-fit = refl; distances-few = omega arith }
+
+all-snoc : {A : Type 0} (test : A → Bool) (xs : List A) (x : A) → outline.all test xs ≡ true → test x ≡ true → outline.all test (xs ++ (x ∷ [])) ≡ true
+unfolding outline.all
+all-snoc test [] x h k = rw k
+all-snoc test (y ∷ xs) x h k = go (test y) h (λ e. all-snoc test xs x e k)
+  where
+    go : (b : Bool) → (b && outline.all test xs) ≡ true → (outline.all test xs ≡ true → outline.all test (xs ++ (x ∷ [])) ≡ true) → (b && outline.all test (xs ++ (x ∷ []))) ≡ true
+    go true h rest = rest h
+    go false h rest = cc
+
+sound-next : (job : Job) (r : Record) (bytes : List ℕ) → Ready job r → Held r bytes → InRange r → Sound job → Sound (enter job r)
+unfolding enter
+sound-next job (header strategy seed threshold) bytes is-ready held fits so =
+    record { threshold-fits = fits .0; threshold-back = fits .1; coordinates-fit = so .coordinates-fit; distances-few = so .distances-few }
+sound-next job contour bytes is-ready held fits so =
+    record { threshold-fits = so .threshold-fits; threshold-back = so .threshold-back; coordinates-fit = rw (more-concat (job .contours)) (so .coordinates-fit); distances-few = so .distances-few }
+sound-next job (edge e) bytes is-ready held fits so =
+    record {
+      threshold-fits = so .threshold-fits;
+      threshold-back = so .threshold-back;
+      coordinates-fit = rw (with-edge-concat (job .contours) e is-ready) (all-snoc edgeFits (concat (job .contours)) e (so .coordinates-fit) fits);
+      distances-few = so .distances-few;
+    }
+sound-next job (distances ds) bytes is-ready held fits so =
+    record { threshold-fits = so .threshold-fits; threshold-back = so .threshold-back; coordinates-fit = so .coordinates-fit; distances-few = held .0 }
+
+-- ---- a place that reading reaches
+
+-- the bytes of JB and DS, where they are read
+abbrev pub besides : Phase → ℕ
+besides Start = 0
+besides Outside = 19
+besides Inside = 19
+besides Closing = 19 + (4 + 8 * 2016)
+
+pub record Reached (file : List ℕ) (p : Progress) : Type 0 where
+  pub job : Job
+  pub counted : p ≡ progressAt (p .at) (p .state .phase) job
+  pub within : p .at ≤ length file
+  pub rest : jobFrom job (recordsFrom (p .state) (drop (p .at) file)) ≡ readJob file
+  pub opened : inside (p .state .phase) ≡ true → 0 < length (job .contours)
+  pub none-yet : closing (p .state .phase) ≡ false → job .distances ≡ []
+  pub sized : p .at ≤ besides (p .state .phase) + 2 * length (job .contours) + 66 * edgeCount (job .contours)
+  pub contours-fit : length (job .contours) ≤ 64
+  pub edges-fit : edgeCount (job .contours) ≤ 256
+  pub sound : Sound job
+
+pub reached-begin : (file : List ℕ) → Reached file begin
+unfolding readJob concat toBits ofBits
+reached-begin file = record {
+  job = noJob;
+  counted = refl;
+  within = omega arith;
+  rest = refl;
+  opened = λ h. let z : _≡_ {A = ℕ} 0 1 = cc in absurd (omega arith);
+  none-yet = λ h. refl;
+  sized = omega arith;
+  contours-fit = omega arith;
+  edges-fit = omega arith;
+  sound = sound-begin;
+}
+
+pub begin-job : (file : List ℕ) → reached-begin file .job ≡ noJob
+unfolding reached-begin
+begin-job file = refl
+
+-- what one record more changes
+pub state-after : (p : Progress) (r : Record) → advanced p (itemOf r) .state ≡ after (p .state) r
+unfolding advanced
+state-after p (header strategy seed threshold) = refl
+state-after p contour = refl
+state-after p (edge e) = refl
+state-after p (distances ds) = refl
+
+pub place-after : (p : Progress) (r : Record) → advanced p (itemOf r) .at ≡ p .at + recordSize r
+unfolding advanced
+place-after p (header strategy seed threshold) = refl
+place-after p contour = refl
+place-after p (edge e) = refl
+place-after p (distances ds) = refl
+
+size-is : (r : Record) → recordSize r ≡ itemSize (itemOf r)
+size-is (header strategy seed threshold) = refl
+size-is contour = refl
+size-is (edge e) = refl
+size-is (distances ds) = refl
+
+ready : (job : Job) (s : State) (r : Record) → allowed s (recordMark r) ≡ true → (inside (s .phase) ≡ true → 0 < length (job .contours)) → Ready job r
+ready job s (header strategy seed threshold) may opened = tt
+ready job s contour may opened = tt
+ready job s (edge e) may opened = opened may
+ready job s (distances ds) may opened = tt
+
+opened-after : (job : Job) (s : State) (r : Record) → Ready job r → inside (after s r .phase) ≡ true → 0 < length (enter job r .contours)
+unfolding enter
+opened-after job s (header strategy seed threshold) is-ready h = let z : _≡_ {A = ℕ} 0 1 = cc in absurd (omega arith)
+opened-after job s contour is-ready h = rw (length-append (job .contours) ([] ∷ [])) (omega arith)
+opened-after job s (edge e) is-ready h = rw (with-edge-length (job .contours) e) is-ready
+opened-after job s (distances ds) is-ready h = let z : _≡_ {A = ℕ} 0 1 = cc in absurd (omega arith)
+
+pub among-contours : (phase : Phase) → among phase ≡ true → closing phase ≡ false
+among-contours Start h = cc
+among-contours Outside h = refl
+among-contours Inside h = refl
+among-contours Closing h = cc
+
+pub at-start : (phase : Phase) → atStart phase ≡ true → closing phase ≡ false
+at-start Start h = refl
+at-start Outside h = cc
+at-start Inside h = cc
+at-start Closing h = cc
+
+pub in-contour : (phase : Phase) → inside phase ≡ true → closing phase ≡ false
+in-contour Start h = cc
+in-contour Outside h = cc
+in-contour Inside h = refl
+in-contour Closing h = cc
+
+pub and-true : (a b : Bool) → (a && b) ≡ true → a ≡ true
+and-true true b h = refl
+and-true false b h = cc
+
+-- no record comes after the distances
+pub not-closing : (s : State) (r : Record) → allowed s (recordMark r) ≡ true → closing (s .phase) ≡ false
+not-closing s (header strategy seed threshold) h = at-start (s .phase) h
+not-closing s contour h = among-contours (s .phase) h
+not-closing s (edge e) h = in-contour (s .phase) h
+not-closing s (distances ds) h = among-contours (s .phase) (and-true (among (s .phase)) (byDistance (s .strategy)) h)
+
+none-after : (job : Job) (s : State) (r : Record) → allowed s (recordMark r) ≡ true → (closing (s .phase) ≡ false → job .distances ≡ [])
+    → closing (after s r .phase) ≡ false → enter job r .distances ≡ []
+unfolding enter
+none-after job s (header strategy seed threshold) may none h = none (not-closing s (header strategy seed threshold) may)
+none-after job s contour may none h = none (not-closing s contour may)
+none-after job s (edge e) may none h = none h
+none-after job s (distances ds) may none h = cc
+
+contours-after : (job : Job) (s : State) (r : Record) → s .contours ≡ length (job .contours) → fits s (recordMark r) ≡ true → length (job .contours) ≤ 64 → length (enter job r .contours) ≤ 64
+unfolding enter
+contours-after job s (header strategy seed threshold) e h few = few
+contours-after job s contour e h few = rw (length-append (job .contours) ([] ∷ [])) (omega (arith, ltb-true (s .contours) 64 h))
+contours-after job s (edge x) e h few = rw (with-edge-length (job .contours) x) few
+contours-after job s (distances ds) e h few = few
+
+edges-after : (job : Job) (s : State) (r : Record) → Ready job r → s .edges ≡ edgeCount (job .contours) → fits s (recordMark r) ≡ true → edgeCount (job .contours) ≤ 256 → edgeCount (enter job r .contours) ≤ 256
+unfolding enter concat
+edges-after job s (header strategy seed threshold) is-ready e h few = few
+edges-after job s contour is-ready e h few = rw (more-concat (job .contours)) few
+edges-after job s (edge x) is-ready e h few =
+    rw (with-edge-concat (job .contours) x is-ready, length-append (concat (job .contours)) (x ∷ [])) (omega (arith, ltb-true (s .edges) 256 h))
+edges-after job s (distances ds) is-ready e h few = few
+
+record-few : (bytes : List ℕ) (r : Record) → Held r bytes → recordSize r ≤ 4 + 8 * 2016
+record-few bytes (header strategy seed threshold) h = omega arith
+record-few bytes contour h = omega arith
+record-few bytes (edge e) h = omega (arith, controls-few (kindOf e))
+record-few bytes (distances ds) h = omega (arith, h .0)
+
+among-besides : (phase : Phase) → among phase ≡ true → besides phase ≡ 19
+among-besides Start h = cc
+among-besides Outside h = refl
+among-besides Inside h = refl
+among-besides Closing h = cc
+
+size-after : (job : Job) (s : State) (at : ℕ) (r : Record) → Ready job r → allowed s (recordMark r) ≡ true → recordSize r ≤ 4 + 8 * 2016
+    → at ≤ besides (s .phase) + 2 * length (job .contours) + 66 * edgeCount (job .contours)
+    → at + recordSize r ≤ besides (after s r .phase) + 2 * length (enter job r .contours) + 66 * edgeCount (enter job r .contours)
+unfolding enter concat
+size-after job s at (header strategy seed threshold) is-ready may few h = omega (arith, start (s .phase) may)
+  where
+    start : (phase : Phase) → atStart phase ≡ true → besides phase ≡ 0
+    start Start h = refl
+    start Outside h = cc
+    start Inside h = cc
+    start Closing h = cc
+size-after job s at contour is-ready may few h = rw (length-append (job .contours) ([] ∷ []), more-concat (job .contours)) (omega (arith, among-besides (s .phase) may))
+size-after job s at (edge e) is-ready may few h =
+    rw (with-edge-length (job .contours) e, with-edge-concat (job .contours) e is-ready, length-append (concat (job .contours)) (e ∷ [])) (omega (arith, controls-few (kindOf e)))
+size-after job s at (distances ds) is-ready may few h = omega (arith, among-besides (s .phase) (and-true (among (s .phase)) (byDistance (s .strategy)) may))
+
+-- a record, read at such a place
+module _ (file : List ℕ) (p : Progress) (at : Reached file p) (r : Record) (rest : List ℕ) (e : readRecord (p .state) (drop (p .at) file) ≡ next r rest) where
+  pub record-taken : Taken (p .state) (drop (p .at) file) r rest
+  record-taken = taken (p .state) (drop (p .at) file) r rest e
+
+  pub is-ready : Ready (at .job) r
+  is-ready = ready (at .job) (p .state) r (record-taken .may) (at .opened)
+
+  pub contours-are : p .state .contours ≡ length (at .job .contours)
+  contours-are = ap (λ (q : Progress). q .state .contours) (at .counted)
+
+  pub edges-are : p .state .edges ≡ edgeCount (at .job .contours)
+  edges-are = ap (λ (q : Progress). q .state .edges) (at .counted)
+
+  fits-in : p .at + recordSize r ≤ length file
+  fits-in = omega (arith, record-taken .whole, length-drop (p .at) file, at .within)
+
+  pub counts : length file < 2 ^ 64 → Counts p (itemOf r)
+  counts h = record {
+    place = omega (arith, fits-in, size-is r);
+    contours = omega (arith, contours-are, at .contours-fit);
+    edges = omega (arith, edges-are, at .edges-fit);
+  }
+
+  pub further : p .at < advanced p (itemOf r) .at
+  further = rw (place-after p r) (omega (arith, size-some r))
+
+  same-counts : advanced p (itemOf r) ≡ progressAt (p .at + recordSize r) (phaseAfter (p .state .phase) r) (enter (at .job) r)
+  same-counts = ap (λ (q : Progress). advanced q (itemOf r)) (at .counted) ∙ progress-next (p .at) (p .state .phase) (at .job) r is-ready
+
+  pub ahead : jobFrom (enter (at .job) r) (recordsFrom (after (p .state) r) (drop (p .at + recordSize r) file)) ≡ readJob file
+  unfolding jobFrom
+  ahead =
+      let beyond : rest ≡ drop (p .at + recordSize r) file = record-taken .beyond ∙ drop-drop (recordSize r) (p .at) file in
+      subst (λ (x : List ℕ). jobFrom (enter (at .job) r) (recordsFrom (after (p .state) r) x) ≡ readJob file) beyond
+      (sym (ap (jobFrom (at .job)) (records-next (p .state) (drop (p .at) file) r rest e)) ∙ at .rest)
+
+  -- the records from here are this one and those from the next place
+  pub records-ahead : recordsFrom (p .state) (drop (p .at) file) ≡ r then recordsFrom (advanced p (itemOf r) .state) (drop (advanced p (itemOf r) .at) file)
+  records-ahead =
+      let beyond : rest ≡ drop (p .at + recordSize r) file = record-taken .beyond ∙ drop-drop (recordSize r) (p .at) file in
+      records-next (p .state) (drop (p .at) file) r rest e ∙ rw (place-after p r, state-after p r, beyond)
+
+  pub reached-next : Reached file (advanced p (itemOf r))
+  reached-next = record {
+    job = enter (at .job) r;
+    counted = same-counts ∙ sym (ap (λ (q : Progress). progressAt (q .at) (q .state .phase) (enter (at .job) r)) same-counts);
+    within = rw (place-after p r) fits-in;
+    rest = rw (place-after p r, state-after p r) ahead;
+    opened = rw (state-after p r) (opened-after (at .job) (p .state) r is-ready);
+    none-yet = rw (state-after p r) (none-after (at .job) (p .state) r (record-taken .may) (at .none-yet));
+    sized = rw (place-after p r, state-after p r) (size-after (at .job) (p .state) (p .at) r is-ready (record-taken .may) (record-few (drop (p .at) file) r (record-taken .held)) (at .sized));
+    contours-fit = contours-after (at .job) (p .state) r contours-are (record-taken .room) (at .contours-fit);
+    edges-fit = edges-after (at .job) (p .state) r is-ready edges-are (record-taken .room) (at .edges-fit);
+    sound = sound-next (at .job) r (drop (p .at) file) is-ready (record-taken .held) (record-taken .in-range) (at .sound);
+  }
+
+  pub next-job : reached-next .job ≡ enter (at .job) r
+  unfolding reached-next
+  next-job = refl
+
+-- the end of the file, and a fault
+pub reached-end : (file : List ℕ) (p : Progress) (at : Reached file p) → readRecord (p .state) (drop (p .at) file) ≡ ends → reads (at .job) ≡ readJob file
+unfolding jobFrom
+reached-end file p at e = sym (ap (jobFrom (at .job)) (records-end (p .state) (drop (p .at) file) e)) ∙ at .rest
+
+pub reached-fault : (file : List ℕ) (p : Progress) (at : Reached file p) (refusal : Refusal) → readRecord (p .state) (drop (p .at) file) ≡ fails refusal → refuses refusal ≡ readJob file
+unfolding jobFrom
+reached-fault file p at refusal e = sym (ap (jobFrom (at .job)) (records-fault (p .state) (drop (p .at) file) refusal e)) ∙ at .rest
+
+pub numbers-are : (file : List ℕ) (p : Progress) (at : Reached file p) → numbersAt p ≡ numbersOf (at .job)
+numbers-are file p at = ap numbersAt (at .counted)
+
+-- ---- a file that is read is read to its end
+
+pub record Ends-at (file : List ℕ) (job : Job) : Type 0 where
+  pub p : Progress
+  pub at : Reached file p
+  pub at-end : readRecord (p .state) (drop (p .at) file) ≡ ends
+  pub is-job : at .job ≡ job
+
+-- the end is here, or after the record that is read here
+ends-here : (file : List ℕ) (job : Job) (p : Progress) → Reached file p → readJob file ≡ reads job
+    → ((r : Record) (rest : List ℕ) → readRecord (p .state) (drop (p .at) file) ≡ next r rest → Ends-at file job)
+    → (step : Step) → readRecord (p .state) (drop (p .at) file) ≡ step → Ends-at file job
+ends-here file job p at e later (next r rest) f = later r rest f
+ends-here file job p at e later ends f = record { p = p; at = at; at-end = f; is-job = let same = reached-end file p at f ∙ e in cc }
+ends-here file job p at e later (fails refusal) f =
+    let never = reached-fault file p at refusal f ∙ e in
+    let z : _≡_ {A = ℕ} 0 1 = cc in
+    absurd (omega arith)
+
+ends-within : (n : ℕ) (file : List ℕ) (job : Job) (p : Progress) → Reached file p → length file - p .at ≤ n → readJob file ≡ reads job → Ends-at file job
+ends-within zero file job p at h e =
+    ends-here file job p at e
+    (λ r rest f. absurd (omega (arith, further file p at r rest f, reached-next file p at r rest f .within)))
+    (readRecord (p .state) (drop (p .at) file)) refl
+ends-within (suc n) file job p at h e =
+    ends-here file job p at e
+    (λ r rest f. ends-within n file job (advanced p (itemOf r)) (reached-next file p at r rest f) (omega (arith, further file p at r rest f, reached-next file p at r rest f .within)) e)
+    (readRecord (p .state) (drop (p .at) file)) refl
+
+pub ends-at : (file : List ℕ) (job : Job) → readJob file ≡ reads job → Ends-at file job
+ends-at file job e = ends-within (length file) file job begin (reached-begin file) (omega arith) e
+
+-- a job that is read keeps to the maxima
+pub contours-few : (file : List ℕ) (job : Job) → readJob file ≡ reads job → length (job .contours) ≤ 64
+contours-few file job e = let end = ends-at file job e in subst (λ (j : Job). length (j .contours) ≤ 64) (end .is-job) (end .at .contours-fit)
+
+pub edges-few : (file : List ℕ) (job : Job) → readJob file ≡ reads job → edgeCount (job .contours) ≤ 256
+edges-few file job e = let end = ends-at file job e in subst (λ (j : Job). edgeCount (j .contours) ≤ 256) (end .is-job) (end .at .edges-fit)
+
+pub job-sound : (file : List ℕ) (job : Job) → readJob file ≡ reads job → Sound job
+job-sound file job e = let end = ends-at file job e in subst Sound (end .is-job) (end .at .sound)
+
+-- and has at most 19 + 64 · 2 + 256 · 66 + 4 + 2,016 · 8 + 2 bytes
+pub bytes-few : (file : List ℕ) (job : Job) → readJob file ≡ reads job → length file ≤ 33177
+bytes-few file job e =
+    let end = ends-at file job e in
+    let p = end .p in
+    omega (arith, end .at .sized, most (p .state .phase), end .at .contours-fit, end .at .edges-fit, end-size (p .state) (drop (p .at) file) (end .at-end), length-drop (p .at) file)
+  where
+    most : (phase : Phase) → besides phase ≤ 16151
+    most Start = omega arith
+    most Outside = omega arith
+    most Inside = omega arith
+    most Closing = omega arith

@@ -1,0 +1,242 @@
+-- `job::buffers::write_item` meets its contract, record by record.
+use mathlib.Core.Path.{_≡_, refl, ap, subst, _∙_}
+use Prim.Native.Nat.{ℕ, _+_, _*_, _-_, _≤_, _<_}
+use native.Mathlib.Omega.{arith}
+use lib.ListN.{length, set, length-take, length-drop}
+use Rattle.job.specs.declared.records.Item.{Item}
+use Rattle.job.specs.declared.records.Item.the-variants.{Contour, Edge, Distances}
+use Rattle.job.specs.declared.records.Kind.{Kind}
+use Rattle.job.specs.Records.{controls}
+use Rattle.job.specs.Buffers.{buffers, written, Room}
+use Rattle.job.proofs.RecordLaws.{part-after}
+use Rattle.job.proofs.RecordLaws.{controls-few}
+use borrow.Author.Needs.{needs}
+use Rattle.job.proofs.buffers.write_item.Statement.{statement}
+use Rattle.job.proofs.buffers.write_item.Tie as tie
+
+-- there is room for the record
+module _ (c : tie.Start) where
+  room : (item : Item) → c .args .item ≡ item
+      → Room item (c .args .s) (c .args .bytes .now) (buffers (c .args .lengths .now) (c .args .kinds .now) (c .args .points .now) (c .args .distances .now))
+  room item e = subst (λ (i : Item). Room i (c .args .s) (c .args .bytes .now) (buffers (c .args .lengths .now) (c .args .kinds .now) (c .args .points .now) (c .args .distances .now))) e (c .pre)
+
+module _ (c : tie.After-item) where
+  abbrev entry : tie.Start
+  entry = c .before .before .before .before .before .before .before
+
+  abbrev kind : Kind
+  kind = c .item .given .0 .0
+
+  edge-room : Room (Edge kind) (entry .args .s) (entry .args .bytes .now) (buffers (entry .args .lengths .now) (entry .args .kinds .now) (entry .args .points .now) (entry .args .distances .now))
+  edge-room = room entry (Edge kind) (c .item .given .1)
+
+  -- the place of the last contour
+  last-room : (1 ≤ entry .args .s .contours) × (entry .args .s .contours - 1 < length (entry .args .lengths .now))
+  last-room = (omega (arith, edge-room .0), omega (arith, edge-room .0, edge-room .1))
+
+module _ (c : tie.After-controls) where
+  abbrev chosen : tie.After-item
+  chosen = c .before .before .before .before .before
+
+  end-is : 2 + 16 * c .controls .result ≡ 2 + 16 * controls (kind chosen)
+  end-is = ap (λ (k : ℕ). 2 + 16 * k) (c .controls .ensures)
+
+module _ (c : tie.After-item2) where
+  abbrev entry2 : tie.Start
+  entry2 = c .before .before .before .before .before .before .before
+
+  distances-room : Room (Distances (c .item2 .given .0 .0)) (entry2 .args .s) (entry2 .args .bytes .now) (buffers (entry2 .args .lengths .now) (entry2 .args .kinds .now) (entry2 .args .points .now) (entry2 .args .distances .now))
+  distances-room = room entry2 (Distances (c .item2 .given .0 .0)) (c .item2 .given .1)
+
+enum-told : tie.Need-enum-told
+enum-told c = search needs
+
+enum-told-2 : tie.Need-enum-told-2
+enum-told-2 c = search needs
+
+mul-lengths : tie.Need-mul-lengths
+mul-lengths c =
+    let place = c .before .before .before .before .before .before .before in
+    omega (arith, room place Contour (c .enum-told2 .given .1))
+
+slice-write-lengths : tie.Need-slice-write-lengths
+slice-write-lengths c =
+    let place = c .before .before .before .before .before .before .before in
+    omega (arith, room place Contour (c .enum-told2 .given .1))
+
+enum-known-item : tie.Need-enum-known-item
+enum-known-item c = search needs
+
+sub-last : tie.Need-sub-last
+sub-last c = last-room (c .before .before) .0
+
+mul-lengths-2 : tie.Need-mul-lengths-2
+mul-lengths-2 c = omega (arith, last-room (c .before .before))
+
+slice-read-lengths : tie.Need-slice-read-lengths
+slice-read-lengths c = last-room (c .before .before .before) .1
+
+add-lengths : tie.Need-add-lengths
+add-lengths c = omega (arith, edge-room (c .before .before .before))
+
+mul-lengths-3 : tie.Need-mul-lengths-3
+mul-lengths-3 c = omega (arith, last-room (c .before .before .before))
+
+slice-write-lengths-2 : tie.Need-slice-write-lengths-2
+slice-write-lengths-2 c = last-room (c .before .before .before) .1
+
+kind-number-requires : tie.Need-kind-number-requires
+kind-number-requires c κs = search needs
+
+slice-write-kinds : tie.Need-slice-write-kinds
+slice-write-kinds c = omega (arith, edge-room (c .before .before .before .before))
+
+controls-requires : tie.Need-controls-requires
+controls-requires c κs = search needs
+
+mul-end : tie.Need-mul-end
+mul-end c = omega (arith, c .controls .ensures, controls-few (kind (chosen c)))
+
+add-end : tie.Need-add-end
+add-end c = omega (arith, c .controls .ensures, controls-few (kind (chosen c)))
+
+mul-from : tie.Need-mul-from
+mul-from c = omega (arith, edge-room (chosen c))
+
+add-to : tie.Need-add-to
+add-to c = omega (arith, edge-room (chosen c))
+
+sub-write-points : tie.Need-sub-write-points
+sub-write-points c = search needs
+
+part-write-points-start : tie.Need-part-write-points-start
+part-write-points-start c = search needs
+
+part-write-points-end : tie.Need-part-write-points-end
+part-write-points-end c = omega (arith, end-is c, edge-room (chosen c))
+
+mul-write-points : tie.Need-mul-write-points
+mul-write-points c = omega (arith, edge-room (chosen (c .before)))
+
+sub-write-points-2 : tie.Need-sub-write-points-2
+sub-write-points-2 c = search needs
+
+part-write-points-start-2 : tie.Need-part-write-points-start-2
+part-write-points-start-2 c = search needs
+
+part-write-points-end-2 : tie.Need-part-write-points-end-2
+part-write-points-end-2 c = omega (arith, edge-room (chosen (c .before)))
+
+write-points-requires : tie.Need-write-points-requires
+write-points-requires c κs = search needs
+
+enum-known-item-2 : tie.Need-enum-known-item-2
+enum-known-item-2 c = search needs
+
+sub-write-floats : tie.Need-sub-write-floats
+sub-write-floats c = omega (arith, distances-room (c .before))
+
+part-write-floats-start : tie.Need-part-write-floats-start
+part-write-floats-start c = omega (arith, distances-room (c .before))
+
+part-write-floats-end : tie.Need-part-write-floats-end
+part-write-floats-end c = search needs
+
+write-floats-requires : tie.Need-write-floats-requires
+write-floats-requires c κs = (simp (length-take, length-drop) (omega (arith, distances-room (c .before .before .before))), omega (arith, distances-room (c .before .before .before)))
+
+returns : tie.Need-returns
+unfolding written
+returns c = rw (c .enum-told .given .1) (record { lengths-are = refl; kinds-are = refl; points-are = refl; distances-are = refl })
+
+same-length : tie.Need-same-length
+same-length c = search needs
+
+returns-2 : tie.Need-returns-2
+unfolding written
+returns-2 c = rw (c .enum-told2 .given .1) (record { lengths-are = refl; kinds-are = refl; points-are = refl; distances-are = refl })
+
+same-length-2 : tie.Need-same-length-2
+same-length-2 c = search needs
+
+same-length-3 : tie.Need-same-length-3
+same-length-3 c = search needs
+
+same-length-4 : tie.Need-same-length-4
+same-length-4 c = search needs
+
+returns-3 : tie.Need-returns-3
+unfolding written
+returns-3 c =
+    let made = c .before .before .before .before .before in
+    let i = entry (chosen made) .args .s .edges in
+    let eight : 8 * i + 8 - 8 * i ≡ 8 = omega arith in
+    let size : 2 + 16 * made .controls .result - 2 ≡ 16 * controls (kind (chosen made)) = omega (arith, end-is made) in
+    rw (chosen made .item .given .1)
+    (record {
+      lengths-are = refl;
+      kinds-are = ap (set (entry (chosen made) .args .kinds .now) i) (made .before .kind-number .ensures);
+      points-are = rw (eight, c .before .before .write-points .ensures, size);
+      distances-are = refl;
+    })
+
+same-length-5 : tie.Need-same-length-5
+same-length-5 c = search needs
+
+returns-4 : tie.Need-returns-4
+unfolding written
+returns-4 c =
+    let told = c .before .before .before .before .before .before in
+    let bytes = entry2 told .args .bytes .now in
+    rw (told .item2 .given .1)
+    (record {
+      lengths-are = refl;
+      kinds-are = refl;
+      points-are = refl;
+      distances-are = c .before .before .write-floats .ensures ∙ rw (part-after 4 bytes);
+    })
+
+pub write-item-spec : {M : Type 1} → statement M
+write-item-spec =
+    tie.close
+    (tie.spec
+    enum-told
+    enum-told-2
+    mul-lengths
+    slice-write-lengths
+    enum-known-item
+    sub-last
+    mul-lengths-2
+    slice-read-lengths
+    add-lengths
+    mul-lengths-3
+    slice-write-lengths-2
+    kind-number-requires
+    slice-write-kinds
+    controls-requires
+    mul-end
+    add-end
+    mul-from
+    add-to
+    sub-write-points
+    part-write-points-start
+    part-write-points-end
+    mul-write-points
+    sub-write-points-2
+    part-write-points-start-2
+    part-write-points-end-2
+    write-points-requires
+    enum-known-item-2
+    sub-write-floats
+    part-write-floats-start
+    part-write-floats-end
+    write-floats-requires
+    returns
+    same-length
+    returns-2
+    same-length-2
+    same-length-3
+    same-length-4
+    returns-3
+    same-length-5
+    returns-4)

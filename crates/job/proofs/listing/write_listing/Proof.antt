@@ -1,0 +1,69 @@
+-- `job::listing::write_listing` meets its contract: the lines, then the count.
+use mathlib.Core.Path.{subst}
+use mathlib.Core.List.{List, _++_}
+use Prim.Native.Nat.{ℕ, _+_, _≤_}
+use native.Mathlib.Omega.{arith}
+use lib.ListN.{length, length-append}
+use Rattle.job.specs.Listing.{edgesWord, newline, field, shapeLines, Pasted}
+use Rattle.job.proofs.ListingLaws.{listing-parts, listing-length}
+use Rattle.job.proofs.PasteLaws.{pasted-then}
+use borrow.Author.Needs.{needs}
+use Rattle.job.proofs.listing.write_listing.Statement.{statement}
+use Rattle.job.proofs.listing.write_listing.Tie as tie
+
+-- the whole text has room
+module _ (c : tie.Start) where
+  abbrev lines : List ℕ
+  lines = shapeLines 0 (c .args .lengths .now) (c .args .kinds .now) (c .args .colors .now)
+
+  abbrev last : List ℕ
+  last = field (length (c .args .kinds .now)) newline
+
+  room : length lines + 6 + length last ≤ length (c .args .out .now)
+  room = omega (arith, c .pre .1, listing-length (c .args .lengths .now) (c .args .kinds .now) (c .args .colors .now))
+
+put-shape-requires : tie.Need-put-shape-requires
+put-shape-requires c κs =
+    let s = c .before .before .before .before .before in
+    (s .pre .0, omega (arith, room s))
+
+slice-aggregate-put-word : tie.Need-slice-aggregate-put-word
+slice-aggregate-put-word c = search needs
+
+put-word-requires : tie.Need-put-word-requires
+put-word-requires c κs =
+    let shape = c .before .before .before .before in
+    let s = shape .before .before .before .before .before .before in
+    omega (arith, room s, shape .put-shape .ensures .place, shape .put-shape .kept .0)
+
+put-field-requires : tie.Need-put-field-requires
+put-field-requires c κs =
+    let word = c .before .before .before in
+    let shape = word .before .before .before .before .before in
+    let s = shape .before .before .before .before .before .before in
+    (s .pre .0 .1, omega (arith, room s, shape .put-shape .ensures .place, shape .put-shape .kept .0, word .put-word .ensures .place, word .put-word .kept .0))
+
+same-length : tie.Need-same-length
+same-length c = search needs
+
+returns : tie.Need-returns
+returns c =
+    let field = c .before .before in
+    let word = field .before .before .before .before in
+    let shape = word .before .before .before .before .before in
+    let s = shape .before .before .before .before .before .before in
+    let old = s .args .out .now in
+    let two : Pasted (lines s ++ edgesWord) 0 old (word .put-word .result) (word .put-word .last .0) = pasted-then (shape .put-shape .ensures) (word .put-word .ensures) (omega (arith, room s)) in
+    subst (λ (x : List ℕ). Pasted x 0 old (field .put-field .result) (field .put-field .last .0)) (listing-parts (s .args .lengths .now) (s .args .kinds .now) (s .args .colors .now))
+    (pasted-then two (field .put-field .ensures) (omega (arith, room s, length-append (lines s) edgesWord)))
+
+pub write-listing-spec : {M : Type 1} → statement M
+write-listing-spec =
+    tie.close
+    (tie.spec
+    put-shape-requires
+    slice-aggregate-put-word
+    put-word-requires
+    put-field-requires
+    same-length
+    returns)

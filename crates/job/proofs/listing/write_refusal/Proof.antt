@@ -1,0 +1,57 @@
+-- `job::listing::write_refusal` meets its contract: the word, then the number.
+use mathlib.Core.Path.{ap, subst, _∙_}
+use mathlib.Core.List.{List, _++_}
+use Prim.Native.Nat.{ℕ}
+use native.Mathlib.Omega.{arith}
+use lib.ListN.{length}
+use Rattle.job.specs.Listing.{refusedWord, newline, field, Pasted}
+use Rattle.job.proofs.ListingLaws.{refusal-parts, refusal-length}
+use Rattle.job.proofs.PasteLaws.{pasted-then}
+use borrow.Author.Needs.{needs}
+use Rattle.job.proofs.listing.write_refusal.Statement.{statement}
+use Rattle.job.proofs.listing.write_refusal.Tie as tie
+
+slice-aggregate-put-word : tie.Need-slice-aggregate-put-word
+slice-aggregate-put-word c = search needs
+
+put-word-requires : tie.Need-put-word-requires
+put-word-requires c κs =
+    let s = c .before .before .before in
+    omega (arith, s .pre, refusal-length (s .args .refusal))
+
+number-requires : tie.Need-number-requires
+number-requires c κs = search needs
+
+cast-put-field : tie.Need-cast-put-field
+cast-put-field c = search needs
+
+put-field-requires : tie.Need-put-field-requires
+put-field-requires c κs =
+    let word = c .before .before .before .before in
+    let s = word .before .before .before .before in
+    (omega (arith, c .number .ok), omega (arith, s .pre, refusal-length (s .args .refusal), ap (λ (n : ℕ). length (field n newline)) (c .number .ensures), word .put-word .ensures .place, word .put-word .kept .0))
+
+same-length : tie.Need-same-length
+same-length c = search needs
+
+returns : tie.Need-returns
+returns c =
+    let number = c .before .before .before in
+    let word = number .before .before .before .before in
+    let s = word .before .before .before .before in
+    let old = s .args .out .now in
+    subst (λ (x : List ℕ). Pasted x 0 old (c .before .before .put-field .result) (c .before .before .put-field .last .0))
+    (ap (λ (n : ℕ). refusedWord ++ field n newline) (number .number .ensures) ∙ refusal-parts (s .args .refusal))
+    (pasted-then (word .put-word .ensures) (c .before .before .put-field .ensures) (omega (arith, s .pre, refusal-length (s .args .refusal), ap (λ (n : ℕ). length (field n newline)) (number .number .ensures))))
+
+pub write-refusal-spec : {M : Type 1} → statement M
+write-refusal-spec =
+    tie.close
+    (tie.spec
+    slice-aggregate-put-word
+    put-word-requires
+    number-requires
+    cast-put-field
+    put-field-requires
+    same-length
+    returns)

@@ -1,0 +1,142 @@
+-- `job::part::contour_span` meets its contract: the search from here on finds what it finds in the whole file.
+use mathlib.Core.Path.{_≡_, sym, ap, _∙_}
+use mathlib.Core.List.{List}
+use Prim.Native.Nat.{ℕ, _-_}
+use native.Mathlib.Omega.{arith}
+use lib.ListN.{length, drop}
+use borrow.Author.Needs.{needs}
+use Rattle.job.specs.declared.progress.Progress.{Progress}
+use Rattle.job.specs.Records.{itemOf, foundOf, readRecord}
+use Rattle.job.specs.Progress.{advanced}
+use Rattle.job.proofs.RecordLaws.{part-after}
+use Rattle.job.proofs.ReadingLaws.{Read-as, found-item, found-end, found-fails}
+use Rattle.job.proofs.ProgressLaws.{counts, further, reached-next}
+use Rattle.job.proofs.PartLaws.{Seeking, seeking-begin, seeking-next, seeking-end, seeking-fault, seeking-inside}
+use Rattle.job.proofs.part.contour_span.Statement.{statement}
+use Rattle.job.proofs.part.contour_span.Tie as tie
+
+abbrev Inv-loop : tie.InvT-loop
+Inv-loop file number p₀ q₀ p q = Seeking file number p q
+
+abbrev μ-loop : tie.MeasureT-loop
+μ-loop file number p₀ q₀ p q = length file - p .at
+
+-- what the code finds is the first record of the bytes ahead
+module _ (c : tie.After-read-record Inv-loop μ-loop) where
+  abbrev at : tie.At-loop Inv-loop μ-loop
+  at = c .before .before .before
+
+  abbrev file : List ℕ
+  file = at .before .before .before .args .file .now
+
+  abbrev number : ℕ
+  number = at .before .before .before .args .number
+
+  abbrev p : Progress
+  p = at .loop .p
+
+  read : c .read-record .result ≡ foundOf (readRecord (p .state) (drop (p .at) file))
+  read = c .read-record .ensures ∙ ap (λ (x : List ℕ). foundOf (readRecord (p .state) x)) (part-after (p .at) file)
+
+-- a record
+module _ (c : tie.After-item Inv-loop μ-loop) where
+  abbrev found : tie.After-read-record Inv-loop μ-loop
+  found = c .before .before
+
+  as-read : Read-as (readRecord (p found .state) (drop (p found .at) (file found))) (c .item .given .0 .0)
+  as-read = found-item _ _ (sym (c .item .given .1) ∙ read found)
+
+begin-requires : tie.Need-begin-requires Inv-loop μ-loop
+begin-requires c κs = search needs
+
+loop-holds : tie.Need-loop-holds Inv-loop μ-loop
+loop-holds c = rw (c .begin .ensures) (seeking-begin _ _)
+
+sub-read-record : tie.Need-sub-read-record Inv-loop μ-loop
+sub-read-record c = c .before .loop .inv .at .within
+
+part-read-record-start : tie.Need-part-read-record-start Inv-loop μ-loop
+part-read-record-start c = c .before .loop .inv .at .within
+
+part-read-record-end : tie.Need-part-read-record-end Inv-loop μ-loop
+part-read-record-end c = omega arith
+
+read-record-requires : tie.Need-read-record-requires Inv-loop μ-loop
+read-record-requires c κs = search needs
+
+enum-known-item : tie.Need-enum-known-item Inv-loop μ-loop
+enum-known-item c = search needs
+
+sought-requires : tie.Need-sought-requires Inv-loop μ-loop
+sought-requires c κs = search needs
+
+advance-requires : tie.Need-advance-requires Inv-loop μ-loop
+advance-requires c κs =
+    let i = c .before .before in
+    let a = as-read i in
+    let f = found i in
+    rw (← a .is-item) (counts (file f) (p f) (at f .loop .inv .at) (a .r) (a .rest) (a .is-next) (omega arith))
+
+loop-less : tie.Need-loop-less Inv-loop μ-loop
+loop-less c =
+    let i = c .before .before .before in
+    let a = as-read i in
+    let f = found i in
+    let moved : c .advance .result ≡ advanced (p f) (itemOf (a .r)) = c .advance .ensures ∙ ap (advanced (p f)) (sym (a .is-item)) in
+    let more = further (file f) (p f) (at f .loop .inv .at) (a .r) (a .rest) (a .is-next) in
+    let still = reached-next (file f) (p f) (at f .loop .inv .at) (a .r) (a .rest) (a .is-next) in
+    rw moved (omega (arith, more, still .within))
+
+loop-again : tie.Need-loop-again Inv-loop μ-loop
+loop-again c =
+    let i = c .before .before .before in
+    let f = found i in
+    rw (c .advance .ensures, c .before .sought .ensures) (seeking-next (file f) (number f) (p f) (at f .loop .q) (at f .loop .inv) (i .item .given .0 .0) (as-read i))
+
+enum-told : tie.Need-enum-told Inv-loop μ-loop
+enum-told c = search needs
+
+span-of-requires : tie.Need-span-of-requires Inv-loop μ-loop
+span-of-requires c κs = search needs
+
+returns : tie.Need-returns Inv-loop μ-loop
+returns c =
+    let f = c .before .before .before in
+    rw (c .span-of .ensures)
+    (seeking-end (file f) (number f) (p f) (at f .loop .q) (at f .loop .inv) (found-end _ (sym (c .before .enum-told .given .1) ∙ read f)), seeking-inside (file f) (number f) (p f) (at f .loop .q) (at f .loop .inv))
+
+enum-told-2 : tie.Need-enum-told-2 Inv-loop μ-loop
+enum-told-2 c = search needs
+
+span-of-requires-2 : tie.Need-span-of-requires-2 Inv-loop μ-loop
+span-of-requires-2 c κs = search needs
+
+returns-2 : tie.Need-returns-2 Inv-loop μ-loop
+returns-2 c =
+    let f = c .before .before .before in
+    rw (c .span-of2 .ensures)
+    (seeking-fault (file f) (number f) (p f) (at f .loop .q) (at f .loop .inv) _ (found-fails _ _ (sym (c .before .enum-told2 .given .1) ∙ read f)), seeking-inside (file f) (number f) (p f) (at f .loop .q) (at f .loop .inv))
+
+pub contour-span-spec : {M : Type 1} → statement M
+contour-span-spec =
+    tie.close
+    (tie.spec
+    Inv-loop
+    μ-loop
+    begin-requires
+    loop-holds
+    sub-read-record
+    part-read-record-start
+    part-read-record-end
+    read-record-requires
+    enum-known-item
+    sought-requires
+    advance-requires
+    loop-less
+    loop-again
+    enum-told
+    span-of-requires
+    returns
+    enum-told-2
+    span-of-requires-2
+    returns-2)

@@ -1,0 +1,129 @@
+-- `job::progress::scan` meets its contract: at each turn reading has reached a place of the file.
+use mathlib.Core.Path.{_≡_, sym, ap, _∙_}
+use Prim.Native.Nat.{ℕ, _-_}
+use native.Mathlib.Omega.{arith}
+use mathlib.Core.List.{List}
+use lib.ListN.{length, drop}
+use borrow.Author.Needs.{needs}
+use Rattle.job.specs.declared.progress.Progress.{Progress}
+use Rattle.job.specs.Records.{itemOf, foundOf, readRecord}
+use Rattle.job.specs.declared.progress.Read.the-variants.{Job}
+use Rattle.job.specs.Progress.{advanced, answerOf}
+use Rattle.job.proofs.RecordLaws.{part-after}
+use Rattle.job.proofs.ReadingLaws.{Read-as, found-item, found-end, found-fails}
+use Rattle.job.proofs.ProgressLaws.{Reached, reached-begin, counts, further, reached-next, reached-end, reached-fault, numbers-are}
+use Rattle.job.proofs.progress.scan.Statement.{statement}
+use Rattle.job.proofs.progress.scan.Tie as tie
+
+abbrev Inv-loop : tie.InvT-loop
+Inv-loop file p₀ p = Reached file p
+
+abbrev μ-loop : tie.MeasureT-loop
+μ-loop file p₀ p = length file - p .at
+
+-- what the code finds is the first record of the bytes ahead
+module _ (c : tie.After-read-record Inv-loop μ-loop) where
+  abbrev at : tie.At-loop Inv-loop μ-loop
+  at = c .before .before .before
+
+  abbrev file : List ℕ
+  file = at .before .before .before .args .file .now
+
+  abbrev p : Progress
+  p = at .loop .p
+
+  read : c .read-record .result ≡ foundOf (readRecord (p .state) (drop (p .at) file))
+  read = c .read-record .ensures ∙ ap (λ (x : List ℕ). foundOf (readRecord (p .state) x)) (part-after (p .at) file)
+
+-- a record
+module _ (c : tie.After-item Inv-loop μ-loop) where
+  abbrev found : tie.After-read-record Inv-loop μ-loop
+  found = c .before .before
+
+  as-read : Read-as (readRecord (p found .state) (drop (p found .at) (file found))) (c .item .given .0 .0)
+  as-read = found-item _ _ (sym (c .item .given .1) ∙ read found)
+
+begin-requires : tie.Need-begin-requires Inv-loop μ-loop
+begin-requires c κs = search needs
+
+loop-holds : tie.Need-loop-holds Inv-loop μ-loop
+loop-holds c = rw (c .begin .ensures) (reached-begin _)
+
+sub-read-record : tie.Need-sub-read-record Inv-loop μ-loop
+sub-read-record c = omega (arith, c .before .loop .inv .within)
+
+part-read-record-start : tie.Need-part-read-record-start Inv-loop μ-loop
+part-read-record-start c = omega (arith, c .before .loop .inv .within)
+
+part-read-record-end : tie.Need-part-read-record-end Inv-loop μ-loop
+part-read-record-end c = omega arith
+
+read-record-requires : tie.Need-read-record-requires Inv-loop μ-loop
+read-record-requires c κs = search needs
+
+enum-known-item : tie.Need-enum-known-item Inv-loop μ-loop
+enum-known-item c = search needs
+
+advance-requires : tie.Need-advance-requires Inv-loop μ-loop
+advance-requires c κs =
+    let a = as-read (c .before) in
+    let f = found (c .before) in
+    rw (← a .is-item) (counts (file f) (p f) (at f .loop .inv) (a .r) (a .rest) (a .is-next) (omega arith))
+
+loop-less : tie.Need-loop-less Inv-loop μ-loop
+loop-less c =
+    let a = as-read (c .before .before) in
+    let f = found (c .before .before) in
+    let next : c .advance .result ≡ advanced (p f) (itemOf (a .r)) = c .advance .ensures ∙ ap (advanced (p f)) (sym (a .is-item)) in
+    let more = further (file f) (p f) (at f .loop .inv) (a .r) (a .rest) (a .is-next) in
+    let still = reached-next (file f) (p f) (at f .loop .inv) (a .r) (a .rest) (a .is-next) in
+    rw next (omega (arith, more, still .within))
+
+loop-again : tie.Need-loop-again Inv-loop μ-loop
+loop-again c =
+    let a = as-read (c .before .before) in
+    let f = found (c .before .before) in
+    rw (c .advance .ensures, ← a .is-item) (reached-next (file f) (p f) (at f .loop .inv) (a .r) (a .rest) (a .is-next))
+
+enum-told : tie.Need-enum-told Inv-loop μ-loop
+enum-told c = search needs
+
+numbers-at-requires : tie.Need-numbers-at-requires Inv-loop μ-loop
+numbers-at-requires c κs = search needs
+
+returns : tie.Need-returns Inv-loop μ-loop
+returns c =
+    let f = c .before .before .before in
+    let at-end = found-end _ (sym (c .before .enum-told .given .1) ∙ read f) in
+    ap Job (c .numbers-at .ensures ∙ numbers-are (file f) (p f) (at f .loop .inv)) ∙ ap answerOf (reached-end (file f) (p f) (at f .loop .inv) at-end)
+
+enum-known-refusal : tie.Need-enum-known-refusal Inv-loop μ-loop
+enum-known-refusal c = search needs
+
+returns-2 : tie.Need-returns-2 Inv-loop μ-loop
+returns-2 c =
+    let f = c .before .before .before in
+    let fault = found-fails _ _ (sym (c .before .refusal .given .1) ∙ read f) in
+    ap answerOf (reached-fault (file f) (p f) (at f .loop .inv) _ fault)
+
+pub scan-spec : {M : Type 1} → statement M
+scan-spec =
+    tie.close
+    (tie.spec
+    Inv-loop
+    μ-loop
+    begin-requires
+    loop-holds
+    sub-read-record
+    part-read-record-start
+    part-read-record-end
+    read-record-requires
+    enum-known-item
+    advance-requires
+    loop-less
+    loop-again
+    enum-told
+    numbers-at-requires
+    returns
+    enum-known-refusal
+    returns-2)

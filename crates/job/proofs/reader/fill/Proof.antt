@@ -1,0 +1,209 @@
+-- `job::reader::fill` meets its contract: at each turn the buffers hold the job so far.
+use mathlib.Core.Path.{_≡_, sym, ap, subst, _∙_}
+use mathlib.Core.List.{List}
+use Prim.Native.Nat.{ℕ, _-_}
+use native.Mathlib.Omega.{arith}
+use lib.ListN.{length, drop}
+use borrow.Author.Needs.{needs}
+use Rattle.job.specs.declared.progress.Progress.{Progress}
+use Rattle.job.specs.Records.{itemOf, foundOf, readRecord}
+use Rattle.job.specs.Buffers.{Buffers, buffers, written, Hold, Room}
+use Rattle.job.specs.Progress.{advanced}
+use Rattle.job.proofs.RecordLaws.{part-after}
+use Rattle.job.proofs.ReadingLaws.{Read-as, found-item, found-end, found-fails}
+use Rattle.job.proofs.ProgressLaws.{counts, further, reached-next}
+use Rattle.job.proofs.FillLaws.{Filling, filling-begin, filling-room, filling-next, filling-end, filling-fault}
+use Rattle.job.proofs.reader.fill.Statement.{statement}
+use Rattle.job.proofs.reader.fill.Tie as tie
+
+abbrev Inv-loop : tie.InvT-loop
+Inv-loop file lengths₀ kinds₀ points₀ distances₀ p₀ lengths kinds points distances p = Filling file (buffers lengths₀ kinds₀ points₀ distances₀) p lengths kinds points distances
+
+abbrev μ-loop : tie.MeasureT-loop
+μ-loop file lengths₀ kinds₀ points₀ distances₀ p₀ lengths kinds points distances p = length file - p .at
+
+-- what the code finds is the first record of the bytes ahead
+module _ (c : tie.After-read-record Inv-loop μ-loop) where
+  abbrev at : tie.At-loop Inv-loop μ-loop
+  at = c .before .before .before
+
+  abbrev start : tie.Start Inv-loop μ-loop
+  start = at .before .before .before .before .before .before .before
+
+  abbrev file : List ℕ
+  file = start .args .file .now
+
+  abbrev old : Buffers
+  old = buffers (start .args .lengths .now) (start .args .kinds .now) (start .args .points .now) (start .args .distances .now)
+
+  abbrev p : Progress
+  p = at .loop .p
+
+  read : c .read-record .result ≡ foundOf (readRecord (p .state) (drop (p .at) file))
+  read = c .read-record .ensures ∙ ap (λ (x : List ℕ). foundOf (readRecord (p .state) x)) (part-after (p .at) file)
+
+-- a record
+module _ (c : tie.After-item Inv-loop μ-loop) where
+  abbrev found : tie.After-read-record Inv-loop μ-loop
+  found = c .before .before
+
+  as-read : Read-as (readRecord (p found .state) (drop (p found .at) (file found))) (c .item .given .0 .0)
+  as-read = found-item _ _ (sym (c .item .given .1) ∙ read found)
+
+  has-room : Room (c .item .given .0 .0) (p found .state) (drop (p found .at) (file found)) (buffers (at found .loop .lengths) (at found .loop .kinds) (at found .loop .points) (at found .loop .distances))
+  has-room =
+      filling-room (file found) (old found) (start found .pre) (p found) (at found .loop .lengths) (at found .loop .kinds) (at found .loop .points) (at found .loop .distances)
+      (at found .loop .inv) (c .item .given .0 .0) as-read
+
+-- the record, written
+module _ (c : tie.After-write-item Inv-loop μ-loop) where
+  abbrev chosen : tie.After-item Inv-loop μ-loop
+  chosen = c .before .before .before .before .before .before .before
+
+  abbrev turn : tie.At-loop Inv-loop μ-loop
+  turn = at (found chosen)
+
+  next : Filling (file (found chosen)) (old (found chosen)) (advanced (p (found chosen)) (chosen .item .given .0 .0))
+      (c .write-item .last .1 .1 .1 .0) (c .write-item .last .1 .1 .1 .1 .0) (c .write-item .last .1 .1 .1 .1 .1 .0) (c .write-item .last .1 .1 .1 .1 .1 .1 .0)
+  next =
+      let f = found chosen in
+      let item = chosen .item .given .0 .0 in
+      filling-next (file f) (old f) (start f .pre) (p f) (turn .loop .lengths) (turn .loop .kinds) (turn .loop .points) (turn .loop .distances) (turn .loop .inv) item (as-read chosen)
+      (c .write-item .last .1 .1 .1 .0) (c .write-item .last .1 .1 .1 .1 .0) (c .write-item .last .1 .1 .1 .1 .1 .0) (c .write-item .last .1 .1 .1 .1 .1 .1 .0)
+      (subst (λ (x : List ℕ). Hold (written item (p f .state) x (buffers (turn .loop .lengths) (turn .loop .kinds) (turn .loop .points) (turn .loop .distances))) (c .write-item .last .1 .1 .1 .0) (c .write-item .last .1 .1 .1 .1 .0) (c .write-item .last .1 .1 .1 .1 .1 .0) (c .write-item .last .1 .1 .1 .1 .1 .1 .0))
+      (part-after (p f .at) (file f)) (c .write-item .ensures))
+      (c .write-item .kept .1 .1 .1 .0) (c .write-item .kept .1 .1 .1 .1 .0) (c .write-item .kept .1 .1 .1 .1 .1 .0) (c .write-item .kept .1 .1 .1 .1 .1 .1 .0)
+
+begin-requires : tie.Need-begin-requires Inv-loop μ-loop
+begin-requires c κs = search needs
+
+loop-holds : tie.Need-loop-holds Inv-loop μ-loop
+loop-holds c = rw (c .begin .ensures) (filling-begin _ _)
+
+sub-read-record : tie.Need-sub-read-record Inv-loop μ-loop
+sub-read-record c = omega (arith, c .before .loop .inv .at .within)
+
+part-read-record-start : tie.Need-part-read-record-start Inv-loop μ-loop
+part-read-record-start c = omega (arith, c .before .loop .inv .at .within)
+
+part-read-record-end : tie.Need-part-read-record-end Inv-loop μ-loop
+part-read-record-end c = omega arith
+
+read-record-requires : tie.Need-read-record-requires Inv-loop μ-loop
+read-record-requires c κs = search needs
+
+enum-known-item : tie.Need-enum-known-item Inv-loop μ-loop
+enum-known-item c = search needs
+
+sub-write-item : tie.Need-sub-write-item Inv-loop μ-loop
+sub-write-item c = at (found (c .before)) .loop .inv .at .within
+
+part-write-item-start : tie.Need-part-write-item-start Inv-loop μ-loop
+part-write-item-start c = at (found (c .before)) .loop .inv .at .within
+
+part-write-item-end : tie.Need-part-write-item-end Inv-loop μ-loop
+part-write-item-end c = omega arith
+
+write-item-requires : tie.Need-write-item-requires Inv-loop μ-loop
+write-item-requires c κs =
+    let i = c .before .before .before .before .before .before in
+    let f = found i in
+    subst (λ (x : List ℕ). Room (i .item .given .0 .0) (p f .state) x (buffers (at f .loop .lengths) (at f .loop .kinds) (at f .loop .points) (at f .loop .distances)))
+    (sym (part-after (p f .at) (file f))) (has-room i)
+
+advance-requires : tie.Need-advance-requires Inv-loop μ-loop
+advance-requires c κs =
+    let place = c .before .before .before .before .before .before .before .before in
+    let i = chosen place in
+    let a = as-read i in
+    let f = found i in
+    rw (← a .is-item) (counts (file f) (p f) (at f .loop .inv .at) (a .r) (a .rest) (a .is-next) (omega (arith, start f .good)))
+
+loop-less : tie.Need-loop-less Inv-loop μ-loop
+loop-less c =
+    let place = c .before .before .before .before .before .before .before .before .before in
+    let i = chosen place in
+    let a = as-read i in
+    let f = found i in
+    let moved : c .advance .result ≡ advanced (p f) (itemOf (a .r)) = c .advance .ensures ∙ ap (advanced (p f)) (sym (a .is-item)) in
+    let more = further (file f) (p f) (at f .loop .inv .at) (a .r) (a .rest) (a .is-next) in
+    let still = reached-next (file f) (p f) (at f .loop .inv .at) (a .r) (a .rest) (a .is-next) in
+    rw moved (omega (arith, more, still .within))
+
+loop-again : tie.Need-loop-again Inv-loop μ-loop
+loop-again c =
+    let place = c .before .before .before .before .before .before .before .before .before in
+    rw (c .advance .ensures) (next place)
+
+enum-told : tie.Need-enum-told Inv-loop μ-loop
+enum-told c = search needs
+
+same-length : tie.Need-same-length Inv-loop μ-loop
+same-length c = at (c .before .before) .loop .inv .lengths-kept
+
+same-length-2 : tie.Need-same-length-2 Inv-loop μ-loop
+same-length-2 c = at (c .before .before) .loop .inv .kinds-kept
+
+same-length-3 : tie.Need-same-length-3 Inv-loop μ-loop
+same-length-3 c = at (c .before .before) .loop .inv .points-kept
+
+same-length-4 : tie.Need-same-length-4 Inv-loop μ-loop
+same-length-4 c = at (c .before .before) .loop .inv .distances-kept
+
+returns : tie.Need-returns Inv-loop μ-loop
+returns c =
+    let f = c .before .before in
+    filling-end (file f) (old f) (start f .pre) (p f) _ _ _ _ (at f .loop .inv) (found-end _ (sym (c .enum-told .given .1) ∙ read f))
+
+enum-told-2 : tie.Need-enum-told-2 Inv-loop μ-loop
+enum-told-2 c = search needs
+
+same-length-5 : tie.Need-same-length-5 Inv-loop μ-loop
+same-length-5 c = at (c .before .before) .loop .inv .lengths-kept
+
+same-length-6 : tie.Need-same-length-6 Inv-loop μ-loop
+same-length-6 c = at (c .before .before) .loop .inv .kinds-kept
+
+same-length-7 : tie.Need-same-length-7 Inv-loop μ-loop
+same-length-7 c = at (c .before .before) .loop .inv .points-kept
+
+same-length-8 : tie.Need-same-length-8 Inv-loop μ-loop
+same-length-8 c = at (c .before .before) .loop .inv .distances-kept
+
+returns-2 : tie.Need-returns-2 Inv-loop μ-loop
+returns-2 c =
+    let f = c .before .before in
+    absurd (filling-fault (file f) (old f) (start f .pre) (p f) _ _ _ _ (at f .loop .inv) _ (found-fails _ _ (sym (c .enum-told2 .given .1) ∙ read f)))
+
+pub fill-spec : {M : Type 1} → statement M
+fill-spec =
+    tie.close
+    (tie.spec
+    Inv-loop
+    μ-loop
+    begin-requires
+    loop-holds
+    sub-read-record
+    part-read-record-start
+    part-read-record-end
+    read-record-requires
+    enum-known-item
+    sub-write-item
+    part-write-item-start
+    part-write-item-end
+    write-item-requires
+    advance-requires
+    loop-less
+    loop-again
+    enum-told
+    same-length
+    same-length-2
+    same-length-3
+    same-length-4
+    returns
+    enum-told-2
+    same-length-5
+    same-length-6
+    same-length-7
+    same-length-8
+    returns-2)

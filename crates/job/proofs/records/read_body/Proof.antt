@@ -1,0 +1,75 @@
+-- `job::records::read_body` meets its contract, mark by mark.
+use mathlib.Core.Path.{sym, ap, _∙_}
+use Rattle.job.specs.Records.{readBody, bodySize}
+use Rattle.job.proofs.RecordLaws.{header-rest, edge-rest}
+use borrow.Author.Needs.{needs}
+use Rattle.job.proofs.records.read_body.Statement.{statement}
+use Rattle.job.proofs.records.read_body.Tie as tie
+
+enum-told : tie.Need-enum-told
+enum-told c = search needs
+
+read-header-requires : tie.Need-read-header-requires
+read-header-requires c κs = c .before .before .before .before .pre ∙ ap bodySize (c .enum-told .given .1)
+
+enum-told-2 : tie.Need-enum-told-2
+enum-told-2 c = search needs
+
+enum-known-mark : tie.Need-enum-known-mark
+enum-known-mark c = search needs
+
+read-edge-requires : tie.Need-read-edge-requires
+read-edge-requires c κs = c .before .before .before .before .before .pre ∙ ap bodySize (c .before .mark .given .1)
+
+enum-told-3 : tie.Need-enum-told-3
+enum-told-3 c = search needs
+
+read-distances-requires : tie.Need-read-distances-requires
+read-distances-requires c κs = c .before .before .before .before .pre ∙ ap bodySize (c .enum-told3 .given .1)
+
+enum-told-4 : tie.Need-enum-told-4
+enum-told-4 c = search needs
+
+read-end-requires : tie.Need-read-end-requires
+read-end-requires c κs = search needs
+
+returns : tie.Need-returns
+unfolding readBody
+returns c = rw (c .before .enum-told .given .1) (c .read-header .ensures ∙ sym (header-rest (c .before .before .before .before .before .args .body .now) (c .before .before .before .before .before .args .rest .now)))
+
+returns-2 : tie.Need-returns-2
+unfolding readBody
+returns-2 c = rw (c .enum-told2 .given .1)
+
+returns-3 : tie.Need-returns-3
+unfolding readBody
+returns-3 c =
+    let start = c .before .before .before .before .before .before in
+    rw (c .before .before .mark .given .1) (c .read-edge .ensures ∙ sym (edge-rest (c .before .before .mark .given .0 .0) (start .args .body .now) (start .args .rest .now)))
+
+returns-4 : tie.Need-returns-4
+unfolding readBody
+returns-4 c = rw (c .before .enum-told3 .given .1) (c .read-distances .ensures)
+
+returns-5 : tie.Need-returns-5
+unfolding readBody
+returns-5 c = rw (c .before .enum-told4 .given .1) (c .read-end .ensures)
+
+pub read-body-spec : {M : Type 1} → statement M
+read-body-spec =
+    tie.close
+    (tie.spec
+    enum-told
+    read-header-requires
+    enum-told-2
+    enum-known-mark
+    read-edge-requires
+    enum-told-3
+    read-distances-requires
+    enum-told-4
+    read-end-requires
+    returns
+    returns-2
+    returns-3
+    returns-4
+    returns-5)

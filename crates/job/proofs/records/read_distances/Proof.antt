@@ -1,0 +1,39 @@
+-- `job::records::read_distances` meets its contract: the count, the bytes that it asks for, then the distances.
+use Rattle.job.specs.Records.{readDistances}
+use borrow.Author.Tests.{le-leb, lt-leb}
+use Rattle.job.proofs.PatternLaws.{floats-length}
+use borrow.Author.Needs.{needs}
+use Rattle.job.proofs.records.read_distances.Statement.{statement}
+use Rattle.job.proofs.records.read_distances.Tie as tie
+
+number-requires : tie.Need-number-requires
+number-requires c κs = search needs
+
+returns : tie.Need-returns
+unfolding readDistances
+returns c = rw (← c .before .number .ensures, lt-leb _ 2016 (c .if1 .taken))
+
+mul-if2 : tie.Need-mul-if2
+mul-if2 c = search needs
+
+returns-2 : tie.Need-returns-2
+unfolding readDistances
+returns-2 c = rw (← c .before .before .number .ensures, le-leb _ 2016 (c .before .if1 .left), lt-leb _ _ (c .if2 .taken))
+
+words-within-requires : tie.Need-words-within-requires
+words-within-requires c κs = search needs
+
+returns-3 : tie.Need-returns-3
+unfolding readDistances
+returns-3 c =
+    let start = c .before .before .before .before .before .before .before in
+    rw (← c .before .before .before .before .number .ensures, le-leb _ 2016 (c .before .before .before .if1 .left), le-leb _ _ (c .before .before .if2 .left), ← c .before .words-within .ensures, c .if3 .taken, floats-length (c .before .before .before .before .number .result) (start .args .rest .now))
+
+returns-4 : tie.Need-returns-4
+unfolding readDistances
+returns-4 c = rw (← c .before .before .before .before .number .ensures, le-leb _ 2016 (c .before .before .before .if1 .left), le-leb _ _ (c .before .before .if2 .left), ← c .before .words-within .ensures, c .if3 .left)
+
+pub read-distances-spec : {M : Type 1} → statement M
+read-distances-spec =
+    tie.close
+    (tie.spec number-requires returns mul-if2 returns-2 words-within-requires returns-3 returns-4)

@@ -1,0 +1,34 @@
+-- `job::records::read_edge` meets its contract: the coordinates decide.
+use mathlib.Core.Path.{_≡_, ap, _∙_}
+use Prim.Native.Nat.{ℕ, _*_}
+use Rattle.job.specs.Patterns.{words, all, isCoordinate}
+use Rattle.job.specs.Records.{readEdge, controls}
+use Rattle.job.proofs.RecordLaws.{kind-of-edge}
+use borrow.Author.Needs.{needs}
+use Rattle.job.proofs.records.read_edge.Statement.{statement}
+use Rattle.job.proofs.records.read_edge.Tie as tie
+
+controls-requires : tie.Need-controls-requires
+controls-requires c κs = search needs
+
+mul-words-within : tie.Need-mul-words-within
+mul-words-within c = search needs
+
+words-within-requires : tie.Need-words-within-requires
+words-within-requires c κs = search needs
+
+-- the coordinates, tested
+tested : (c : tie.After-words-within) → c .words-within .result ≡ all isCoordinate (words (2 * controls (c .before .before .before .args .kind)) (c .before .before .before .args .body .now))
+tested c = c .words-within .ensures ∙ ap (λ (k : ℕ). all isCoordinate (words (2 * k) (c .before .before .before .args .body .now))) (c .before .controls .ensures)
+
+returns : tie.Need-returns
+unfolding readEdge
+returns c = rw (← tested (c .before), c .if1 .taken, kind-of-edge)
+
+returns-2 : tie.Need-returns-2
+unfolding readEdge
+returns-2 c = rw (← tested (c .before), c .if1 .left)
+
+pub read-edge-spec : {M : Type 1} → statement M
+read-edge-spec =
+    tie.close (tie.spec controls-requires mul-words-within words-within-requires returns returns-2)

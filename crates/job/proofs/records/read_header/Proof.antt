@@ -1,0 +1,98 @@
+-- `job::records::read_header` meets its contract: the strategy, then the threshold, whose pattern comes back from its float.
+use mathlib.Core.Path.{_≡_, sym, ap, _∙_}
+use mathlib.Core.Bool.{true}
+use mathlib.Core.List.{List}
+use Prim.Native.Nat.{ℕ}
+use native.Mathlib.Omega.{arith}
+use lib.Dec.{leb}
+use lib.ListN.{getD, take, drop}
+use borrow.Author.Tests.{le-leb, lt-leb, not-true, not-false}
+use Rattle.job.specs.Patterns.{number, isThreshold}
+use Rattle.job.specs.Records.{readHeader}
+use Rattle.job.proofs.RecordLaws.{header-found}
+use borrow.Author.Needs.{needs}
+use Rattle.job.proofs.records.read_header.Statement.{statement}
+use Rattle.job.proofs.records.read_header.Tie as tie
+
+shared-slice-read-strategy : tie.Need-shared-slice-read-strategy
+shared-slice-read-strategy c = search needs
+
+-- the threshold, tested
+module _ (c : tie.After-is-threshold) where
+  abbrev known : tie.Else2
+  known = c .before .before .before .before .before
+
+  abbrev body : List ℕ
+  body = known .before .before .before .before .args .body .now
+
+  low : leb 1 (getD body 0 0) ≡ true
+  low = le-leb 1 (getD body 0 0) (known .before .if1 .left)
+
+  high : leb (getD body 0 0) 3 ≡ true
+  high = le-leb (getD body 0 0) 3 (known .if2 .left)
+
+  tested : c .is-threshold .result ≡ isThreshold (number (take 8 (drop 9 body)))
+  tested = c .is-threshold .ensures ∙ ap isThreshold (c .before .number2 .ensures)
+
+returns : tie.Need-returns
+unfolding readHeader
+returns c = rw (lt-leb 1 _ (c .if1 .taken))
+
+returns-2 : tie.Need-returns-2
+unfolding readHeader
+returns-2 c = rw (le-leb 1 _ (c .before .if1 .left), lt-leb _ 3 (c .if2 .taken))
+
+sub-number : tie.Need-sub-number
+sub-number c = search needs
+
+part-number-start : tie.Need-part-number-start
+part-number-start c = search needs
+
+part-number-end : tie.Need-part-number-end
+part-number-end c = search needs
+
+number-requires : tie.Need-number-requires
+number-requires c κs = search needs
+
+sub-number-2 : tie.Need-sub-number-2
+sub-number-2 c = search needs
+
+part-number-start-2 : tie.Need-part-number-start-2
+part-number-start-2 c = search needs
+
+part-number-end-2 : tie.Need-part-number-end-2
+part-number-end-2 c = search needs
+
+number-requires-2 : tie.Need-number-requires-2
+number-requires-2 c κs = search needs
+
+is-threshold-requires : tie.Need-is-threshold-requires
+is-threshold-requires c κs = search needs
+
+returns-3 : tie.Need-returns-3
+unfolding readHeader
+returns-3 c = rw (low (c .before), high (c .before), ← tested (c .before), not-true (c .before .is-threshold .result) (c .if3 .taken))
+
+returns-4 : tie.Need-returns-4
+returns-4 c =
+    let t = sym (c .before .is-threshold .ensures) ∙ not-false (c .before .is-threshold .result) (c .if3 .left) in
+    header-found (body (c .before)) (c .before .before .before .before .number .result) (c .before .before .number2 .result) (low (c .before)) (high (c .before)) (c .before .before .before .before .number .ensures) (c .before .before .number2 .ensures) t (omega (arith, c .before .before .number2 .ok))
+
+pub read-header-spec : {M : Type 1} → statement M
+read-header-spec =
+    tie.close
+    (tie.spec
+    shared-slice-read-strategy
+    returns
+    returns-2
+    sub-number
+    part-number-start
+    part-number-end
+    number-requires
+    sub-number-2
+    part-number-start-2
+    part-number-end-2
+    number-requires-2
+    is-threshold-requires
+    returns-3
+    returns-4)

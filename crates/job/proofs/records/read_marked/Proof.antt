@@ -1,0 +1,81 @@
+-- `job::records::read_marked` meets its contract, test by test.
+use mathlib.Core.Path.{_≡_, sym, ap, _∙_}
+use mathlib.Core.Bool.{true}
+use native.Mathlib.Omega.{arith}
+use lib.ListN.{take, length-take}
+use borrow.Author.Tests.{lt-leb, not-true, not-false}
+use Rattle.job.specs.Records.{allowed, fits, foundOf, readBody, readMarked}
+use Rattle.job.proofs.RecordLaws.{marked-body, part-after}
+use borrow.Author.Needs.{needs}
+use Rattle.job.proofs.records.read_marked.Statement.{statement}
+use Rattle.job.proofs.records.read_marked.Tie as tie
+
+-- the mark may stand there, and one more is within the maximum
+may : (c : tie.Else1) → allowed (c .before .before .before .args .s) (c .before .before .before .args .mark) ≡ true
+may c = sym (c .before .allowed .ensures) ∙ not-false (c .before .allowed .result) (c .if1 .left)
+
+room : (c : tie.Else2) → fits (c .before .before .before .before .before .args .s) (c .before .before .before .before .before .args .mark) ≡ true
+room c = sym (c .before .fits2 .ensures) ∙ not-false (c .before .fits2 .result) (c .if2 .left)
+
+allowed-requires : tie.Need-allowed-requires
+allowed-requires c κs = search needs
+
+returns : tie.Need-returns
+unfolding readMarked
+returns c = rw (← c .before .allowed .ensures, not-true (c .before .allowed .result) (c .if1 .taken))
+
+fits-requires : tie.Need-fits-requires
+fits-requires c κs = search needs
+
+returns-2 : tie.Need-returns-2
+unfolding readMarked
+returns-2 c = rw (may (c .before .before), ← c .before .fits2 .ensures, not-true (c .before .fits2 .result) (c .if2 .taken))
+
+body-size-requires : tie.Need-body-size-requires
+body-size-requires c κs = search needs
+
+returns-3 : tie.Need-returns-3
+unfolding readMarked
+returns-3 c = rw (may (c .before .before .before .before), room (c .before .before), ← c .before .body-size .ensures, lt-leb _ _ (c .if3 .taken))
+
+slice-aggregate-read-body : tie.Need-slice-aggregate-read-body
+slice-aggregate-read-body c = rw length-take (omega arith)
+
+sub-read-body : tie.Need-sub-read-body
+sub-read-body c = search needs
+
+part-read-body-start : tie.Need-part-read-body-start
+part-read-body-start c = search needs
+
+part-read-body-end : tie.Need-part-read-body-end
+part-read-body-end c = search needs
+
+read-body-requires : tie.Need-read-body-requires
+read-body-requires c κs = rw length-take (omega (arith, c .before .before .before .body-size .ensures))
+
+returns-4 : tie.Need-returns-4
+returns-4 c =
+    let sized = c .before .before .before .before in
+    let start = sized .before .before .before .before .before .before in
+    let size = sized .body-size .result in
+    c .read-body .ensures
+    ∙ ap foundOf
+    (ap (readBody (start .args .mark) (take size (start .args .bytes .now))) (part-after size (start .args .bytes .now))
+    ∙ sym (marked-body (start .args .s) (start .args .mark) (start .args .bytes .now) size (may (sized .before .before .before)) (room (sized .before)) (sized .body-size .ensures) (c .before .before .before .if3 .left)))
+
+pub read-marked-spec : {M : Type 1} → statement M
+read-marked-spec =
+    tie.close
+    (tie.spec
+    allowed-requires
+    returns
+    fits-requires
+    returns-2
+    body-size-requires
+    returns-3
+    slice-aggregate-read-body
+    sub-read-body
+    part-read-body-start
+    part-read-body-end
+    read-body-requires
+    returns-4)

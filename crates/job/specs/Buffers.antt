@@ -1,0 +1,103 @@
+-- The four buffers that a job is read into, and how each record changes them.
+use Prim.Native.Nat.{ℕ, suc, _+_, _-_, _*_, _<_, _≤_}
+use mathlib.Core.Path.{_≡_}
+use mathlib.Core.Bool.{Bool, _&&_}
+use lib.Dec.{leb}
+use mathlib.Core.List.{List, map, _++_}
+use lib.ListN.{length, take, drop, getD, set}
+use lib.Ieee.{Float}
+use Rattle.geometry.specs.declared.edge_segment.EdgeSegment.{EdgeSegment}
+use Rattle.geometry.specs.EdgeSegment.{toStored}
+use Rattle.coloring.specs.Places.{concat}
+use Rattle.coloring.specs.Outline.{over}
+use Rattle.job.specs.declared.records.Kind.{Kind}
+use Rattle.job.specs.declared.records.Kind.the-variants.{Line, Quadratic, Cubic}
+use Rattle.job.specs.declared.records.State.{State}
+use Rattle.job.specs.declared.records.Item.{Item}
+use Rattle.job.specs.declared.records.Item.the-variants.{Header, Contour, Edge, Distances}
+use Rattle.job.specs.Patterns.{words, floats}
+use Rattle.job.specs.Records.{controls, edgeOf}
+use Rattle.job.specs.declared.progress.Numbers.{Numbers}
+use Rattle.job.specs.Job.{Job}
+
+-- contour lengths, the kind of each edge, eight point places an edge (document 01's outline tray), and the distances
+pub record Buffers : Type 0 where
+  pub lengths : List ℕ
+  pub kinds : List ℕ
+  pub points : List Float
+  pub distances : List Float
+
+abbrev pub kindsOf : List EdgeSegment → List ℕ
+kindsOf edges = map (λ (e : EdgeSegment). toStored e .kind) edges
+
+-- unused places are +0
+abbrev pub placesOf : List EdgeSegment → List Float
+placesOf edges = concat (map (λ (e : EdgeSegment). toStored e .points) edges)
+
+-- a job as it is stored
+unfoldable pub stored : Job → Buffers
+stored job = record {
+  lengths = map (λ (contour : List EdgeSegment). length contour) (job .contours);
+  kinds = kindsOf (concat (job .contours));
+  points = placesOf (concat (job .contours));
+  distances = job .distances;
+}
+
+-- each result written over what stood there
+unfoldable pub overEach : Buffers → Buffers → Buffers
+overEach written old = record {
+  lengths = over (written .lengths) (old .lengths);
+  kinds = over (written .kinds) (old .kinds);
+  points = over (written .points) (old .points);
+  distances = over (written .distances) (old .distances);
+}
+
+-- whether a job has room in buffers of these lengths, and in buffers
+unfoldable pub roomFor : Numbers → ℕ → ℕ → ℕ → ℕ → Bool
+roomFor n lengths kinds points distances = leb (n .contours) lengths && leb (n .edges) kinds && leb (8 * n .edges) points && leb (n .distances) distances
+
+abbrev pub hasRoom : Numbers → Buffers → Bool
+hasRoom n old = roomFor n (length (old .lengths)) (length (old .kinds)) (length (old .points)) (length (old .distances))
+
+-- ---- in the words of contracts
+
+abbrev pub buffers : List ℕ → List ℕ → List Float → List Float → Buffers
+buffers lengths kinds points distances = record { lengths = lengths; kinds = kinds; points = points; distances = distances }
+
+-- four buffers are these
+pub record Hold (b : Buffers) (lengths kinds : List ℕ) (points distances : List Float) : Type 0 where
+  pub lengths-are : lengths ≡ b .lengths
+  pub kinds-are : kinds ≡ b .kinds
+  pub points-are : points ≡ b .points
+  pub distances-are : distances ≡ b .distances
+
+abbrev pub kindNumber : Kind → ℕ
+kindNumber Line = 1
+kindNumber Quadratic = 2
+kindNumber Cubic = 3
+
+-- the eight places of an edge of a kind, from its bytes
+unfoldable pub placesFrom : Kind → List ℕ → List Float
+placesFrom kind body = toStored (edgeOf kind (floats (words (2 * controls kind) body))) .points
+
+-- the buffers after a record that was read in a state from some bytes
+unfoldable pub written : Item → State → List ℕ → Buffers → Buffers
+unfolding placesFrom
+written (Header h) s bytes b = b
+written Contour s bytes b = record { lengths = set (b .lengths) (s .contours) 0; kinds = b .kinds; points = b .points; distances = b .distances }
+written (Edge kind) s bytes b = record {
+  lengths = set (b .lengths) (s .contours - 1) (getD (b .lengths) (s .contours - 1) 0 + 1);
+  kinds = set (b .kinds) (s .edges) (kindNumber kind);
+  points = take (8 * s .edges) (b .points) ++ (placesFrom kind (take (16 * controls kind) (drop 2 bytes)) ++ drop 8 (drop (8 * s .edges) (b .points)));
+  distances = b .distances;
+}
+written (Distances count) s bytes b = record { lengths = b .lengths; kinds = b .kinds; points = b .points; distances = over (floats (words count (drop 4 bytes))) (b .distances) }
+
+-- there is room for a record
+abbrev pub Room : Item → State → List ℕ → Buffers → Type 0
+Room (Header h) s bytes b = Unit
+Room Contour s bytes b = s .contours < length (b .lengths)
+Room (Edge kind) s bytes b =
+    (0 < s .contours) × (s .contours ≤ length (b .lengths)) × (getD (b .lengths) (s .contours - 1) 0 < 65535)
+    × (s .edges < length (b .kinds)) × (8 * suc (s .edges) ≤ length (b .points)) × (2 + 16 * controls kind ≤ length bytes)
+Room (Distances count) s bytes b = (count ≤ length (b .distances)) × (4 + 8 * count ≤ length bytes)

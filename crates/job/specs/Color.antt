@@ -1,0 +1,87 @@
+-- What colouring a job gives, and reading and colouring a file in one (document 01, "What the desk says back": after reading, splines 4, 8, 11).
+use Prim.Native.Nat.{ℕ, _≤_}
+use mathlib.Core.Bool.{Bool, true, false, cond}
+use mathlib.Core.List.{List, map}
+use lib.Dec.{eqb}
+use lib.Ieee.{Float}
+use lib.ListN.{length}
+use Rattle.coloring.specs.declared.outline.Checked.{Checked}
+use Rattle.coloring.specs.declared.outline.Checked.the-variants.{Passed, Failed}
+use Rattle.coloring.specs.declared.outline.Colored.the-variants.{Refused}
+use Rattle.coloring.specs.declared.settings.Strategy.the-variants.{Simple, InkTrap}
+use Rattle.coloring.specs.declared.settings.Marking.the-variants.{Colors, Numbers}
+use Rattle.coloring.specs.Corners.{Cornered, searchCorners}
+use Rattle.coloring.specs.Splines.{splineTotal}
+use Rattle.coloring.specs.SplineColors.{colorSplines}
+use Rattle.coloring.specs.Outline.{Outline, Result, Outcome, deliver}
+use Rattle.coloring.specs.Shape.{painted, countsOf}
+use Rattle.coloring.specs.EdgeColoring.{edgeColoringSimple, edgeColoringInkTrap}
+use Rattle.coloring.specs.ByDistance.{maxSplines, checkSplines, checkDistances, splineColor, splineByte, withBytes, edgeColoringByDistance}
+use Rattle.job.specs.Job.{Job, Reading, reads, refuses, readJob}
+use Rattle.job.specs.Buffers.{Buffers}
+
+-- ---- a job
+
+-- 1 simple, 2 ink trap, 3 by distance
+abbrev pub byStrategy : {A : Type 0} → ℕ → A → A → A → A
+byStrategy strategy simple inkTrap distance = cond (eqb strategy 1) simple (cond (eqb strategy 2) inkTrap distance)
+
+-- its contours with their corners
+unfoldable pub foundIn : Job → List Cornered
+unfolding searchCorners
+foundIn job = map (searchCorners (job .threshold)) (job .contours)
+
+-- what is left to check of a job that was read, for strategy 3 only: splines 4, then the distances
+unfoldable pub checkJob : Job → Checked
+unfolding foundIn splineTotal maxSplines
+checkJob job =
+    let splines = splineTotal (foundIn job) in
+    byStrategy (job .strategy) Passed Passed (checkSplines splines (checkDistances splines (job .distances)))
+
+-- its coloured shape
+unfoldable pub colored : Job → Result
+unfolding foundIn splineTotal painted splineColor
+colored job =
+    let found = foundIn job in
+    let coloring = colorSplines (splineTotal found) (job .distances) (job .seed) in
+    byStrategy (job .strategy)
+    (painted (Colors Simple (job .seed)) found)
+    (painted (Colors InkTrap (job .seed)) found)
+    (withBytes (splineByte coloring) (painted Numbers found))
+
+-- answer and buffers: a refusal of the checks; 11 where the result would not fit; or the coloured shape
+unfoldable pub colorJob : Job → Result → Outcome
+unfolding foundIn checkJob colored countsOf deliver
+colorJob job old = deliver (checkJob job) (countsOf (foundIn job) (colored job)) (colored job) old
+
+-- ---- a file
+
+unfoldable pub colorReading : Reading → Result → Outcome
+unfolding colorJob
+colorReading (reads job) old = colorJob job old
+colorReading (refuses refusal) old = record { answer = Refused refusal; buffers = old }
+
+unfoldable pub colorFile : List ℕ → Result → Outcome
+unfolding readJob colorReading
+colorFile file = colorReading (readJob file)
+
+-- ---- in the words of contracts
+
+abbrev pub outlineOf : Buffers → Outline
+outlineOf b = record { lengths = b .lengths; kinds = b .kinds; points = b .points }
+
+-- the colouring of buffers by a strategy
+unfoldable pub colorStored : ℕ → ℕ → Float → Buffers → Result → Outcome
+unfolding edgeColoringByDistance
+colorStored strategy seed threshold b old =
+    byStrategy strategy
+    (edgeColoringSimple (outlineOf b) threshold seed old)
+    (edgeColoringInkTrap (outlineOf b) threshold seed old)
+    (edgeColoringByDistance (outlineOf b) threshold seed (b .distances) old)
+
+-- four buffers that hold every job
+pub record HoldsJobs (b : Buffers) : Type 0 where
+  pub lengths-fit : 64 ≤ length (b .lengths)
+  pub kinds-fit : 256 ≤ length (b .kinds)
+  pub points-fit : 2048 ≤ length (b .points)
+  pub distances-fit : 2016 ≤ length (b .distances)

@@ -1,0 +1,229 @@
+-- The reader's examples, computed from the definitions: files of document 01, and the order of its numbers.
+use Prim.Native.Nat.{ℕ}
+use mathlib.Core.Path.{_≡_, refl}
+use mathlib.Core.Bool.{false}
+use mathlib.Core.List.{List, [], _∷_, _++_}
+use lib.IntN.{negsuc}
+use lib.Ieee.{fin, ofBits}
+use Rattle.math.specs.Scalar.{f0, f1}
+use Rattle.math.specs.Vector2.{new}
+use Rattle.geometry.specs.declared.edge_segment.EdgeSegment.the-variants.{Line}
+use Rattle.coloring.specs.declared.refusal.Refusal.the-variants.{Truncated, UnknownMark, MisplacedMark, TooMany, UnknownKind, BadThreshold, BadCoordinate, BadDistance, ResultTooShort}
+use Rattle.job.specs.declared.records.Phase.the-variants.{Inside, Closing}
+use Rattle.job.specs.declared.records.State.{State}
+use Rattle.job.specs.Records.{fails, start, readRecord}
+use Rattle.job.specs.Job.{Job, reads, refuses, readJob}
+use Rattle.job.specs.Part.{contourPart}
+use Rattle.job.specs.Listing.{decimal, listing, refusalLine}
+
+-- ---- files in bytes
+
+-- eight bytes of 0, of 1, of 0.125 and of a NaN
+abbrev zeros : List ℕ
+zeros = 0 ∷ 0 ∷ 0 ∷ 0 ∷ 0 ∷ 0 ∷ 0 ∷ 0 ∷ []
+
+abbrev one : List ℕ
+one = 0 ∷ 0 ∷ 0 ∷ 0 ∷ 0 ∷ 0 ∷ 0xF0 ∷ 0x3F ∷ []
+
+abbrev eighth : List ℕ
+eighth = 0 ∷ 0 ∷ 0 ∷ 0 ∷ 0 ∷ 0 ∷ 0xC0 ∷ 0x3F ∷ []
+
+abbrev noNumber : List ℕ
+noNumber = 0 ∷ 0 ∷ 0 ∷ 0 ∷ 0 ∷ 0 ∷ 0xF8 ∷ 0x7F ∷ []
+
+-- the marks before what follows them
+abbrev JB : List ℕ → List ℕ
+JB rest = 0x4A ∷ 0x42 ∷ rest
+
+abbrev CT : List ℕ → List ℕ
+CT rest = 0x43 ∷ 0x54 ∷ rest
+
+abbrev LN : List ℕ → List ℕ
+LN rest = 0x4C ∷ 0x4E ∷ rest
+
+abbrev DS : List ℕ → List ℕ
+DS rest = 0x44 ∷ 0x53 ∷ rest
+
+abbrev EN : List ℕ → List ℕ
+EN rest = 0x45 ∷ 0x4E ∷ rest
+
+-- JB with a strategy, seed 0 and threshold 0.125
+abbrev opening : ℕ → List ℕ → List ℕ
+opening strategy rest = JB (strategy ∷ zeros ++ eighth ++ rest)
+
+-- LN from (x0, y0) to (x1, y1)
+abbrev line : List ℕ → List ℕ → List ℕ → List ℕ → List ℕ → List ℕ
+line x0 y0 x1 y1 rest = LN (x0 ++ y0 ++ x1 ++ y1 ++ rest)
+
+-- ---- what they read as
+
+-- the square (0,0) (1,0) (1,1) (0,1) of lines, strategy 1, seed 0, threshold 0.125
+abbrev pub squareFile : List ℕ
+squareFile = opening 1 (CT (line zeros zeros one zeros (line one zeros one one (line one one zeros one (line zeros one zeros zeros (EN []))))))
+
+abbrev pub squareJob : Job
+squareJob = record {
+  strategy = 1;
+  seed = 0;
+  threshold = fin false 1 (negsuc 2);
+  contours = (Line (new f0 f0) (new f1 f0) ∷ Line (new f1 f0) (new f1 f1) ∷ Line (new f1 f1) (new f0 f1) ∷ Line (new f0 f1) (new f0 f0) ∷ []) ∷ [];
+  distances = [];
+}
+
+pub square : readJob squareFile ≡ reads squareJob
+unfolding readJob ofBits
+square = refl
+
+-- a job without contours
+pub no-contours : readJob (opening 1 (EN [])) ≡ reads (record { strategy = 1; seed = 0; threshold = fin false 1 (negsuc 2); contours = []; distances = [] })
+unfolding readJob ofBits
+no-contours = refl
+
+-- the same by distance: DS stands there with the count 0
+pub no-pairs : readJob (opening 3 (DS (0 ∷ 0 ∷ EN []))) ≡ reads (record { strategy = 3; seed = 0; threshold = fin false 1 (negsuc 2); contours = []; distances = [] })
+unfolding readJob ofBits
+no-pairs = refl
+
+-- two contours, the first empty; an edge goes to the last
+pub empty-contour : readJob (opening 2 (CT (CT (line zeros zeros one one (EN []))))) ≡ reads (record { strategy = 2; seed = 0; threshold = fin false 1 (negsuc 2); contours = [] ∷ (Line (new f0 f0) (new f1 f1) ∷ []) ∷ []; distances = [] })
+unfolding readJob ofBits
+empty-contour = refl
+
+-- 0 bytes; a file that ends before EN
+pub no-bytes : readJob [] ≡ refuses Truncated
+unfolding readJob
+no-bytes = refl
+
+pub no-end : readJob (opening 1 (CT [])) ≡ refuses Truncated
+unfolding readJob ofBits
+no-end = refl
+
+-- ---- the order of the numbers: each file has both faults of its name, and is refused with the first
+
+-- the earliest record with a fault decides
+pub threshold-before-next-mark : readJob (JB (1 ∷ zeros ++ noNumber ++ 0x3F ∷ 0x3F ∷ [])) ≡ refuses BadThreshold
+unfolding readJob
+threshold-before-next-mark = refl
+
+pub cut-mark-before-unknown : readJob (0x3F ∷ []) ≡ refuses Truncated
+unfolding readJob
+cut-mark-before-unknown = refl
+
+pub unknown-before-misplaced : readJob (0x3F ∷ 0x3F ∷ []) ≡ refuses UnknownMark
+unfolding readJob
+unknown-before-misplaced = refl
+
+-- a record at a place of its own: the places with 64 contours and with 256 edges
+abbrev fullOfContours : State
+fullOfContours = record { phase = Inside; strategy = 1; contours = 64; edges = 0 }
+
+abbrev fullOfEdges : State
+fullOfEdges = record { phase = Inside; strategy = 1; contours = 1; edges = 256 }
+
+abbrev closed : State
+closed = record { phase = Closing; strategy = 3; contours = 64; edges = 256 }
+
+pub misplaced-before-too-many : (readRecord closed (CT []) ≡ fails MisplacedMark) × (readRecord closed (LN []) ≡ fails MisplacedMark)
+unfolding readRecord
+misplaced-before-too-many = (refl, refl)
+
+pub too-many-contours : readRecord fullOfContours (CT []) ≡ fails TooMany
+unfolding readRecord
+too-many-contours = refl
+
+pub too-many-edges-before-cut : readRecord fullOfEdges (LN []) ≡ fails TooMany
+unfolding readRecord
+too-many-edges-before-cut = refl
+
+pub misplaced-before-cut : (readRecord start (CT []) ≡ fails MisplacedMark) × (readRecord fullOfContours (JB []) ≡ fails MisplacedMark)
+unfolding readRecord
+misplaced-before-cut = (refl, refl)
+
+pub cut-before-strategy : readRecord start (JB (0 ∷ [])) ≡ fails Truncated
+unfolding readRecord
+cut-before-strategy = refl
+
+pub strategy-before-threshold : readRecord start (JB (4 ∷ zeros ++ noNumber)) ≡ fails UnknownKind
+unfolding readRecord
+strategy-before-threshold = refl
+
+pub cut-before-coordinate : readRecord fullOfContours (LN (noNumber ++ zeros)) ≡ fails Truncated
+unfolding readRecord
+cut-before-coordinate = refl
+
+pub coordinate : readRecord fullOfContours (line zeros zeros noNumber zeros []) ≡ fails BadCoordinate
+unfolding readRecord
+coordinate = refl
+
+-- ---- DS
+
+abbrev due : State
+due = record { phase = Inside; strategy = 3; contours = 1; edges = 3 }
+
+pub misplaced-before-count : readRecord fullOfContours (DS []) ≡ fails MisplacedMark
+unfolding readRecord
+misplaced-before-count = refl
+
+pub count-cut-before-too-many : readRecord due (DS (0xFF ∷ [])) ≡ fails Truncated
+unfolding readRecord
+count-cut-before-too-many = refl
+
+-- 2,017 and no distances
+pub too-many-before-distances-cut : readRecord due (DS (0xE1 ∷ 0x07 ∷ [])) ≡ fails TooMany
+unfolding readRecord
+too-many-before-distances-cut = refl
+
+-- the first of two distances is no number, the second is cut
+pub distances-cut-before-bad : readRecord due (DS (2 ∷ 0 ∷ noNumber)) ≡ fails Truncated
+unfolding readRecord
+distances-cut-before-bad = refl
+
+pub bad-distance : readRecord due (DS (1 ∷ 0 ∷ noNumber)) ≡ fails BadDistance
+unfolding readRecord
+bad-distance = refl
+
+-- ---- EN
+
+pub end-while-distances-due : readRecord due (EN []) ≡ fails MisplacedMark
+unfolding readRecord
+end-while-distances-due = refl
+
+pub byte-after-end : readRecord closed (EN (0 ∷ [])) ≡ fails MisplacedMark
+unfolding readRecord
+byte-after-end = refl
+
+-- ---- the part of one contour
+
+pub square-part : contourPart squareFile 0 ≡ CT (line zeros zeros one zeros (line one zeros one one (line one one zeros one (line zeros one zeros zeros []))))
+unfolding contourPart ofBits
+square-part = refl
+
+-- too large a number; a refused file
+pub no-part : (contourPart squareFile 1 ≡ []) × (contourPart (opening 1 (CT [])) 0 ≡ [])
+unfolding contourPart ofBits
+no-part = (refl, refl)
+
+-- ---- the text of an answer
+
+-- the square's listing, as document 01 has it whole
+pub square-listing : listing (4 ∷ []) (1 ∷ 1 ∷ 1 ∷ 1 ∷ []) (5 ∷ 3 ∷ 6 ∷ 3 ∷ []) ≡ (
+    0x30 ∷ 0x20 ∷ 0x30 ∷ 0x20 ∷ 0x4C ∷ 0x20 ∷ 0x35 ∷ 0x0A
+    ∷ 0x30 ∷ 0x20 ∷ 0x31 ∷ 0x20 ∷ 0x4C ∷ 0x20 ∷ 0x33 ∷ 0x0A
+    ∷ 0x30 ∷ 0x20 ∷ 0x32 ∷ 0x20 ∷ 0x4C ∷ 0x20 ∷ 0x36 ∷ 0x0A
+    ∷ 0x30 ∷ 0x20 ∷ 0x33 ∷ 0x20 ∷ 0x4C ∷ 0x20 ∷ 0x33 ∷ 0x0A
+    ∷ 0x65 ∷ 0x64 ∷ 0x67 ∷ 0x65 ∷ 0x73 ∷ 0x20 ∷ 0x34 ∷ 0x0A ∷ [])
+unfolding listing
+square-listing = refl
+
+pub no-edges : listing [] [] [] ≡ (0x65 ∷ 0x64 ∷ 0x67 ∷ 0x65 ∷ 0x73 ∷ 0x20 ∷ 0x30 ∷ 0x0A ∷ [])
+unfolding listing
+no-edges = refl
+
+-- a number of two digits and one of three
+pub decimals : (decimal 63 ≡ (0x36 ∷ 0x33 ∷ [])) × (decimal 508 ≡ (0x35 ∷ 0x30 ∷ 0x38 ∷ []))
+unfolding decimal
+decimals = (refl, refl)
+
+pub refused-11 : refusalLine ResultTooShort ≡ (0x72 ∷ 0x65 ∷ 0x66 ∷ 0x75 ∷ 0x73 ∷ 0x65 ∷ 0x64 ∷ 0x20 ∷ 0x31 ∷ 0x31 ∷ 0x0A ∷ [])
+unfolding refusalLine
+refused-11 = refl

@@ -1,0 +1,140 @@
+// Reading and colouring in one: a file, and four buffers that its coloured shape goes to.
+use crate::patterns;
+use crate::progress::Read;
+use crate::reader;
+use coloring::by_distance::edge_coloring_by_distance;
+use coloring::edge_coloring::edge_coloring_ink_trap;
+use coloring::edge_coloring::edge_coloring_simple;
+use coloring::outline::Colored;
+ghost use mathlib.Core.Path.{_≡_};
+ghost use Rattle.coloring.specs.Outline.{result, outcome};
+ghost use Rattle.job.specs.Buffers.{buffers};
+ghost use Rattle.job.specs.Color.{colorStored, colorFile, HoldsJobs};
+
+// The colouring of an outline by a strategy.
+fn color_stored(
+    strategy: u8,
+    seed: u64,
+    threshold: f64,
+    lengths: &[u16],
+    kinds: &[u8],
+    points: &[f64],
+    distances: &[f64],
+    out_lengths: &mut [u16],
+    out_kinds: &mut [u8],
+    out_points: &mut [f64],
+    out_colors: &mut [u8],
+) -> Colored
+    ensures { λ r. ⌜ outcome r (result (now («out_lengths» .exit)) (now («out_kinds» .exit)) (now («out_points» .exit)) (now («out_colors» .exit))) ≡
+        colorStored strategy seed threshold (buffers (now (lengths .entry)) (now (kinds .entry)) (now (points .entry)) (now (distances .entry)))
+        (result (now («out_lengths» .entry)) (now («out_kinds» .entry)) (now («out_points» .entry)) (now («out_colors» .entry))) ⌝ }
+{
+    if strategy == 1 {
+        return edge_coloring_simple(
+            lengths,
+            kinds,
+            points,
+            threshold,
+            seed,
+            out_lengths,
+            out_kinds,
+            out_points,
+            out_colors,
+        );
+    }
+    if strategy == 2 {
+        return edge_coloring_ink_trap(
+            lengths,
+            kinds,
+            points,
+            threshold,
+            seed,
+            out_lengths,
+            out_kinds,
+            out_points,
+            out_colors,
+        );
+    }
+    edge_coloring_by_distance(
+        lengths,
+        kinds,
+        points,
+        threshold,
+        seed,
+        distances,
+        out_lengths,
+        out_kinds,
+        out_points,
+        out_colors,
+    )
+}
+
+// The same for a file, with places for a job.
+fn color_in(
+    file: &[u8],
+    lengths: &mut [u16],
+    kinds: &mut [u8],
+    points: &mut [f64],
+    distances: &mut [f64],
+    out_lengths: &mut [u16],
+    out_kinds: &mut [u8],
+    out_points: &mut [f64],
+    out_colors: &mut [u8],
+) -> Colored
+    requires { ⌜ HoldsJobs (buffers (now lengths) (now kinds) (now points) (now distances)) ⌝ }
+    ensures { λ r. ⌜ outcome r (result (now («out_lengths» .exit)) (now («out_kinds» .exit)) (now («out_points» .exit)) (now («out_colors» .exit))) ≡
+        colorFile (now (file .entry)) (result (now («out_lengths» .entry)) (now («out_kinds» .entry)) (now («out_points» .entry)) (now («out_colors» .entry))) ⌝ }
+{
+    match reader::read(file, lengths, kinds, points, distances) {
+        Read::Job(n) => {
+            let contours = n.contours;
+            let edges = n.edges;
+            let places = 8 * edges;
+            let count = n.distances;
+            let threshold = patterns::float(n.threshold);
+            color_stored(
+                n.strategy,
+                n.seed,
+                threshold,
+                &lengths[..contours],
+                &kinds[..edges],
+                &points[..places],
+                &distances[..count],
+                out_lengths,
+                out_kinds,
+                out_points,
+                out_colors,
+            )
+        }
+        Read::Refused(refusal) => Colored::Refused(refusal),
+    }
+}
+
+// Reads a file and colours its job by its strategy: how many edges, and the coloured shape in the buffers; or the first refusal, 11 where a
+// buffer is too short. A refusal leaves every buffer as it came, and places beyond the result keep theirs.
+pub fn color(
+    file: &[u8],
+    out_lengths: &mut [u16],
+    out_kinds: &mut [u8],
+    out_points: &mut [f64],
+    out_colors: &mut [u8],
+) -> Colored
+    ensures { λ r. ⌜ outcome r (result (now («out_lengths» .exit)) (now («out_kinds» .exit)) (now («out_points» .exit)) (now («out_colors» .exit))) ≡
+        colorFile (now (file .entry)) (result (now («out_lengths» .entry)) (now («out_kinds» .entry)) (now («out_points» .entry)) (now («out_colors» .entry))) ⌝ }
+{
+    let mut lengths = [0u16; 64];
+    let mut kinds = [0u8; 256];
+    let mut points = [0.0f64; 2048];
+    let mut distances = [0.0f64; 2016];
+    color_in(
+        file,
+        &mut lengths,
+        &mut kinds,
+        &mut points,
+        &mut distances,
+        out_lengths,
+        out_kinds,
+        out_points,
+        out_colors,
+    )
+}

@@ -1,0 +1,140 @@
+// The text of an answer, written into a byte buffer. Each function gives the place after what it wrote.
+use coloring::refusal::Refusal;
+ghost use mathlib.Core.Path.{_≡_};
+ghost use mathlib.Core.List.{[], _∷_};
+ghost use Prim.Native.Nat.{_+_, _≤_, _<_};
+ghost use lib.ListN.{length};
+ghost use Rattle.coloring.specs.Places.{total};
+ghost use Rattle.job.specs.Listing.{digit, decimal, letter, field, line, contourLines, shapeLines, listing, refusalLine, Pasted};
+
+fn put(out: &mut [u8], at: usize, byte: u8) -> usize
+    requires { ⌜ at < length (now out) ⌝ }
+    ensures { λ r. ⌜ Pasted (byte ∷ []) at (now (out .entry)) r (now (out .exit)) ⌝ }
+{
+    out[at] = byte;
+    at + 1
+}
+
+fn digit(n: usize) -> u8
+    requires { ⌜ n < 10 ⌝ }
+    ensures { λ r. ⌜ r ≡ digit n ⌝ }
+{
+    48 + n as u8
+}
+
+// A number of up to three digits.
+fn put_decimal(out: &mut [u8], at: usize, n: usize) -> usize
+    requires { ⌜ (n < 1000) × (at + length (decimal n) ≤ length (now out)) ⌝ }
+    ensures { λ r. ⌜ Pasted (decimal n) at (now (out .entry)) r (now (out .exit)) ⌝ }
+{
+    if n < 10 {
+        return put(out, at, digit(n));
+    }
+    if n < 100 {
+        let second = put(out, at, digit(n / 10));
+        return put(out, second, digit(n % 10));
+    }
+    let second = put(out, at, digit(n / 10 / 10));
+    let third = put(out, second, digit(n / 10 % 10));
+    put(out, third, digit(n % 10))
+}
+
+// L, Q or C.
+fn letter(kind: u8) -> u8
+    ensures { λ r. ⌜ r ≡ letter kind ⌝ }
+{
+    match kind {
+        0 => b'?',
+        1 => b'L',
+        2 => b'Q',
+        _ => b'C',
+    }
+}
+
+// A number and the byte after it.
+fn put_field(out: &mut [u8], at: usize, n: usize, byte: u8) -> usize
+    requires { ⌜ (n < 1000) × (at + length (field n byte) ≤ length (now out)) ⌝ }
+    ensures { λ r. ⌜ Pasted (field n byte) at (now (out .entry)) r (now (out .exit)) ⌝ }
+{
+    let next = put_decimal(out, at, n);
+    put(out, next, byte)
+}
+
+fn put_line(out: &mut [u8], at: usize, contour: usize, place: usize, kind: u8, color: u8) -> usize
+    requires { ⌜ (contour < 1000) × (place < 1000) × (at + length (line contour place kind color) ≤ length (now out)) ⌝ }
+    ensures { λ r. ⌜ Pasted (line contour place kind color) at (now (out .entry)) r (now (out .exit)) ⌝ }
+{
+    let second = put_field(out, at, contour, b' ');
+    let third = put_field(out, second, place, b' ');
+    let fourth = put(out, third, letter(kind));
+    let fifth = put(out, fourth, b' ');
+    put_field(out, fifth, color as usize, b'\n')
+}
+
+// The lines of a contour.
+fn put_contour(out: &mut [u8], at: usize, contour: usize, kinds: &[u8], colors: &[u8]) -> usize
+    requires { ⌜ (contour < 1000) × (length (now kinds) < 1000) × (length (now colors) ≡ length (now kinds)) ⌝ }
+    requires { ⌜ at + length (contourLines contour 0 (now kinds) (now colors)) ≤ length (now out) ⌝ }
+    ensures { λ r. ⌜ Pasted (contourLines contour 0 (now (kinds .entry)) (now (colors .entry))) at (now (out .entry)) r (now (out .exit)) ⌝ }
+{
+    let mut next = at;
+    let mut i = 0;
+    while i < kinds.len() {
+        next = put_line(out, next, contour, i, kinds[i], colors[i]);
+        i += 1;
+    }
+    next
+}
+
+// The lines of all contours, whose edges stand one after another.
+fn put_shape(out: &mut [u8], at: usize, lengths: &[u16], kinds: &[u8], colors: &[u8]) -> usize
+    requires { ⌜ (length (now lengths) < 1000) × (length (now kinds) < 1000)
+        × (total (now lengths) ≡ length (now kinds)) × (length (now colors) ≡ length (now kinds)) ⌝ }
+    requires { ⌜ at + length (shapeLines 0 (now lengths) (now kinds) (now colors)) ≤ length (now out) ⌝ }
+    ensures { λ r. ⌜ Pasted (shapeLines 0 (now (lengths .entry)) (now (kinds .entry)) (now (colors .entry))) at (now (out .entry)) r (now (out .exit)) ⌝ }
+{
+    let mut next = at;
+    let mut from = 0;
+    let mut contour = 0;
+    while contour < lengths.len() {
+        let end = from + lengths[contour] as usize;
+        next = put_contour(out, next, contour, &kinds[from..end], &colors[from..end]);
+        from = end;
+        contour += 1;
+    }
+    next
+}
+
+fn put_word(out: &mut [u8], at: usize, word: &[u8]) -> usize
+    requires { ⌜ at + length (now word) ≤ length (now out) ⌝ }
+    ensures { λ r. ⌜ Pasted (now (word .entry)) at (now (out .entry)) r (now (out .exit)) ⌝ }
+{
+    let mut next = at;
+    let mut i = 0;
+    while i < word.len() {
+        next = put(out, next, word[i]);
+        i += 1;
+    }
+    next
+}
+
+// The text of a coloured shape, from the start of the buffer; how many bytes.
+pub(crate) fn write_listing(lengths: &[u16], kinds: &[u8], colors: &[u8], out: &mut [u8]) -> usize
+    requires { ⌜ (length (now lengths) < 1000) × (length (now kinds) < 1000)
+        × (total (now lengths) ≡ length (now kinds)) × (length (now colors) ≡ length (now kinds)) ⌝ }
+    requires { ⌜ length (listing (now lengths) (now kinds) (now colors)) ≤ length (now out) ⌝ }
+    ensures { λ r. ⌜ Pasted (listing (now (lengths .entry)) (now (kinds .entry)) (now (colors .entry))) 0 (now (out .entry)) r (now (out .exit)) ⌝ }
+{
+    let lines = put_shape(out, 0, lengths, kinds, colors);
+    let word = put_word(out, lines, b"edges ");
+    put_field(out, word, kinds.len(), b'\n')
+}
+
+// The text of a refusal, from the start of the buffer; how many bytes.
+pub(crate) fn write_refusal(refusal: Refusal, out: &mut [u8]) -> usize
+    requires { ⌜ length (refusalLine refusal) ≤ length (now out) ⌝ }
+    ensures { λ r. ⌜ Pasted (refusalLine refusal) 0 (now (out .entry)) r (now (out .exit)) ⌝ }
+{
+    let word = put_word(out, 0, b"refused ");
+    put_field(out, word, refusal.number() as usize, b'\n')
+}

@@ -1,0 +1,320 @@
+// The records of a job file, one after another: a mark of two letters, then its fields (document 01, "Trays and the job file").
+use crate::patterns;
+use crate::patterns::Range;
+use coloring::refusal::Refusal;
+ghost use mathlib.Core.Path.{_≡_};
+ghost use mathlib.Core.List.{[]};
+ghost use lib.ListN.{length};
+ghost use Rattle.job.specs.declared.records.Mark.the-variants.{Edge};
+ghost use Rattle.job.specs.declared.records.Marked.the-variants.{Known};
+ghost use Rattle.job.specs.Records.{markOf, controls, bodySize, atStart, inside, among, closing, allowed, fits, readHeader, readEdge, readDistances, readEnd, readBody, readMarked, readRecord, foundOf};
+
+pub enum Kind {
+    Line,
+    Quadratic,
+    Cubic,
+}
+
+pub enum Mark {
+    // JB
+    Header,
+    // CT
+    Contour,
+    // LN, QD, CB
+    Edge(Kind),
+    // DS
+    Distances,
+    // EN
+    End,
+}
+
+// What two letters are the mark of.
+pub enum Marked {
+    Known(Mark),
+    Unknown,
+}
+
+// Where in a file a record stands.
+pub enum Phase {
+    // before JB
+    Start,
+    // after JB, no contour yet
+    Outside,
+    // in a contour
+    Inside,
+    // after DS
+    Closing,
+}
+
+// What is allowed next follows from this.
+pub struct State {
+    pub phase: Phase,
+    pub strategy: u8,
+    pub contours: usize,
+    pub edges: usize,
+}
+
+// The fields of JB, the threshold as its bit pattern.
+pub struct Header {
+    pub strategy: u8,
+    pub seed: u64,
+    pub threshold: u64,
+}
+
+// A record without its floats: of an edge its kind, of DS how many distances.
+pub enum Item {
+    Header(Header),
+    Contour,
+    Edge(Kind),
+    Distances(usize),
+}
+
+// What the first record of some bytes is.
+pub enum Found {
+    Item(Item),
+    End,
+    Fails(Refusal),
+}
+
+pub(crate) fn mark_of(a: u8, b: u8) -> Marked
+    ensures { λ r. ⌜ r ≡ markOf a b ⌝ }
+{
+    if a == b'J' {
+        if b == b'B' {
+            return Marked::Known(Mark::Header);
+        }
+        return Marked::Unknown;
+    }
+    if a == b'C' {
+        if b == b'T' {
+            return Marked::Known(Mark::Contour);
+        }
+        if b == b'B' {
+            return Marked::Known(Mark::Edge(Kind::Cubic));
+        }
+        return Marked::Unknown;
+    }
+    if a == b'L' {
+        if b == b'N' {
+            return Marked::Known(Mark::Edge(Kind::Line));
+        }
+        return Marked::Unknown;
+    }
+    if a == b'Q' {
+        if b == b'D' {
+            return Marked::Known(Mark::Edge(Kind::Quadratic));
+        }
+        return Marked::Unknown;
+    }
+    if a == b'D' {
+        if b == b'S' {
+            return Marked::Known(Mark::Distances);
+        }
+        return Marked::Unknown;
+    }
+    if a == b'E' {
+        if b == b'N' {
+            return Marked::Known(Mark::End);
+        }
+        return Marked::Unknown;
+    }
+    Marked::Unknown
+}
+
+// The control points of an edge.
+pub(crate) fn controls(kind: Kind) -> usize
+    ensures { λ r. ⌜ r ≡ controls kind ⌝ }
+{
+    match kind {
+        Kind::Line => 2,
+        Kind::Quadratic => 3,
+        Kind::Cubic => 4,
+    }
+}
+
+// How many bytes follow a mark; of DS, the count's.
+fn body_size(mark: Mark) -> usize
+    ensures { λ r. ⌜ r ≡ bodySize mark ⌝ }
+{
+    match mark {
+        Mark::Header => 17,
+        Mark::Contour => 0,
+        Mark::Edge(kind) => 16 * controls(kind),
+        Mark::Distances => 2,
+        Mark::End => 0,
+    }
+}
+
+fn at_start(phase: Phase) -> bool
+    ensures { λ r. ⌜ r ≡ atStart phase ⌝ }
+{
+    match phase {
+        Phase::Start => true,
+        Phase::Outside => false,
+        Phase::Inside => false,
+        Phase::Closing => false,
+    }
+}
+
+fn inside(phase: Phase) -> bool
+    ensures { λ r. ⌜ r ≡ inside phase ⌝ }
+{
+    match phase {
+        Phase::Start => false,
+        Phase::Outside => false,
+        Phase::Inside => true,
+        Phase::Closing => false,
+    }
+}
+
+// Among the contours: after JB, before DS.
+fn among(phase: Phase) -> bool
+    ensures { λ r. ⌜ r ≡ among phase ⌝ }
+{
+    match phase {
+        Phase::Start => false,
+        Phase::Outside => true,
+        Phase::Inside => true,
+        Phase::Closing => false,
+    }
+}
+
+fn closing(phase: Phase) -> bool
+    ensures { λ r. ⌜ r ≡ closing phase ⌝ }
+{
+    match phase {
+        Phase::Start => false,
+        Phase::Outside => false,
+        Phase::Inside => false,
+        Phase::Closing => true,
+    }
+}
+
+// Whether a mark may stand there.
+fn allowed(s: State, mark: Mark) -> bool
+    ensures { λ r. ⌜ r ≡ allowed s mark ⌝ }
+{
+    let phase = s.phase;
+    match mark {
+        Mark::Header => at_start(phase),
+        Mark::Contour => among(phase),
+        Mark::Edge(_) => inside(phase),
+        Mark::Distances => among(phase) && s.strategy == 3,
+        Mark::End => closing(phase) || (among(phase) && s.strategy != 3),
+    }
+}
+
+// Whether one more such record is within the maximum.
+fn fits(s: State, mark: Mark) -> bool
+    ensures { λ r. ⌜ r ≡ fits s mark ⌝ }
+{
+    match mark {
+        Mark::Header => true,
+        Mark::Contour => s.contours < 64,
+        Mark::Edge(_) => s.edges < 256,
+        Mark::Distances => true,
+        Mark::End => true,
+    }
+}
+
+fn read_header(body: &[u8]) -> Found
+    requires { ⌜ length (now body) ≡ 17 ⌝ }
+    ensures { λ r. ⌜ r ≡ foundOf (readHeader (now (body .entry)) []) ⌝ }
+{
+    let strategy = body[0];
+    if strategy < 1 {
+        return Found::Fails(Refusal::UnknownKind);
+    }
+    if 3 < strategy {
+        return Found::Fails(Refusal::UnknownKind);
+    }
+    let seed = patterns::number(&body[1..9]);
+    let threshold = patterns::number(&body[9..17]);
+    if !patterns::is_threshold(threshold) {
+        return Found::Fails(Refusal::BadThreshold);
+    }
+    Found::Item(Item::Header(Header {
+        strategy,
+        seed,
+        threshold,
+    }))
+}
+
+fn read_edge(kind: Kind, body: &[u8]) -> Found
+    requires { ⌜ length (now body) ≡ bodySize (Edge kind) ⌝ }
+    ensures { λ r. ⌜ r ≡ foundOf (readEdge kind (now (body .entry)) []) ⌝ }
+{
+    if patterns::words_within(Range::Coordinate, 2 * controls(kind), body) {
+        return Found::Item(Item::Edge(kind));
+    }
+    Found::Fails(Refusal::BadCoordinate)
+}
+
+fn read_distances(body: &[u8], rest: &[u8]) -> Found
+    requires { ⌜ length (now body) ≡ 2 ⌝ }
+    ensures { λ r. ⌜ r ≡ foundOf (readDistances (now (body .entry)) (now (rest .entry))) ⌝ }
+{
+    let count = patterns::number(body) as usize;
+    if 2016 < count {
+        return Found::Fails(Refusal::TooMany);
+    }
+    if rest.len() < 8 * count {
+        return Found::Fails(Refusal::Truncated);
+    }
+    if patterns::words_within(Range::Distance, count, rest) {
+        return Found::Item(Item::Distances(count));
+    }
+    Found::Fails(Refusal::BadDistance)
+}
+
+fn read_end(rest: &[u8]) -> Found
+    ensures { λ r. ⌜ r ≡ foundOf (readEnd (now (rest .entry))) ⌝ }
+{
+    if rest.len() == 0 {
+        return Found::End;
+    }
+    Found::Fails(Refusal::MisplacedMark)
+}
+
+fn read_body(mark: Mark, body: &[u8], rest: &[u8]) -> Found
+    requires { ⌜ length (now body) ≡ bodySize mark ⌝ }
+    ensures { λ r. ⌜ r ≡ foundOf (readBody mark (now (body .entry)) (now (rest .entry))) ⌝ }
+{
+    match mark {
+        Mark::Header => read_header(body),
+        Mark::Contour => Found::Item(Item::Contour),
+        Mark::Edge(kind) => read_edge(kind, body),
+        Mark::Distances => read_distances(body, rest),
+        Mark::End => read_end(rest),
+    }
+}
+
+// The record of a known mark, from the bytes after it.
+fn read_marked(s: State, mark: Mark, bytes: &[u8]) -> Found
+    ensures { λ r. ⌜ r ≡ foundOf (readMarked s (Known mark) (now (bytes .entry))) ⌝ }
+{
+    if !allowed(s, mark) {
+        return Found::Fails(Refusal::MisplacedMark);
+    }
+    if !fits(s, mark) {
+        return Found::Fails(Refusal::TooMany);
+    }
+    let size = body_size(mark);
+    if bytes.len() < size {
+        return Found::Fails(Refusal::Truncated);
+    }
+    read_body(mark, &bytes[..size], &bytes[size..])
+}
+
+// The first record of some bytes.
+pub(crate) fn read_record(s: State, bytes: &[u8]) -> Found
+    ensures { λ r. ⌜ r ≡ foundOf (readRecord s (now (bytes .entry))) ⌝ }
+{
+    if bytes.len() < 2 {
+        return Found::Fails(Refusal::Truncated);
+    }
+    match mark_of(bytes[0], bytes[1]) {
+        Marked::Known(mark) => read_marked(s, mark, &bytes[2..]),
+        Marked::Unknown => Found::Fails(Refusal::UnknownMark),
+    }
+}

@@ -1,0 +1,6 @@
+// Replays recorded calls from standard input.
+use vectors::replay::replay;
+
+fn main() {
+    replay();
+}

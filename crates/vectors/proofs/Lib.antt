@@ -1,2 +1,0 @@
--- The proofs on recorded answers.
-mod Nan

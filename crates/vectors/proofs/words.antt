@@ -1,0 +1,2 @@
+-- Laws on the patterns of floats.
+mod Nan

@@ -1,0 +1,355 @@
+//! By-distance colouring with given distances, and its collecting pass: shapes, refusals, and how long
+//! 64 splines take.
+
+use crate::Tally;
+use crate::shapes::{Classes, Lent, best, corners};
+use oracle::contours;
+use oracle::distances::{self, Collected, DISTANCE_FAULTS, DistanceCall, MOST_SPLINES, ORDER};
+use oracle::distances::{Outcome, WAYS};
+use oracle::distances::{call, collect, collected, color, pairs, spoil, with_splines};
+use oracle::given::by_distance_given::edge_coloring_by_distance_given;
+use oracle::numbers::Random;
+use oracle::shapes::{Answer, Buffers, Call, FAULTS};
+use oracle::shapes::{buffers, decode, outline, source_shape};
+use std::hint::black_box;
+use std::time::Duration;
+
+#[link(name = "capi", kind = "static")]
+unsafe extern "C" {
+    fn capi_collect_splines(
+        lengths: *const u16,
+        lengths_len: usize,
+        kinds: *const u8,
+        kinds_len: usize,
+        points: *const u64,
+        points_len: usize,
+        threshold: f64,
+        out_lengths: *mut u16,
+        out_lengths_len: usize,
+        out_kinds: *mut u8,
+        out_kinds_len: usize,
+        out_points: *mut u64,
+        out_points_len: usize,
+        out_splines: *mut u8,
+        out_splines_len: usize,
+    ) -> u64;
+    fn capi_edge_coloring_by_distance(
+        lengths: *const u16,
+        lengths_len: usize,
+        kinds: *const u8,
+        kinds_len: usize,
+        points: *const u64,
+        points_len: usize,
+        threshold: f64,
+        seed: u64,
+        distances: *const u64,
+        distances_len: usize,
+        out_lengths: *mut u16,
+        out_lengths_len: usize,
+        out_kinds: *mut u8,
+        out_kinds_len: usize,
+        out_points: *mut u64,
+        out_points_len: usize,
+        out_colors: *mut u8,
+        out_colors_len: usize,
+    ) -> u64;
+}
+
+/// Four result buffers as they are lent.
+struct Room {
+    lengths: Lent<u16>,
+    kinds: Lent<u8>,
+    points: Lent<u64>,
+    colors: Lent<u8>,
+}
+
+impl Room {
+    fn new(out: &Buffers) -> Self {
+        Room {
+            lengths: Lent::new(&out.lengths, 0xA5A5),
+            kinds: Lent::new(&out.kinds, 0xA5),
+            points: Lent::new(&out.points, 0x7FF4_0000_0000_BEEF),
+            colors: Lent::new(&out.colors, 0xA5),
+        }
+    }
+
+    fn is(&self, after: &Buffers) -> bool {
+        self.lengths.is(&after.lengths)
+            && self.kinds.is(&after.kinds)
+            && self.points.is(&after.points)
+            && self.colors.is(&after.colors)
+    }
+}
+
+fn proved_collect(call: &Call, room: &mut Room) -> u64 {
+    let o = &call.outline;
+    let (l, k) = (room.lengths.part(), room.kinds.part());
+    let (p, c) = (room.points.part(), room.colors.part());
+    unsafe {
+        capi_collect_splines(
+            o.lengths.as_ptr(),
+            o.lengths.len(),
+            o.kinds.as_ptr(),
+            o.kinds.len(),
+            o.points.as_ptr(),
+            o.points.len(),
+            call.threshold,
+            l.as_mut_ptr(),
+            l.len(),
+            k.as_mut_ptr(),
+            k.len(),
+            p.as_mut_ptr(),
+            p.len(),
+            c.as_mut_ptr(),
+            c.len(),
+        )
+    }
+}
+
+fn proved_color(call: &DistanceCall, out: &mut Buffers) -> u64 {
+    let Buffers { lengths, kinds, points, colors } = out;
+    proved_color_to(call, lengths, kinds, points, colors)
+}
+
+fn proved_color_to(
+    DistanceCall { call, distances }: &DistanceCall,
+    l: &mut [u16],
+    k: &mut [u8],
+    p: &mut [u64],
+    c: &mut [u8],
+) -> u64 {
+    let o = &call.outline;
+    unsafe {
+        capi_edge_coloring_by_distance(
+            o.lengths.as_ptr(),
+            o.lengths.len(),
+            o.kinds.as_ptr(),
+            o.kinds.len(),
+            o.points.as_ptr(),
+            o.points.len(),
+            call.threshold,
+            call.seed,
+            distances.as_ptr(),
+            distances.len(),
+            l.as_mut_ptr(),
+            l.len(),
+            k.as_mut_ptr(),
+            k.len(),
+            p.as_mut_ptr(),
+            p.len(),
+            c.as_mut_ptr(),
+            c.len(),
+        )
+    }
+}
+
+fn shown(c: &DistanceCall) -> String {
+    let (o, threshold, seed) = (&c.call.outline, c.call.threshold, c.call.seed);
+    let (l, k, p, d) = (&o.lengths, &o.kinds, &o.points, &c.distances);
+    let what = format!("{l:?} {k:?} {p:016X?}, threshold {threshold:?}, seed {seed}, {d:016X?}");
+    what.chars().take(2000).collect()
+}
+
+/// Collects by the proved code and by the source, and compares answer and buffers.
+fn compare_collect(part: &mut Tally, c: &DistanceCall) -> u64 {
+    let (given, mut room) = (c.call.clone(), Room::new(&c.call.out));
+    let code = proved_collect(&given, &mut room);
+    let (expected, after) = collect(&c.call);
+    let agree = code == expected && room.is(&after) && given.outline == c.call.outline;
+    part.note(agree, || format!("collecting {}: {expected:#x}, proved {code:#x}", shown(c)));
+    expected
+}
+
+/// The same of a colouring. The outcome is the source's.
+fn compare_color(part: &mut Tally, c: &DistanceCall) -> Outcome {
+    let (given, mut room) = (c.clone(), Room::new(&c.call.out));
+    let (l, k) = (room.lengths.part(), room.kinds.part());
+    let (p, colors) = (room.points.part(), room.colors.part());
+    let code = proved_color_to(&given, l, k, p, colors);
+    let outcome = color(c);
+    let answer = outcome.answer;
+    let same = given.call.outline == c.call.outline && given.distances == c.distances;
+    let agree = code == answer.code() && room.is(&outcome.after) && same;
+    part.note(agree, || format!("by distance {}: {answer:?}, proved {code:#x}", shown(c)));
+    outcome
+}
+
+// ---- comparisons
+
+const SHAPES: u64 = 160_000;
+
+/// What a contour with one corner collects: at which side of the break an edge is White, and splits.
+fn contour_classes(classes: &mut Classes, call: &Call) {
+    for edges in decode(&call.outline) {
+        let m = edges.len();
+        let at = corners(&edges, call.threshold);
+        let one = at.len() == 1;
+        classes.note("1 corner, 3 edges", one && m == 3);
+        classes.note("1 corner, 4 edges", one && m == 4);
+        classes.note("1 corner, 5 to 46 edges", one && (5..47).contains(&m));
+        classes.note("1 corner, 47 edges", one && m == 47);
+        classes.note("1 corner, more edges", one && m > 47);
+        let white = |i: usize| (15 * (m - 1)..31 * (m - 1)).contains(&(46 * i));
+        classes.note("White before the break", one && m >= 3 && (0..m / 2).any(white));
+        classes.note("White behind the break", one && m >= 3 && (m / 2 + 1..m).any(white));
+        classes.note("a split of one edge", at == [0] && m == 1);
+        classes.note("a split of two, corner at the first", at == [0] && m == 2);
+        classes.note("a split of two, corner at the second", at == [1] && m == 2);
+        classes.note("no corner", at.is_empty() && m > 0);
+        classes.note("two corners or more, the first not at 0", at.len() > 1 && at[0] > 0);
+        classes.note("an empty contour", m == 0);
+    }
+}
+
+fn shapes(all: &mut Tally) {
+    let mut parts = [Tally::default(), Tally::default()];
+    let mut classes = Classes::default();
+    let (mut sizes, mut ways) = ([0u64; MOST_SPLINES + 1], [0u64; WAYS.len()]);
+    let mut colors = [0u64; 8];
+    let r = &mut Random(600);
+    for _ in 0..SHAPES {
+        let (c, way, splines) = call(r);
+        compare_collect(&mut parts[0], &c);
+        let Outcome { answer, after, declined, .. } = compare_color(&mut parts[1], &c);
+        let Answer::Edges(count) = answer else { panic!("refused: {answer:?}") };
+        sizes[splines] += 1;
+        ways[way] += (splines > 2) as u64;
+        after.colors[..count].iter().for_each(|&color| colors[color as usize] += 1);
+        contour_classes(&mut classes, &c.call);
+        let exact = c.call.out.lengths.len() == c.call.outline.lengths.len()
+            && c.call.out.kinds.len() == count
+            && c.call.out.points.len() == 8 * count
+            && c.call.out.colors.len() == count;
+        classes.note("buffers exactly as long as the result", exact && count > 0);
+        classes.note("no spline", splines == 0);
+        classes.note("a pair declined", declined > 0);
+        classes.note("most pairs declined", declined > pairs(splines) / 2);
+        classes.note("64 splines, half the pairs declined", splines == 64 && declined > 1008);
+    }
+    classes.close(all);
+    for (n, count) in sizes.iter().enumerate() {
+        all.met(*count, || format!("{n} splines"));
+    }
+    for ((name, _), count) in WAYS.iter().zip(ways) {
+        println!("{:60}{count:>10}", format!("distances: {name}"));
+        all.met(count, || format!("distances: {name}"));
+    }
+    for color in [3, 5, 6, 7] {
+        all.met(colors[color], || format!("colour {color}"));
+    }
+    let [collecting, coloring] = parts;
+    all.close("collecting pass", collecting);
+    all.close("by-distance colouring", coloring);
+}
+
+/// Calls with up to three faults: each refusal before each later one, and no buffer touched.
+fn refusals(all: &mut Tally) {
+    let mut parts = [Tally::default(), Tally::default()];
+    let mut alone = vec![[0u64; 10]; FAULTS.len() + DISTANCE_FAULTS.len()];
+    let mut besides = [[0u64; 9]; 9];
+    let r = &mut Random(601);
+    for _ in 0..100_000 {
+        let (mut c, _, _) = call(r);
+        let count = r.below(4);
+        let mut fault = 0;
+        for _ in 0..count {
+            fault = spoil(r, &mut c);
+        }
+        compare_collect(&mut parts[0], &c);
+        let which = compare_color(&mut parts[1], &c).refusal;
+        if count == 1 {
+            alone[fault][which.map_or(0, |i| i + 1)] += 1;
+        }
+        if let Some(first) = which {
+            let held = distances::faults(&c);
+            let short = c.call.out.kinds.len() < c.call.outline.kinds.len();
+            let held = held.into_iter().chain([short]).enumerate();
+            held.for_each(|(other, holds)| besides[first][other] += holds as u64);
+        }
+    }
+    let names = FAULTS.iter().map(|f| f.0).chain(DISTANCE_FAULTS.iter().map(|f| f.0));
+    for (name, counts) in names.zip(&alone) {
+        println!("{name:24}{counts:>8?}");
+    }
+    for (fault, (name, which, _)) in DISTANCE_FAULTS.iter().enumerate() {
+        let count = alone[FAULTS.len() + fault][which.map_or(0, |i| i + 1)];
+        all.met(count, || format!("by distance: {name}"));
+    }
+    for first in 0..9 {
+        for other in first + 1..9 {
+            // the splines of an outline that is refused are not counted
+            if first < 5 && (5..7).contains(&other) && first > 0 {
+                continue;
+            }
+            let (a, b) = (ORDER[first], ORDER[other]);
+            let count = besides[first][other];
+            println!("{:60}{count:>10}", format!("{} {} before {} {}", a.0, a.1, b.0, b.1));
+            all.met(count, || format!("{a:?} before {b:?}"));
+        }
+    }
+    let [collecting, coloring] = parts;
+    all.close("refusals of the collecting pass", collecting);
+    all.close("refusals of by-distance colouring", coloring);
+}
+
+/// Document 01's P7: the square's four splines, 0 beside and 1 across.
+fn p7(all: &mut Tally) {
+    let mut part = Tally::default();
+    let at = [(0.0, 0.0), (1.0, 0.0), (1.0, 1.0), (0.0, 1.0)];
+    let point = |i: usize| oracle::math::Vector2::new(at[i % 4].0, at[i % 4].1);
+    let square = (0..4).map(|i| contours::edge(&[point(i), point(i + 1)])).collect();
+    let r = &mut Random(0);
+    let outline = outline(r, &[square]);
+    let call = Call { outline, threshold: 0.125, seed: 0, out: buffers(r, 1, 4, 32, 4) };
+    let distances = [0.0f64, 1.0, 0.0, 0.0, 1.0, 0.0].map(f64::to_bits).to_vec();
+    let c = DistanceCall { call, distances };
+    compare_collect(&mut part, &c);
+    let after = compare_color(&mut part, &c).after;
+    part.note(after.colors == [3, 6, 5, 6], || format!("P7: {:?}", after.colors));
+    all.close("P7", part);
+}
+
+pub fn compare(all: &mut Tally) {
+    p7(all);
+    shapes(all);
+    refusals(all);
+}
+
+// ---- speed
+
+/// 64 splines and 2,016 distances without a zero: 32 different shapes by turns.
+pub fn speed() {
+    let r = &mut Random(602);
+    let mut calls = Vec::new();
+    while calls.len() < 32 {
+        let shape = with_splines(r, 64, 0.125);
+        let outline = outline(r, &shape);
+        let out = buffers(r, 64, 508, 4064, 508);
+        let call = Call { outline, threshold: 0.125, seed: calls.len() as u64, out };
+        let Collected { splines, .. } = collected(&call);
+        if splines == MOST_SPLINES {
+            let distances: Vec<f64> = (0..pairs(splines)).map(|_| r.unit().abs() + 0.5).collect();
+            let bits = distances.iter().map(|d| d.to_bits()).collect();
+            calls.push((DistanceCall { call, distances: bits }, distances, source_shape(&shape)));
+        }
+    }
+    let mut outs: Vec<Buffers> = calls.iter().map(|c| c.0.call.out.clone()).collect();
+    let proved = best(|| {
+        for ((c, _, _), out) in calls.iter().zip(&mut outs) {
+            black_box(proved_color(c, out));
+        }
+    });
+    let rust = best(|| {
+        for (c, distances, source) in &calls {
+            let mut shape = source.clone();
+            let (threshold, seed) = (c.call.threshold, c.call.seed);
+            edge_coloring_by_distance_given(&mut shape, threshold, seed, distances);
+            black_box(&shape);
+        }
+    });
+    let copies = best(|| calls.iter().for_each(|(_, _, source)| drop(black_box(source.clone()))));
+    let us = |d: Duration| d.as_secs_f64() * 1e6 / calls.len() as f64;
+    let (proved, rust) = (us(proved), us(rust) - us(copies));
+    println!("64 splines, 2,016 distances, in microseconds a shape, 32 shapes, the best of 25 runs");
+    println!("by distance: proved {proved:.1}, Rust {rust:.1}, proved / Rust {:.2}", proved / rust);
+}
