@@ -1,8 +1,8 @@
 -- A job that was read passes the checks of an outline, and its buffers hold its contours: so colouring the buffers is colouring the job.
 use mathlib.Core.Path.{_≡_, refl, sym, ap, _∙_}
 use mathlib.Core.Bool.{Bool, true, false, cond, _&&_}
-use mathlib.Core.List.{List, [], _∷_, map}
-use Prim.Native.Nat.{ℕ, _+_, _*_, _≤_}
+use mathlib.Core.List.{List, [], _∷_}
+use Prim.Native.Nat.{ℕ, _+_, _-_, _*_, _/_, _≤_}
 use native.Mathlib.Omega.{arith}
 use lib.Dec.{leb, eqb}
 use lib.Ieee.{Float, binary64, ofBits}
@@ -13,20 +13,24 @@ use Rattle.geometry.specs.EdgeSegment.{toStored, fromStored}
 use Rattle.geometry.specs.declared.edge_segment.EdgeSegment.{EdgeSegment}
 use Rattle.geometry.specs.declared.edge_segment.EdgeSegment.the-variants as segment
 use Rattle.coloring.specs.declared.outline.Checked.{Checked}
-use Rattle.coloring.specs.declared.outline.Checked.the-variants.{Passed}
+use Rattle.coloring.specs.declared.outline.Checked.the-variants.{Passed, Failed}
+use Rattle.coloring.specs.declared.outline.Counts.{Counts}
+use Rattle.coloring.specs.declared.outline.Colored.{Colored}
+use Rattle.coloring.specs.declared.refusal.Refusal.the-variants.{TooMany, LengthMismatch, BadDistance, ResultTooShort}
+use Rattle.coloring.specs.Refusal.{refusalNumber}
+use Rattle.coloring.specs.PairOrder.{distancesValid}
 use Rattle.coloring.specs.declared.settings.Strategy.the-variants.{Simple, InkTrap}
 use Rattle.coloring.specs.declared.settings.Strategy.{Strategy}
 use Rattle.coloring.specs.declared.settings.Marking.the-variants.{Colors, Numbers}
 use Rattle.coloring.specs.Places.{concat, total}
-use Rattle.coloring.specs.Corners.{Cornered}
 use Rattle.coloring.specs.Splines.{splineTotal}
 use Rattle.coloring.specs.SplineColors.{colorSplines}
 use Rattle.coloring.specs.Outline as outline
 use Rattle.coloring.specs.declared.outline.Colored.the-variants as color
-use Rattle.coloring.specs.Outline.{Result, Outcome, outcome, over, cut, edgeOf, edgesOf, contours, knownKind, coordinatesFit, maxContours, maxEdges, check, deliver}
+use Rattle.coloring.specs.Outline.{Result, Outcome, outcome, over, cut, edgeOf, edgesOf, contours, knownKind, coordinatesFit, maxContours, maxEdges, check, fits, delivered, deliver}
 use Rattle.coloring.specs.Shape.{painted, countsOf}
 use Rattle.coloring.specs.EdgeColoring.{edgeColoring}
-use Rattle.coloring.specs.ByDistance.{maxDistances, checkSplines, checkDistances, splineByte, withBytes, edgeColoringByDistance}
+use Rattle.coloring.specs.ByDistance.{maxSplines, maxDistances, checkSplines, checkDistances, splineByte, withBytes, edgeColoringByDistance}
 use Rattle.job.specs.declared.progress.Numbers.{Numbers as JobNumbers}
 use Rattle.job.specs.declared.progress.Read.{Read}
 use Rattle.job.specs.declared.progress.Read.the-variants as read
@@ -35,7 +39,7 @@ use Rattle.job.specs.Job.{Job, Reading, reads, refuses, readJob}
 use Rattle.job.specs.Progress.{edgeCount, numbersOf}
 use Rattle.job.specs.Buffers.{Buffers, buffers, kindsOf, placesOf, stored, overEach, roomFor, hasRoom, Hold}
 use Rattle.job.specs.Reader.{readInto, Delivers}
-use Rattle.job.specs.Color.{foundIn, checkJob, colored, colorJob, colorReading, colorFile, outlineOf, colorStored, HoldsJobs}
+use Rattle.job.specs.Color.{foundIn, checkJob, colored, colorJob, colorReading, colorFile, isPassed, acceptedReading, accepted, noOther, outlineOf, colorStored, HoldsJobs}
 use Rattle.job.proofs.ReadingLaws.{edgeFits}
 use Rattle.job.proofs.ProgressLaws.{Sound, job-sound, contours-few, edges-few}
 use Rattle.job.proofs.StoredLaws.{lengthsOf, kinds-length, places-length}
@@ -242,3 +246,43 @@ module _ {file : List ℕ} {n : JobNumbers} {old : Buffers} {lengths kinds : Lis
   pub distances-within : n .distances ≤ length distances
   unfolding overEach stored
   distances-within = rw (h .numbers, h .holds .distances-are) (within (h .job .distances) (old .distances) refl)
+
+-- ---- which files are accepted
+
+-- the checks of a job do not give 11
+abbrev Early : Checked → Type 0
+Early Passed = Unit
+Early (Failed refusal) = eqb (refusalNumber refusal) 11 ≡ false
+
+early-by : (a b : Bool) (k : Checked) → Early k → Early (cond a Passed (cond b Passed k))
+early-by true b k h = tt
+early-by false true k h = tt
+early-by false false k h = h
+
+checks-early : (job : Job) → Early (checkJob job)
+unfolding checkJob
+checks-early job =
+    let splines = splineTotal (foundIn job) in
+    early-by (eqb (job .strategy) 1) (eqb (job .strategy) 2) (checkSplines splines (checkDistances splines (job .distances)))
+    (required (leb splines maxSplines) TooMany _ refl
+    (required (eqb (length (job .distances)) (splines * (splines - 1) / 2)) LengthMismatch _ refl
+    (required (distancesValid (job .distances)) BadDistance Passed refl tt)))
+  where
+    required : (b : Bool) (refusal : Refusal) (rest : Checked) → eqb (refusalNumber refusal) 11 ≡ false → Early rest → Early (outline.require b refusal rest)
+    required true refusal rest h k = k
+    required false refusal rest h k = h
+
+delivered-passed : (checked : Checked) (counts : Counts) (written old : Result) → Early checked → noOther (deliver checked counts written old .answer) ≡ isPassed checked
+unfolding deliver delivered
+delivered-passed (Failed refusal) counts written old h = h
+delivered-passed Passed counts written old h = go (fits written old)
+  where
+    go : (b : Bool) → noOther ((cond b (delivered counts written old) (outcome (color.Refused ResultTooShort) old)) .answer) ≡ true
+    go true = refl
+    go false = refl
+
+pub accepted-job : (file : List ℕ) (job : Job) (old : Result) (answer : Colored) (buffers : Result) → readJob file ≡ reads job → outcome answer buffers ≡ colorFile file old → noOther answer ≡ accepted file
+unfolding accepted acceptedReading colorFile colorReading colorJob
+accepted-job file job old answer buffers e same =
+    let here = rw e at same in
+    rw e (ap (λ (o : Outcome). noOther (o .answer)) here ∙ delivered-passed (checkJob job) _ _ old (checks-early job))

@@ -1,4 +1,4 @@
--- The first 34,000 bytes of a file decide how it is read.
+-- Every accepted file has at most 33,177 bytes, and the first 34,000 bytes of any file decide how it is read, its colouring and the part of a contour.
 use mathlib.Core.Path.{_≡_, refl, sym, ap, _∙_}
 use mathlib.Core.Bool.{Bool, true, false}
 use mathlib.Core.List.{List, [], _∷_, _++_}
@@ -22,11 +22,15 @@ use Rattle.job.specs.declared.records.State.{State}
 use Rattle.job.specs.declared.progress.Progress.{Progress}
 use Rattle.job.specs.Patterns.{number, words, floats, all, isThreshold, isCoordinate, isDistance}
 use Rattle.job.specs.Records.{Record, header, edge, distances, Step, next, ends, fails, require, knownStrategy, controls, bodySize, allowed, fits, closing, among, byDistance, edgeOf, itemOf, recordSize, markOf, readHeader, readEdge, readDistances, readEnd, readBody, readMarked, readRecord, after, Records, _then_, recordsFrom}
-use Rattle.job.specs.Job.{noJob, jobFrom, readJob}
+use Rattle.coloring.specs.Outline.{Result}
+use Rattle.job.specs.Job.{noJob, jobFrom, Reading, reads, refuses, readJob}
+use Rattle.job.specs.Color.{colorReading, colorFile, acceptedReading, accepted}
+use Rattle.job.specs.Part.{contourPart}
 use Rattle.job.specs.Progress.{begin, advanced}
 use Rattle.job.proofs.RecordLaws.{controls-few}
 use Rattle.job.proofs.ReadingLaws.{taken, end-size, records-next, records-fault}
-use Rattle.job.proofs.ProgressLaws.{besides, among-contours, and-true, at-start, in-contour, Reached, reached-begin, reached-next, further, place-after, state-after}
+use Rattle.job.proofs.ProgressLaws.{besides, among-contours, and-true, at-start, in-contour, Reached, reached-begin, reached-next, further, place-after, state-after, bytes-few}
+use Rattle.job.proofs.PartLaws.{part-refused}
 
 -- a step with more bytes after it
 abbrev extend : List ℕ → Step → Step
@@ -189,3 +193,27 @@ first-bytes-decide file = go (leb (length file) 34000) refl
         let size : length short ≡ 34000 = length-take-le 34000 file (omega (arith, leb-false (length file) 34000 h)) in
         let whole : short ++ more ≡ file = take-append-drop 34000 file in
         ap (jobFrom noJob) (sym (same-records short more size 34000 begin (reached-begin (short ++ more)) (omega arith))) ∙ ap readJob whole
+
+-- ---- what follows for a file's colouring, its acceptance and the parts of its contours
+
+pub first-bytes-color : (file : List ℕ) (old : Result) → colorFile (take 34000 file) old ≡ colorFile file old
+unfolding colorFile
+first-bytes-color file old = ap (λ (r : Reading). colorReading r old) (first-bytes-decide file)
+
+pub accepted-few : (file : List ℕ) → accepted file ≡ true → length file ≤ 33177
+unfolding accepted acceptedReading
+accepted-few file h = go (readJob file) refl h
+  where
+    go : (reading : Reading) → readJob file ≡ reading → acceptedReading reading ≡ true → length file ≤ 33177
+    go (reads job) e h = bytes-few file job e
+    go (refuses refusal) e h = let z : _≡_ {A = ℕ} 0 1 = cc in absurd (omega arith)
+
+pub first-bytes-part : (file : List ℕ) (number : ℕ) → contourPart (take 34000 file) number ≡ contourPart file number
+first-bytes-part file number = go (accepted file) refl
+  where
+    same : accepted (take 34000 file) ≡ accepted file
+    same = unfold accepted in ap acceptedReading (first-bytes-decide file)
+
+    go : (b : Bool) → accepted file ≡ b → contourPart (take 34000 file) number ≡ contourPart file number
+    go true h = ap (λ (x : List ℕ). contourPart x number) (take-all 34000 file (omega (arith, accepted-few file h)))
+    go false h = part-refused (take 34000 file) number (same ∙ h) ∙ sym (part-refused file number h)

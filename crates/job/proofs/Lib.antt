@@ -14,6 +14,7 @@ pub mod FillLaws
 pub mod DeliverLaws
 -- reading and colouring in one
 pub mod ColorLaws
+pub mod ShapeLaws
 -- the part of one contour
 pub mod PartLaws
 -- the first 34,000 bytes of a file

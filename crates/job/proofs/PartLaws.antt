@@ -14,7 +14,8 @@ use Rattle.job.specs.declared.part.Seek.{Seek}
 use Rattle.job.specs.declared.part.Seek.the-variants.{Passing, Open, Done}
 use Rattle.job.specs.Records.{ends, fails, itemOf, readRecord, recordsFrom}
 use Rattle.job.specs.Progress.{begin, advanced}
-use Rattle.job.specs.Part.{sought, spanOf, seek, contourSpan, accepted, contourPart, Inside}
+use Rattle.job.specs.Color.{accepted}
+use Rattle.job.specs.Part.{sought, spanOf, seek, contourSpan, contourPart, Inside}
 use Rattle.job.proofs.ReadingLaws.{Read-as, records-end, records-fault}
 use Rattle.job.proofs.ProgressLaws.{Reached, reached-begin, reached-next, records-ahead, place-after, further}
 

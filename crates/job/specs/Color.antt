@@ -7,7 +7,9 @@ use lib.Ieee.{Float}
 use lib.ListN.{length}
 use Rattle.coloring.specs.declared.outline.Checked.{Checked}
 use Rattle.coloring.specs.declared.outline.Checked.the-variants.{Passed, Failed}
-use Rattle.coloring.specs.declared.outline.Colored.the-variants.{Refused}
+use Rattle.coloring.specs.Refusal.{refusalNumber}
+use Rattle.coloring.specs.declared.outline.Colored.{Colored}
+use Rattle.coloring.specs.declared.outline.Colored.the-variants.{Edges, Refused}
 use Rattle.coloring.specs.declared.settings.Strategy.the-variants.{Simple, InkTrap}
 use Rattle.coloring.specs.declared.settings.Marking.the-variants.{Colors, Numbers}
 use Rattle.coloring.specs.Corners.{Cornered, searchCorners}
@@ -65,7 +67,26 @@ unfoldable pub colorFile : List ℕ → Result → Outcome
 unfolding readJob colorReading
 colorFile file = colorReading (readJob file)
 
+-- accepted: reading and colouring give no number other than 11
+abbrev pub isPassed : Checked → Bool
+isPassed Passed = true
+isPassed (Failed refusal) = false
+
+unfoldable pub acceptedReading : Reading → Bool
+unfolding checkJob
+acceptedReading (reads job) = isPassed (checkJob job)
+acceptedReading (refuses refusal) = false
+
+unfoldable pub accepted : List ℕ → Bool
+unfolding readJob acceptedReading
+accepted file = acceptedReading (readJob file)
+
 -- ---- in the words of contracts
+
+-- no number other than 11
+abbrev pub noOther : Colored → Bool
+noOther (Edges counts) = true
+noOther (Refused refusal) = eqb (refusalNumber refusal) 11
 
 abbrev pub outlineOf : Buffers → Outline
 outlineOf b = record { lengths = b .lengths; kinds = b .kinds; points = b .points }

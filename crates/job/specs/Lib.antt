@@ -6,9 +6,10 @@ pub mod Job
 pub mod Progress
 pub mod Buffers
 pub mod Reader
-pub mod Part
 -- reading and colouring in one
 pub mod Color
+-- the part of one contour
+pub mod Part
 -- the text of an answer
 pub mod Listing
 -- evaluated examples

@@ -1,6 +1,6 @@
 -- The part of a file that is one contour (document 01, "Trays and the job file"): from its CT up to the next CT, DS or EN.
 use Prim.Native.Nat.{ℕ, zero, suc, _+_, _-_, _≤_}
-use mathlib.Core.Bool.{Bool, true, false, cond}
+use mathlib.Core.Bool.{cond}
 use mathlib.Core.List.{List, []}
 use lib.ListN.{take, drop}
 use Rattle.job.specs.declared.records.Item.{Item}
@@ -9,7 +9,7 @@ use Rattle.job.specs.declared.part.Span.{Span}
 use Rattle.job.specs.declared.part.Seek.{Seek}
 use Rattle.job.specs.declared.part.Seek.the-variants.{Passing, Open, Done}
 use Rattle.job.specs.Records.{itemOf, recordSize, Records, complete, fault, _then_, start, recordsFrom}
-use Rattle.job.specs.Job.{Reading, reads, refuses, readJob}
+use Rattle.job.specs.Color.{accepted}
 
 -- a record, which starts at a place: the contour begins at the CT with none left to pass, and ends at the first record that is no edge
 unfoldable pub sought : Seek → ℕ → Item → Seek
@@ -39,15 +39,6 @@ seek q at (r then rest) = seek (sought q at (itemOf r)) (at + recordSize r) rest
 unfoldable pub contourSpan : List ℕ → ℕ → Span
 unfolding seek recordsFrom
 contourSpan file number = seek (Passing number) 0 (recordsFrom start file)
-
--- whether a file is accepted
-abbrev pub isRead : Reading → Bool
-isRead (reads job) = true
-isRead (refuses refusal) = false
-
-unfoldable pub accepted : List ℕ → Bool
-unfolding readJob
-accepted file = isRead (readJob file)
 
 -- nothing for a refused file or a number too large
 unfoldable pub contourPart : List ℕ → ℕ → List ℕ

@@ -83,7 +83,8 @@ fn color_in(
 ) -> Colored
     requires { ⌜ HoldsJobs (buffers (now lengths) (now kinds) (now points) (now distances)) ⌝ }
     ensures { λ r. ⌜ outcome r (result (now («out_lengths» .exit)) (now («out_kinds» .exit)) (now («out_points» .exit)) (now («out_colors» .exit))) ≡
-        colorFile (now (file .entry)) (result (now («out_lengths» .entry)) (now («out_kinds» .entry)) (now («out_points» .entry)) (now («out_colors» .entry))) ⌝ }
+        colorFile (now (file .entry))
+        (result (now («out_lengths» .entry)) (now («out_kinds» .entry)) (now («out_points» .entry)) (now («out_colors» .entry))) ⌝ }
 {
     match reader::read(file, lengths, kinds, points, distances) {
         Read::Job(n) => {
@@ -120,7 +121,8 @@ pub fn color(
     out_colors: &mut [u8],
 ) -> Colored
     ensures { λ r. ⌜ outcome r (result (now («out_lengths» .exit)) (now («out_kinds» .exit)) (now («out_points» .exit)) (now («out_colors» .exit))) ≡
-        colorFile (now (file .entry)) (result (now («out_lengths» .entry)) (now («out_kinds» .entry)) (now («out_points» .entry)) (now («out_colors» .entry))) ⌝ }
+        colorFile (now (file .entry))
+        (result (now («out_lengths» .entry)) (now («out_kinds» .entry)) (now («out_points» .entry)) (now («out_colors» .entry))) ⌝ }
 {
     let mut lengths = [0u16; 64];
     let mut kinds = [0u8; 256];

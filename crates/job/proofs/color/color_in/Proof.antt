@@ -25,10 +25,14 @@ module _ (c : tie.Start) where
 
 -- from what the match looks at back to the reading, and from there to the start
 abbrev read-here : tie.After-slice-known12 → tie.After-read
-read-here c = c .before .before .before .before .before .before .before .before
+read-here c =
+    let place = c .before .before .before .before .before .before .before .before in
+    place
 
 abbrev began : tie.After-read → tie.Start
-began c = c .before .before .before .before .before .before .before .before .before .before .before .before .before .before
+began c =
+    let place = c .before .before .before .before .before .before .before .before .before .before .before .before .before .before in
+    place
 
 -- a file that was read
 module _ (c : tie.After-n) where
