@@ -21,7 +21,7 @@ fn collected_code(answer: Colored) -> u64
 }
 
 #[no_mangle]
-pub extern "C" fn capi_collect_splines(
+pub extern "C" fn merelsplum_collect_splines(
     lengths: &[u16],
     kinds: &[u8],
     points: &[f64],
@@ -48,7 +48,7 @@ pub extern "C" fn capi_collect_splines(
 }
 
 #[no_mangle]
-pub extern "C" fn capi_edge_coloring_by_distance(
+pub extern "C" fn merelsplum_edge_coloring_by_distance(
     lengths: &[u16],
     kinds: &[u8],
     points: &[f64],

@@ -18,7 +18,7 @@ pub(crate) fn code(answer: Colored) -> u64
 }
 
 #[no_mangle]
-pub extern "C" fn capi_edge_coloring_simple(
+pub extern "C" fn merelsplum_edge_coloring_simple(
     lengths: &[u16],
     kinds: &[u8],
     points: &[f64],
@@ -47,7 +47,7 @@ pub extern "C" fn capi_edge_coloring_simple(
 }
 
 #[no_mangle]
-pub extern "C" fn capi_edge_coloring_ink_trap(
+pub extern "C" fn merelsplum_edge_coloring_ink_trap(
     lengths: &[u16],
     kinds: &[u8],
     points: &[f64],

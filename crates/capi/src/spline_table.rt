@@ -18,7 +18,7 @@ fn code(answer: Offer) -> u64
 }
 
 #[no_mangle]
-pub extern "C" fn capi_try_add_edge(
+pub extern "C" fn merelsplum_try_add_edge(
     coloring: &mut [u8],
     edge_matrix: &mut [u8],
     a: usize,

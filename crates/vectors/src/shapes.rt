@@ -9,10 +9,10 @@ use crate::words::part;
 use crate::words::same;
 use crate::words::size;
 use crate::words::word;
-use capi::by_distance::capi_collect_splines;
-use capi::by_distance::capi_edge_coloring_by_distance;
-use capi::edge_coloring::capi_edge_coloring_ink_trap;
-use capi::edge_coloring::capi_edge_coloring_simple;
+use capi::by_distance::merelsplum_collect_splines;
+use capi::by_distance::merelsplum_edge_coloring_by_distance;
+use capi::edge_coloring::merelsplum_edge_coloring_ink_trap;
+use capi::edge_coloring::merelsplum_edge_coloring_simple;
 ghost use Prim.Native.Nat.{_≤_, _<_, _*_};
 ghost use lib.ListN.{length};
 
@@ -89,7 +89,7 @@ fn call(
     let seed = word(s, 24);
     let f = word(s, 0);
     if f == 65 {
-        return capi_edge_coloring_simple(
+        return merelsplum_edge_coloring_simple(
             lengths,
             kinds,
             points,
@@ -102,7 +102,7 @@ fn call(
         );
     }
     if f == 66 {
-        return capi_edge_coloring_ink_trap(
+        return merelsplum_edge_coloring_ink_trap(
             lengths,
             kinds,
             points,
@@ -115,7 +115,7 @@ fn call(
         );
     }
     if f == 67 {
-        return capi_collect_splines(
+        return merelsplum_collect_splines(
             lengths,
             kinds,
             points,
@@ -126,7 +126,7 @@ fn call(
             out_colors,
         );
     }
-    capi_edge_coloring_by_distance(
+    merelsplum_edge_coloring_by_distance(
         lengths,
         kinds,
         points,

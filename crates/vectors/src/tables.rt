@@ -4,7 +4,7 @@ use crate::words::load;
 use crate::words::part;
 use crate::words::size;
 use crate::words::word;
-use capi::spline_table::capi_try_add_edge;
+use capi::spline_table::merelsplum_try_add_edge;
 use std::num::wrapping_add_u64;
 ghost use Prim.Native.Nat.{_≤_, _<_};
 ghost use lib.ListN.{length};
@@ -13,7 +13,7 @@ ghost use lib.ListN.{length};
 fn is_right(s: &[u8], coloring: &mut [u8], edge_matrix: &mut [u8]) -> bool {
     let a = word(s, 0) as usize;
     let b = word(s, 8) as usize;
-    capi_try_add_edge(coloring, edge_matrix, a, b) == word(s, 16)
+    merelsplum_try_add_edge(coloring, edge_matrix, a, b) == word(s, 16)
 }
 
 // Makes the offers of s in order: how many answers are as recorded.

@@ -16,7 +16,7 @@ use std::time::Duration;
 
 #[link(name = "capi", kind = "static")]
 unsafe extern "C" {
-    fn capi_collect_splines(
+    fn merelsplum_collect_splines(
         lengths: *const u16,
         lengths_len: usize,
         kinds: *const u8,
@@ -33,7 +33,7 @@ unsafe extern "C" {
         out_splines: *mut u8,
         out_splines_len: usize,
     ) -> u64;
-    fn capi_edge_coloring_by_distance(
+    fn merelsplum_edge_coloring_by_distance(
         lengths: *const u16,
         lengths_len: usize,
         kinds: *const u8,
@@ -86,7 +86,7 @@ fn proved_collect(call: &Call, room: &mut Room) -> u64 {
     let (l, k) = (room.lengths.part(), room.kinds.part());
     let (p, c) = (room.points.part(), room.colors.part());
     unsafe {
-        capi_collect_splines(
+        merelsplum_collect_splines(
             o.lengths.as_ptr(),
             o.lengths.len(),
             o.kinds.as_ptr(),
@@ -120,7 +120,7 @@ fn proved_color_to(
 ) -> u64 {
     let o = &call.outline;
     unsafe {
-        capi_edge_coloring_by_distance(
+        merelsplum_edge_coloring_by_distance(
             o.lengths.as_ptr(),
             o.lengths.len(),
             o.kinds.as_ptr(),

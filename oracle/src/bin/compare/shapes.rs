@@ -56,12 +56,12 @@ macro_rules! entries {
     };
 }
 
-entries!(capi_edge_coloring_simple, capi_edge_coloring_ink_trap);
+entries!(merelsplum_edge_coloring_simple, merelsplum_edge_coloring_ink_trap);
 
 fn entry(strategy: Strategy) -> Entry {
     match strategy {
-        Strategy::Simple => capi_edge_coloring_simple,
-        Strategy::InkTrap => capi_edge_coloring_ink_trap,
+        Strategy::Simple => merelsplum_edge_coloring_simple,
+        Strategy::InkTrap => merelsplum_edge_coloring_ink_trap,
     }
 }
 

@@ -10,7 +10,7 @@ use std::time::{Duration, Instant};
 
 #[link(name = "capi", kind = "static")]
 unsafe extern "C" {
-    fn capi_try_add_edge(
+    fn merelsplum_try_add_edge(
         coloring: *mut u8,
         n: usize,
         edge_matrix: *mut u8,
@@ -23,7 +23,7 @@ unsafe extern "C" {
 fn try_add_edge(coloring: &mut [u8], edge_matrix: &mut [u8], (a, b): Pair) -> u64 {
     let (c, n) = (coloring.as_mut_ptr(), coloring.len());
     let (e, m) = (edge_matrix.as_mut_ptr(), edge_matrix.len());
-    unsafe { capi_try_add_edge(c, n, e, m, a, b) }
+    unsafe { merelsplum_try_add_edge(c, n, e, m, a, b) }
 }
 
 /// A buffer with bytes before and after it that must stay as they are.

@@ -1,9 +1,9 @@
--- `capi::edge_coloring::capi_edge_coloring_simple` meets its contract, by those of its callees. Assumes nothing.
+-- `capi::edge_coloring::merelsplum_edge_coloring_simple` meets its contract, by those of its callees. Assumes nothing.
 use borrow.Author.Needs.{needs}
 use Rattle.capi.specs.EdgeColoring.{coloredCode}
 use Rattle.capi.proofs.Handing.{hands-out}
-use Rattle.capi.proofs.edge_coloring.capi_edge_coloring_simple.Statement.{statement}
-use Rattle.capi.proofs.edge_coloring.capi_edge_coloring_simple.Tie as tie
+use Rattle.capi.proofs.edge_coloring.merelsplum_edge_coloring_simple.Statement.{statement}
+use Rattle.capi.proofs.edge_coloring.merelsplum_edge_coloring_simple.Tie as tie
 
 edge-coloring-simple-requires : tie.Need-edge-coloring-simple-requires
 edge-coloring-simple-requires c κs = search needs
@@ -29,8 +29,8 @@ returns c =
     let colored = edge-coloring-simple .edge-coloring-simple .ensures in
     hands-out coloredCode (c .code .ensures) colored
 
-pub capi-edge-coloring-simple-spec : {M : Type 1} → statement M
-capi-edge-coloring-simple-spec =
+pub merelsplum-edge-coloring-simple-spec : {M : Type 1} → statement M
+merelsplum-edge-coloring-simple-spec =
     tie.close
     (tie.spec
     edge-coloring-simple-requires

@@ -1,9 +1,9 @@
--- `capi::by_distance::capi_edge_coloring_by_distance` meets its contract, by those of its callees. Assumes nothing.
+-- `capi::by_distance::merelsplum_edge_coloring_by_distance` meets its contract, by those of its callees. Assumes nothing.
 use borrow.Author.Needs.{needs}
 use Rattle.capi.specs.EdgeColoring.{coloredCode}
 use Rattle.capi.proofs.Handing.{hands-out}
-use Rattle.capi.proofs.by_distance.capi_edge_coloring_by_distance.Statement.{statement}
-use Rattle.capi.proofs.by_distance.capi_edge_coloring_by_distance.Tie as tie
+use Rattle.capi.proofs.by_distance.merelsplum_edge_coloring_by_distance.Statement.{statement}
+use Rattle.capi.proofs.by_distance.merelsplum_edge_coloring_by_distance.Tie as tie
 
 edge-coloring-by-distance-requires : tie.Need-edge-coloring-by-distance-requires
 edge-coloring-by-distance-requires c κs = search needs
@@ -29,8 +29,8 @@ returns c =
     let colored = edge-coloring-by-distance .edge-coloring-by-distance .ensures in
     hands-out coloredCode (c .code .ensures) colored
 
-pub capi-edge-coloring-by-distance-spec : {M : Type 1} → statement M
-capi-edge-coloring-by-distance-spec =
+pub merelsplum-edge-coloring-by-distance-spec : {M : Type 1} → statement M
+merelsplum-edge-coloring-by-distance-spec =
     tie.close
     (tie.spec
     edge-coloring-by-distance-requires

@@ -1,9 +1,9 @@
--- `capi::edge_coloring::capi_edge_coloring_ink_trap` meets its contract, by those of its callees. Assumes nothing.
+-- `capi::edge_coloring::merelsplum_edge_coloring_ink_trap` meets its contract, by those of its callees. Assumes nothing.
 use borrow.Author.Needs.{needs}
 use Rattle.capi.specs.EdgeColoring.{coloredCode}
 use Rattle.capi.proofs.Handing.{hands-out}
-use Rattle.capi.proofs.edge_coloring.capi_edge_coloring_ink_trap.Statement.{statement}
-use Rattle.capi.proofs.edge_coloring.capi_edge_coloring_ink_trap.Tie as tie
+use Rattle.capi.proofs.edge_coloring.merelsplum_edge_coloring_ink_trap.Statement.{statement}
+use Rattle.capi.proofs.edge_coloring.merelsplum_edge_coloring_ink_trap.Tie as tie
 
 edge-coloring-ink-trap-requires : tie.Need-edge-coloring-ink-trap-requires
 edge-coloring-ink-trap-requires c κs = search needs
@@ -29,8 +29,8 @@ returns c =
     let colored = edge-coloring-ink-trap .edge-coloring-ink-trap .ensures in
     hands-out coloredCode (c .code .ensures) colored
 
-pub capi-edge-coloring-ink-trap-spec : {M : Type 1} → statement M
-capi-edge-coloring-ink-trap-spec =
+pub merelsplum-edge-coloring-ink-trap-spec : {M : Type 1} → statement M
+merelsplum-edge-coloring-ink-trap-spec =
     tie.close
     (tie.spec
     edge-coloring-ink-trap-requires

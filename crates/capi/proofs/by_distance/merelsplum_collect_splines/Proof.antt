@@ -1,9 +1,9 @@
--- `capi::by_distance::capi_collect_splines` meets its contract, by those of its callees. Assumes nothing.
+-- `capi::by_distance::merelsplum_collect_splines` meets its contract, by those of its callees. Assumes nothing.
 use borrow.Author.Needs.{needs}
 use Rattle.capi.specs.EdgeColoring.{collectedCode}
 use Rattle.capi.proofs.Handing.{hands-out}
-use Rattle.capi.proofs.by_distance.capi_collect_splines.Statement.{statement}
-use Rattle.capi.proofs.by_distance.capi_collect_splines.Tie as tie
+use Rattle.capi.proofs.by_distance.merelsplum_collect_splines.Statement.{statement}
+use Rattle.capi.proofs.by_distance.merelsplum_collect_splines.Tie as tie
 
 collect-splines-requires : tie.Need-collect-splines-requires
 collect-splines-requires c κs = search needs
@@ -29,8 +29,8 @@ returns c =
     let colored = collect-splines .collect-splines .ensures in
     hands-out collectedCode (c .collected-code .ensures) colored
 
-pub capi-collect-splines-spec : {M : Type 1} → statement M
-capi-collect-splines-spec =
+pub merelsplum-collect-splines-spec : {M : Type 1} → statement M
+merelsplum-collect-splines-spec =
     tie.close
     (tie.spec
     collect-splines-requires
