@@ -30,16 +30,22 @@ unfolding root
 root-floor zero n h = record { low = omega arith; high = omega arith }
 root-floor (suc k) n h = next-digit n (root k (n / 4)) (root-floor k (n / 4) (quarter n (4 ^ k) (rw pow-suc at h))) (leb ((2 * root k (n / 4) + 1) * (2 * root k (n / 4) + 1)) n) refl
 
--- a number has no floor root above another
-not-above : (n r s : ℕ) → Floor n r → Floor n s → s ≤ r
-not-above n r s f g = le-of-suc-le-suc (lt-of-not-le too-large)
+-- no whole number between the floor root and the true one
+pub floor-low : (n r a : ℕ) → Floor n r → a * a ≤ n → a ≤ r
+floor-low n r a f l = le-of-suc-le-suc (lt-of-not-le too-large)
   where
-    too-large : suc r ≤ s → ⊥
-    too-large h = omega (arith, mul-le-mul h h, f .high, g .low)
+    too-large : suc r ≤ a → ⊥
+    too-large h = omega (arith, mul-le-mul h h, f .high)
+
+pub floor-high : (n r a : ℕ) → Floor n r → n < a * a → r < a
+floor-high n r a f l = lt-of-not-le too-small
+  where
+    too-small : a ≤ r → ⊥
+    too-small h = omega (arith, mul-le-mul h h, f .low)
 
 pub floor-unique : (n r s : ℕ) → Floor n r → Floor n s → r ≡ s
-floor-unique n r s f g = le-antisymm (not-above n s r g f) (not-above n r s f g)
+floor-unique n r s f g = le-antisymm (floor-low n s r g (f .low)) (floor-low n r s f (g .low))
 
 -- a root with a remainder of at most twice the root is the floor root
-pub root-of-remainder : (k n r m : ℕ) → n < 4 ^ k → r * r + m ≡ n → m ≤ 2 * r → r ≡ root k n
-root-of-remainder k n r m h e l = floor-unique n r (root k n) (record { low = omega arith; high = omega arith }) (root-floor k n h)
+pub floor-of-remainder : (n r m : ℕ) → r * r + m ≡ n → m ≤ 2 * r → Floor n r
+floor-of-remainder n r m e l = record { low = omega arith; high = omega arith }

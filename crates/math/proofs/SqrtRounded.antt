@@ -1,14 +1,14 @@
 -- The rounding: the rounded root of a scaled number is less than a half away from the true one, and has its leading digit at place 52.
 use mathlib.Core.Path.{_≡_, refl}
 use mathlib.Core.Bool.{Bool, true, false, cond}
-use Prim.Native.Nat.{ℕ, suc, _+_, _-_, _*_, _^_, _≤_, _<_}
-use native.Mathlib.Nat.{mul-le-mul, lt-of-not-le, le-of-suc-le-suc}
+use Prim.Native.Nat.{ℕ, _+_, _-_, _*_, _^_, _≤_, _<_}
+use native.Mathlib.Nat.{mul-le-mul, lt-of-not-le}
 use native.Mathlib.Omega.{arith}
 use lib.Dec.{ltb}
 use borrow.Author.Tests.{ltb-true, ltb-false}
 use Rattle.math.specs.Sqrt.{root, rounded}
 use Rattle.math.proofs.SqrtOpen.{rounded-is}
-use Rattle.math.proofs.RootFloor.{Floor, root-floor}
+use Rattle.math.proofs.RootFloor.{Floor, root-floor, floor-low, floor-high}
 use Rattle.math.proofs.SqrtScale.{Scaled}
 
 pub record Within (n s : ℕ) : Type 0 where
@@ -19,16 +19,10 @@ pub record Within (n s : ℕ) : Type 0 where
   pub below : n ≤ s * s + s
 
 root-low : (n r : ℕ) → Scaled n → Floor n r → 2 ^ 52 ≤ r
-root-low n r b f = le-of-suc-le-suc (lt-of-not-le no)
-  where
-    no : suc r ≤ 2 ^ 52 → ⊥
-    no h = omega (arith, mul-le-mul h h, f .high, b .low)
+root-low n r b f = floor-low n r (2 ^ 52) f (b .low)
 
 root-high : (n r : ℕ) → Scaled n → Floor n r → r < 2 ^ 53
-root-high n r b f = lt-of-not-le no
-  where
-    no : 2 ^ 53 ≤ r → ⊥
-    no h = omega (arith, mul-le-mul h h, f .low, b .high)
+root-high n r b f = floor-high n r (2 ^ 53) f (omega (arith, b .high))
 
 -- the largest root has no remainder that rounds up
 next-low : (n r : ℕ) → Scaled n → r * r + r < n → r + 1 < 2 ^ 53

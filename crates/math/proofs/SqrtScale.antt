@@ -4,9 +4,9 @@
 use mathlib.Core.Path.{_≡_, sym, ap, _∙_}
 use mathlib.Core.Logic.{⊎-elim}
 use Prim.Native.Nat.{ℕ, zero, suc, _+_, _-_, _*_, _/_, _%_, _^_, _≤_, _<_}
-use native.Mathlib.Nat.{mul-assoc, mul-le-mul-right, mul-lt-mul-of-pos-right, lt-of-not-le, lt-of-lt-of-le, lt-of-le-of-lt, lt-irrefl, pow-suc}
+use native.Mathlib.Nat.{mul-assoc, mul-le-mul-right, mul-lt-mul-of-pos-right, lt-of-not-le, lt-of-le-of-lt, lt-irrefl, pow-suc}
 use native.Mathlib.Omega.{arith}
-use lib.Pow.{pow-add, pow-pos, pow-mono, shl-lt}
+use lib.Pow.{pow-add, pow-pos, pow-mono}
 use lib.Count.{leadingZeros, leading-top}
 use Rattle.math.specs.Sqrt.{shift, significand, exponent, scaled, infinityPattern}
 use Rattle.math.proofs.SqrtOpen.{shift-is, significand-low, significand-high, exponent-low, exponent-high, scaled-is}
@@ -95,11 +95,11 @@ scaled-bounds b p h =
     rw (scaled-is b) (even-or-odd (significand b) (n .low) (n .high) (exponent b % 2) (omega arith))
 
 -- it is a word, the significand or twice that, times 2 ^ 52
-pub word-high : (b : ℕ) → 0 < b → b < infinityPattern → significand b * 2 ^ (exponent b % 2) < 2 ^ 54
-word-high b p h = lt-of-lt-of-le (shl-lt 53 (exponent b % 2) (normalised b p h .high)) (pow-mono {j = 54} (omega arith))
-
 pub word-scaled : (b : ℕ) → significand b * 2 ^ (exponent b % 2) * 2 ^ 52 ≡ scaled b
 word-scaled b = mul-assoc (significand b) (2 ^ (exponent b % 2)) (2 ^ 52) ∙ ap (λ (x : ℕ). significand b * x) (sym (pow-add 2 (exponent b % 2) 52)) ∙ sym (scaled-is b)
+
+pub word-bounds : (b : ℕ) → 0 < b → b < infinityPattern → (2 ^ 52 ≤ significand b * 2 ^ (exponent b % 2)) × (significand b * 2 ^ (exponent b % 2) < 2 ^ 54)
+word-bounds b p h = let s = scaled-bounds b p h in omega (arith, word-scaled b)
 
 -- half the exponent goes to the result
 unfoldable pub half : ℕ → ℕ

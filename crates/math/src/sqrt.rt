@@ -7,6 +7,9 @@ ghost use Rattle.math.specs.Sqrt.{root, shift, significand, exponent, ro
 // 2^52: the weight of the exponent's field, and of a significand's leading digit.
 const LEADING: u64 = 0x10_0000_0000_0000;
 
+// 2^26: parts a significand into halves, and the root's first 27 digits from its last 26.
+const MIDDLE: u64 = 0x400_0000;
+
 const SIGN: u64 = 0x8000_0000_0000_0000;
 
 const INFINITY: u64 = 0x7FF0_0000_0000_0000;
@@ -45,12 +48,10 @@ fn exponent(bits: u64) -> u64
     }
 }
 
-// A root in the making: its digits so far, what their square leaves of the digits taken from the
-// number, and the digits not taken yet, the next two at places 52 and 53.
+// A root in the making: its digits so far, and what their square leaves of the digits taken from the number.
 struct Partial {
     root: u64,
     rem: u64,
-    rest: u64,
 }
 
 // The next digit: 1 where odd can be taken from rem. Without a branch, since digits are as good as random.
@@ -61,41 +62,72 @@ fn digit(odd: u64, rem: u64) -> u64
 }
 
 // One more digit of the root, from two more of the number.
-fn next_digit(s: Partial) -> Partial
-    requires { ⌜ (s .root < 2 ^ 52) × (s .rem ≤ 2 * s .root) × (s .rest < 2 ^ 54) ⌝ }
-    ensures { λ t. ⌜ ((t .root * t .root + t .rem) * 2 ^ 54 + t .rest ≡ 4 * ((s .root * s .root + s .rem) * 2 ^ 54 + s .rest))
-        × (t .root ≤ 2 * s .root + 1) × (t .rem ≤ 2 * t .root) × (t .rest < 2 ^ 54) ⌝ }
+fn next_digit(s: Partial, low: u64) -> Partial
+    requires { ⌜ (s .root < 2 ^ 13) × (s .rem ≤ 2 * s .root) × (low < 4) ⌝ }
+    ensures { λ t. ⌜ (t .root * t .root + t .rem ≡ (s .root * s .root + s .rem) * 4 + low)
+        × (t .root ≤ 2 * s .root + 1) × (t .rem ≤ 2 * t .root) ⌝ }
 {
-    let rem = s.rem * 4 + s.rest / LEADING;
-    let rest = s.rest % LEADING * 4;
+    let rem = s.rem * 4 + low;
     let odd = s.root * 4 + 1;
     let digit = digit(odd, rem);
     Partial {
         root: s.root * 2 + digit,
         rem: rem - odd * digit,
-        rest,
     }
 }
 
-// The floor root of n * 2^52 and its remainder: 27 digits from n, 26 more from the zeros below it.
-fn floor_root(n: u64) -> Partial
-    requires { ⌜ n < 2 ^ 54 ⌝ }
-    ensures { λ t. ⌜ (t .root ≡ root 53 (n * 2 ^ 52)) × (t .root * t .root + t .rem ≡ n * 2 ^ 52) × (t .root < 2 ^ 53) ⌝ }
+// The first 14 digits, one by one. Of the digits not taken yet, the next two are at places 26 and 27.
+fn first_digits(n: u64) -> Partial
+    requires { ⌜ n < 2 ^ 28 ⌝ }
+    ensures { λ t. ⌜ (t .root * t .root + t .rem ≡ n) × (t .root < 2 ^ 14) × (t .rem ≤ 2 * t .root) ⌝ }
 {
-    let mut s = Partial {
-        root: 0,
-        rem: 0,
-        rest: n,
-    };
-    for _ in 0..53u64 {
-        s = next_digit(s);
+    let mut s = Partial { root: 0, rem: 0 };
+    let mut rest = n;
+    for _ in 0..14u64 {
+        s = next_digit(s, rest / MIDDLE);
+        rest = rest % MIDDLE * 4;
     }
     s
 }
 
+// Many more digits by one division, as in Karatsuba's square root: with weight = 2^k, k digits of the root from 2k more of the number.
+// The quotient is at most one too large.
+fn next_digits(s: Partial, weight: u64, low: u64) -> Partial
+    requires { ⌜ (0 < weight) × (weight ≤ s .root) × (s .root < 2 ^ 27) × (s .rem ≤ 2 * s .root) × (low < weight * weight) ⌝ }
+    ensures { λ t. ⌜ (t .root * t .root + t .rem ≡ (s .root * s .root + s .rem) * (weight * weight) + low) × (t .rem ≤ 2 * t .root) ⌝ }
+{
+    let twice = s.root * 2;
+    let part = s.rem * weight + low / weight;
+    let q = part / twice;
+    let root = s.root * weight + q;
+    let rem = part % twice * weight + low % weight;
+    let square = q * q;
+    if square <= rem {
+        return Partial {
+            root,
+            rem: rem - square,
+        };
+    }
+    Partial {
+        root: root - 1,
+        rem: rem + root * 2 - 1 - square,
+    }
+}
+
+// The floor root of n * 2^52 and its remainder, 53 digits: 14 one by one from the upper half of n, then by a division each 13 from its lower
+// half and 26 from the zeros below it.
+fn floor_root(n: u64) -> Partial
+    requires { ⌜ (2 ^ 52 ≤ n) × (n < 2 ^ 54) ⌝ }
+    ensures { λ t. ⌜ (t .root ≡ root 53 (n * 2 ^ 52)) × (t .root * t .root + t .rem ≡ n * 2 ^ 52) × (t .root < 2 ^ 53) ⌝ }
+{
+    let s = first_digits(n / MIDDLE);
+    let t = next_digits(s, 0x2000, n % MIDDLE);
+    next_digits(t, MIDDLE, 0)
+}
+
 // To the nearest: up where the remainder is above the root.
 fn rounded(n: u64) -> u64
-    requires { ⌜ n < 2 ^ 54 ⌝ }
+    requires { ⌜ (2 ^ 52 ≤ n) × (n < 2 ^ 54) ⌝ }
     ensures { λ r. ⌜ r ≡ rounded (n * 2 ^ 52) ⌝ }
 {
     let s = floor_root(n);

@@ -1,80 +1,36 @@
--- `math::sqrt::floor_root` meets its contract. The loop's invariant: after i turns the square of the root's digits, with what is left over, and
--- below them the digits not taken yet, are n · 4 ^ i.
-use mathlib.Core.Path.{_≡_, ap, _∙_}
-use Prim.Native.Nat.{ℕ, _+_, _-_, _*_, _^_, _≤_, _<_}
-use native.Mathlib.Nat.{pow-suc, le-of-suc-le-suc, lt-of-lt-of-le}
-use native.Mathlib.Numerals.{add-one}
+-- `math::sqrt::floor_root` meets its contract: a root with a remainder of at most twice the root is the floor root, at each of the three steps.
+use mathlib.Core.Path.{_≡_}
+use Prim.Native.Nat.{_+_, _*_, _^_}
 use native.Mathlib.Omega.{arith}
-use lib.Pow.{pow-mono}
-use Rattle.math.specs.Sqrt as spec
-use Rattle.math.proofs.RootFloor.{root-of-remainder}
+use borrow.Author.Needs.{needs}
+use Rattle.math.proofs.RootFloor.{root-floor, floor-low, floor-high, floor-unique, floor-of-remainder}
 use Rattle.math.proofs.sqrt.floor_root.Statement.{statement}
 use Rattle.math.proofs.sqrt.floor_root.Tie as tie
 
-record Taken (n i root rem rest : ℕ) : Type 0 where
-  turns : i ≤ 53
-  whole : (root * root + rem) * 2 ^ 54 + rest ≡ n * 4 ^ i
-  digits : root < 2 ^ i
-  over : rem ≤ 2 * root
-  low : rest < 2 ^ 54
+first-digits-requires : tie.Need-first-digits-requires
+first-digits-requires c κs = search needs
 
--- one turn, as `next_digit` ensures it
-step : (n i root rem rest root′ rem′ rest′ : ℕ) → Taken n i root rem rest → i < 53
-    → (root′ * root′ + rem′) * 2 ^ 54 + rest′ ≡ 4 * ((root * root + rem) * 2 ^ 54 + rest) → root′ ≤ 2 * root + 1 → rem′ ≤ 2 * root′ → rest′ < 2 ^ 54
-    → Taken n (i + 1) root′ rem′ rest′
-step n i root rem rest root′ rem′ rest′ t l e d o h =
-    let p : 4 ^ (i + 1) ≡ 4 ^ i * 4 = ap (λ (k : ℕ). 4 ^ k) (add-one i) ∙ pow-suc 4 i in
-    let q : 2 ^ (i + 1) ≡ 2 ^ i * 2 = ap (λ (k : ℕ). 2 ^ k) (add-one i) ∙ pow-suc 2 i in
-    let w : n * 4 ^ (i + 1) ≡ n * (4 ^ i * 4) = ap (λ (k : ℕ). n * k) p in
-    record { turns = omega arith; whole = omega (arith, t .whole, e, w); digits = omega (arith, t .digits, q); over = o; low = h }
+next-digits-requires : tie.Need-next-digits-requires
+next-digits-requires c κs =
+    let e = c .first-digits .ensures in
+    let low = floor-low _ _ (2 ^ 13) (floor-of-remainder _ _ _ (e .0) (e .2)) (omega arith) in
+    omega arith
 
--- after the last turn no digit is left
-ended : (n root rem rest : ℕ) → n < 2 ^ 54 → Taken n 53 root rem rest → (root ≡ spec.root 53 (n * 2 ^ 52)) × (root * root + rem ≡ n * 2 ^ 52) × (root < 2 ^ 53)
-ended n root rem rest h t =
-    let e : root * root + rem ≡ n * 2 ^ 52 = omega (arith, t .whole, t .low) in
-    (root-of-remainder 53 (n * 2 ^ 52) root rem (omega arith) e (t .over), e, t .digits)
+next-digits-requires-2 : tie.Need-next-digits-requires-2
+next-digits-requires-2 c κs =
+    let f = floor-of-remainder (c .before .before .args .n) _ _ (omega arith) (c .next-digits .ensures .1) in
+    let low = floor-low _ _ (2 ^ 26) f (omega arith) in
+    let high = floor-high _ _ (2 ^ 27) f (omega arith) in
+    omega arith
 
-abbrev Inv-loop : tie.InvT-loop
-Inv-loop n s₀ counter₀ s counter = Taken n counter (s .root) (s .rem) (s .rest)
-
-abbrev μ-loop : tie.MeasureT-loop
-μ-loop n s₀ counter₀ s counter = 53 - counter
-
-loop-holds : tie.Need-loop-holds Inv-loop μ-loop
-loop-holds c = omega arith
-
-next-digit-requires : tie.Need-next-digit-requires Inv-loop μ-loop
-next-digit-requires c κs =
-    let inv = c .before .loop .inv in
-    (lt-of-lt-of-le (inv .digits) (pow-mono (le-of-suc-le-suc (c .loop-test .taken))), inv .over, inv .low)
-
-add-counter : tie.Need-add-counter Inv-loop μ-loop
-add-counter c = omega arith
-
-loop-less : tie.Need-loop-less Inv-loop μ-loop
-loop-less c = omega arith
-
-loop-again : tie.Need-loop-again Inv-loop μ-loop
-loop-again c =
-    let at-loop = c .before .before in
-    let e = c .next-digit .ensures in
-    step _ _ _ _ _ _ _ _ (at-loop .loop .inv) (c .before .loop-test .taken) (e .0) (e .1) (e .2) (e .3)
-
-returns : tie.Need-returns Inv-loop μ-loop
+returns : tie.Need-returns
 returns c =
-    let at-loop = c .before in
-    let all : at-loop .loop .counter ≡ 53 = omega arith in
-    ended _ _ _ _ (at-loop .before .pre) (rw all at (at-loop .loop .inv))
+    let n = c .before .before .before .args .n * 2 ^ 52 in
+    let t = c .next-digits2 .result in
+    let whole : t .root * t .root + t .rem ≡ n = omega arith in
+    let f = floor-of-remainder n _ _ whole (c .next-digits2 .ensures .1) in
+    (floor-unique n _ _ f (root-floor 53 n (omega arith)), whole, floor-high _ _ (2 ^ 53) f (omega arith))
 
 pub floor-root-spec : {M : Type 1} → statement M
 floor-root-spec =
-    tie.close
-    (tie.spec
-    Inv-loop
-    μ-loop
-    loop-holds
-    next-digit-requires
-    add-counter
-    loop-less
-    loop-again
-    returns)
+    tie.close (tie.spec first-digits-requires next-digits-requires next-digits-requires-2 returns)

@@ -1,7 +1,7 @@
 -- `math::sqrt::next_digit` meets its contract: by the digit, 1 or 0.
 use mathlib.Core.Path.{_≡_}
 use mathlib.Core.Logic.{_⊎_, inl, inr}
-use Prim.Native.Nat.{ℕ, _+_, _-_, _*_, _/_, _%_, _^_, _≤_, _<_}
+use Prim.Native.Nat.{ℕ, _+_, _-_, _*_, _≤_, _<_}
 use native.Mathlib.Omega.{arith}
 use borrow.Author.Needs.{needs}
 use Rattle.math.proofs.sqrt.next_digit.Statement.{statement}
@@ -19,23 +19,18 @@ taken-within : (odd rem d : ℕ) → Digit odd rem d → odd * d ≤ rem
 taken-within odd rem d (inl p) = rw (p .1) (omega (arith, p .0))
 taken-within odd rem d (inr p) = rw (p .1) (omega arith)
 
-step : (root rem rest d : ℕ) → rem ≤ 2 * root → rest < 2 ^ 54 → Digit (root * 4 + 1) (rem * 4 + rest / 2 ^ 52) d
-    → (((root * 2 + d) * (root * 2 + d) + (rem * 4 + rest / 2 ^ 52 - (root * 4 + 1) * d)) * 2 ^ 54 + rest % 2 ^ 52 * 4
-    ≡ 4 * ((root * root + rem) * 2 ^ 54 + rest))
+step : (root rem low d : ℕ) → rem ≤ 2 * root → low < 4 → Digit (root * 4 + 1) (rem * 4 + low) d
+    → ((root * 2 + d) * (root * 2 + d) + (rem * 4 + low - (root * 4 + 1) * d) ≡ (root * root + rem) * 4 + low)
     × (root * 2 + d ≤ 2 * root + 1)
-    × (rem * 4 + rest / 2 ^ 52 - (root * 4 + 1) * d ≤ 2 * (root * 2 + d))
-    × (rest % 2 ^ 52 * 4 < 2 ^ 54)
-step root rem rest d h l (inl p) = rw (p .1) (omega (arith, p .0), omega arith, omega (arith, p .0), omega arith)
-step root rem rest d h l (inr p) = rw (p .1) (omega (arith, p .0), omega arith, omega (arith, p .0), omega arith)
+    × (rem * 4 + low - (root * 4 + 1) * d ≤ 2 * (root * 2 + d))
+step root rem low d h l (inl p) = rw (p .1) (omega (arith, p .0), omega arith, omega (arith, p .0))
+step root rem low d h l (inr p) = rw (p .1) (omega (arith, p .0), omega arith, omega (arith, p .0))
 
 mul-rem : tie.Need-mul-rem
 mul-rem c = search needs
 
 add-rem : tie.Need-add-rem
 add-rem c = search needs
-
-mul-rest : tie.Need-mul-rest
-mul-rest c = search needs
 
 mul-odd : tie.Need-mul-odd
 mul-odd c = search needs
@@ -60,21 +55,10 @@ sub-t9 c = taken-within _ _ _ (c .before .digit .ensures)
 
 returns : tie.Need-returns
 returns c =
-    let start = c .before .before .before .before .before .before in
-    step (start .args .s .root) (start .args .s .rem) (start .args .s .rest) _ (start .pre .1) (start .pre .2) (c .before .digit .ensures)
+    let start = c .before .before .before .before in
+    step (start .args .s .root) (start .args .s .rem) (start .args .low) _ (start .pre .1) (start .pre .2) (c .before .digit .ensures)
 
 pub next-digit-spec : {M : Type 1} → statement M
 next-digit-spec =
     tie.close
-    (tie.spec
-    mul-rem
-    add-rem
-    mul-rest
-    mul-odd
-    add-odd
-    digit-requires
-    mul-t6
-    add-t7
-    mul-t8
-    sub-t9
-    returns)
+    (tie.spec mul-rem add-rem mul-odd add-odd digit-requires mul-t6 add-t7 mul-t8 sub-t9 returns)

@@ -7,14 +7,14 @@ use borrow.Author.Needs.{needs}
 use lib.Dec.{lit≤}
 use Rattle.math.specs.Sqrt as spec
 use Rattle.math.proofs.SqrtOpen.{positiveRoot-is}
-use Rattle.math.proofs.SqrtScale.{normalised, scaled-bounds, word-high, word-scaled}
+use Rattle.math.proofs.SqrtScale.{normalised, scaled-bounds, word-bounds, word-scaled}
 use Rattle.math.proofs.SqrtRounded.{rounded-within}
 use Rattle.math.proofs.sqrt.positive_root.Statement.{statement}
 use Rattle.math.proofs.sqrt.positive_root.Tie as tie
 
 -- the shift loses nothing
 word-is : (b e m : ℕ) → 0 < b → b < spec.infinityPattern → e ≡ spec.exponent b → m ≡ spec.significand b → m * 2 ^ (e % 2) % 2 ^ 64 ≡ spec.significand b * 2 ^ (spec.exponent b % 2)
-word-is b e m p h x y = rw (x, y) (mod-eq-of-lt (lt-of-lt-of-le (word-high b p h) (lit≤ tt)))
+word-is b e m p h x y = rw (x, y) (mod-eq-of-lt (lt-of-lt-of-le (word-bounds b p h .1) (lit≤ tt)))
 
 exponent-requires : tie.Need-exponent-requires
 exponent-requires c κs = search needs
@@ -37,7 +37,7 @@ rounded-requires : tie.Need-rounded-requires
 rounded-requires c κs =
     let start = c .before .before in
     let b = start .args .bits in
-    rw (word-is b _ _ (start .pre .0) (start .pre .1) (c .before .exponent .ensures) (c .significand .ensures)) (word-high b (start .pre .0) (start .pre .1))
+    rw (word-is b _ _ (start .pre .0) (start .pre .1) (c .before .exponent .ensures) (c .significand .ensures)) (word-bounds b (start .pre .0) (start .pre .1))
 
 root-is : (c : tie.After-rounded) → c .rounded .result ≡ spec.rounded (spec.scaled (c .before .before .before .args .bits))
 root-is c =
