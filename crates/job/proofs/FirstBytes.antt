@@ -26,6 +26,7 @@ use Rattle.coloring.specs.Outline.{Result}
 use Rattle.job.specs.Job.{noJob, jobFrom, Reading, reads, refuses, readJob}
 use Rattle.job.specs.Color.{colorReading, colorFile, acceptedReading, accepted}
 use Rattle.job.specs.Part.{contourPart}
+use Rattle.job.specs.Listing.{readingText, fileText}
 use Rattle.job.specs.Progress.{begin, advanced}
 use Rattle.job.proofs.RecordLaws.{controls-few}
 use Rattle.job.proofs.ReadingLaws.{taken, end-size, records-next, records-fault}
@@ -194,11 +195,15 @@ first-bytes-decide file = go (leb (length file) 34000) refl
         let whole : short ++ more ≡ file = take-append-drop 34000 file in
         ap (jobFrom noJob) (sym (same-records short more size 34000 begin (reached-begin (short ++ more)) (omega arith))) ∙ ap readJob whole
 
--- ---- what follows for a file's colouring, its acceptance and the parts of its contours
+-- ---- what follows for a file's colouring, its text, its acceptance and the parts of its contours
 
 pub first-bytes-color : (file : List ℕ) (old : Result) → colorFile (take 34000 file) old ≡ colorFile file old
 unfolding colorFile
 first-bytes-color file old = ap (λ (r : Reading). colorReading r old) (first-bytes-decide file)
+
+pub first-bytes-text : (file : List ℕ) → fileText (take 34000 file) ≡ fileText file
+unfolding fileText
+first-bytes-text file = ap readingText (first-bytes-decide file)
 
 pub accepted-few : (file : List ℕ) → accepted file ≡ true → length file ≤ 33177
 unfolding accepted acceptedReading

@@ -22,3 +22,4 @@ pub mod FirstBytes
 -- the text of an answer
 pub mod ListingLaws
 pub mod PasteLaws
+pub mod AnswerLaws

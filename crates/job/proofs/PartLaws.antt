@@ -15,7 +15,7 @@ use Rattle.job.specs.declared.part.Seek.the-variants.{Passing, Open, Don
 use Rattle.job.specs.Records.{ends, fails, itemOf, readRecord, recordsFrom}
 use Rattle.job.specs.Progress.{begin, advanced}
 use Rattle.job.specs.Color.{accepted}
-use Rattle.job.specs.Part.{sought, spanOf, seek, contourSpan, contourPart, Inside}
+use Rattle.job.specs.Part.{sought, spanOf, seek, contourSpan, contourPlace, contourPart, Inside}
 use Rattle.job.proofs.ReadingLaws.{Read-as, records-end, records-fault}
 use Rattle.job.proofs.ProgressLaws.{Reached, reached-begin, reached-next, records-ahead, place-after, further}
 
@@ -80,10 +80,14 @@ module _ (file : List ℕ) (number : ℕ) (p : Progress) (q : Seek) (here : Seek
 
 -- ---- the part
 
+pub place-refused : (file : List ℕ) (number : ℕ) → accepted file ≡ false → contourPlace file number ≡ record { start = 0; end = 0 }
+unfolding contourPlace
+place-refused file number h = rw h
+
+pub place-accepted : (file : List ℕ) (number : ℕ) → accepted file ≡ true → contourPlace file number ≡ contourSpan file number
+unfolding contourPlace
+place-accepted file number h = rw h
+
 pub part-refused : (file : List ℕ) (number : ℕ) → accepted file ≡ false → contourPart file number ≡ []
 unfolding contourPart
-part-refused file number h = rw h
-
-pub part-accepted : (file : List ℕ) (number : ℕ) (span : Span) → accepted file ≡ true → span ≡ contourSpan file number → contourPart file number ≡ take (span .end - span .start) (drop (span .start) file)
-unfolding contourPart
-part-accepted file number span h e = rw (h, e)
+part-refused file number h = rw (place-refused file number h)

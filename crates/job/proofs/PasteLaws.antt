@@ -6,6 +6,7 @@ use native.Mathlib.Omega.{arith}
 use native.Mathlib.Numerals.{add-one}
 use lib.ListN.{length, take, drop, set, length-append, length-drop, take-append-drop}
 use lib.Seq.{drop-drop, take-at, drop-at, set-split, length-take-le}
+use Rattle.coloring.specs.Outline.{over}
 use Rattle.job.specs.Listing.{pasted, Pasted}
 
 pasted-length : (at : ℕ) (text out : List ℕ) → at + length text ≤ length out → length (pasted at text out) ≡ length out
@@ -25,6 +26,15 @@ pasted-twice at a b out h =
 
 pub pasted-kept : {text old new : List ℕ} {at next : ℕ} → Pasted text at old next new → at + length text ≤ length old → length new ≡ length old
 pasted-kept {text = text} {old = old} {at = at} p h = ap length (p .holds) ∙ pasted-length at text old h
+
+-- a text at the start of a buffer
+pub pasted-front : {text old new : List ℕ} {next : ℕ} → Pasted text 0 old next new → take next new ≡ text
+unfolding pasted
+pasted-front {text = text} {next = next} p = rw (p .holds) (take-at text _ next (omega (arith, p .place)))
+
+pub pasted-over : {text old new : List ℕ} {next : ℕ} → Pasted text 0 old next new → new ≡ over text old
+unfolding pasted over
+pasted-over {text = text} {old = old} p = let e : 0 + length text ≡ length text = omega arith in p .holds ∙ rw e
 
 -- one text, then another
 pub pasted-then : {a b old mid new : List ℕ} {at next last : ℕ} → Pasted a at old next mid → Pasted b next mid last new → at + length a + length b ≤ length old → Pasted (a ++ b) at old last new

@@ -16,15 +16,27 @@ use Rattle.geometry.specs.declared.edge_color.EdgeColor.{EdgeColor}
 use Rattle.geometry.specs.declared.edge_color.EdgeColor.the-variants.{Black, Red, Green, Yellow, Blue, Magenta, Cyan, White}
 use Rattle.geometry.specs.declared.edge_segment.EdgeSegment.{EdgeSegment}
 use Rattle.coloring.specs.declared.settings.Strategy.{Strategy}
+use Rattle.coloring.specs.declared.settings.Strategy.the-variants.{Simple, InkTrap}
+use Rattle.coloring.specs.declared.settings.Marking.the-variants.{Colors, Numbers}
 use Rattle.coloring.specs.declared.switching.Pen.{Pen}
 use Rattle.coloring.specs.Places.{range, rotate, byPlace, concat, total}
 use Rattle.coloring.specs.Corners.{Cornered, searchCorners, lastEdge, flagsFrom, cornerFlags, cornerCount, firstCorner}
 use Rattle.coloring.specs.Layout.{thirds, splits, layout, resultEdges, resultCorner}
 use Rattle.coloring.specs.Teardrop.{runs, teardrop}
-use Rattle.coloring.specs.Splines.{spread, splineCount, paint}
+use Rattle.coloring.specs.Splines.{spread, splineCount, splineTotal, paint}
+use Rattle.coloring.specs.SplineColors.{colorSplines}
 use Rattle.coloring.specs.Contour.{ContourColors, splineColors, colorContour}
-use Rattle.coloring.specs.Shape.{noSpline, colorContours, numberContours}
+use Rattle.coloring.specs.Switching.{initColor}
+use Rattle.coloring.specs.Outline.{Result, encode}
+use Rattle.coloring.specs.Shape.{noSpline, colorContours, numberContours, markContours, painted}
+use Rattle.coloring.specs.ByDistance.{splineColor, splineByte, withBytes}
+use Rattle.job.specs.Job.{Job, reads, readJob}
 use Rattle.job.specs.Progress.{edgeCount}
+use Rattle.job.specs.Buffers.{kindsOf, placesOf}
+use Rattle.job.specs.Color.{foundIn, colored}
+use Rattle.job.proofs.ProgressLaws.{contours-few, edges-few}
+use Rattle.job.proofs.StoredLaws.{lengthsOf, kinds-length, places-length}
+use Rattle.job.proofs.ColorLaws.{total-lengths}
 use Rattle.job.proofs.ListingLaws.{AreColors}
 
 -- ---- lengths
@@ -233,3 +245,70 @@ pub colors-concat : (contours : List (List EdgeColor)) → AreColors (concat (ma
 unfolding concat
 colors-concat [] i = omega arith
 colors-concat (c ∷ contours) i = colors-append (map bitsOf c) (concat (map (map bitsOf) contours)) (colors-map (λ (x : EdgeColor). x) c) (colors-concat contours) i
+
+-- ---- the coloured shape of a job that was read
+
+pub record ShapeOf (job : Job) (shape : Result) : Type 0 where
+  pub contours-are : length (shape .lengths) ≡ length (job .contours)
+  pub contours-fit : length (shape .lengths) ≤ 64
+  pub edges-fit : length (shape .kinds) ≤ 508
+  pub edges-add : total (shape .lengths) ≡ length (shape .kinds)
+  pub places : length (shape .points) ≡ 8 * length (shape .kinds)
+  pub marked : length (shape .colors) ≡ length (shape .kinds)
+  pub are-colors : AreColors (shape .colors)
+
+module _ (file : List ℕ) (job : Job) (e : readJob file ≡ reads job) where
+  abbrev edges : List (List EdgeSegment)
+  edges = map layout (foundIn job)
+
+  edges-out : length (concat edges) ≡ edgesOut (foundIn job)
+  unfolding foundIn
+  edges-out = all-laid-out (job .threshold) (job .contours)
+
+  found-length : length (foundIn job) ≡ length (job .contours)
+  unfolding foundIn
+  found-length = length-map (job .contours) (searchCorners (job .threshold))
+
+  out-few : edgesOut (foundIn job) ≤ 508
+  unfolding foundIn
+  out-few =
+      let found = foundIn job in
+      edges-most (length found) (edgesIn found) (edgesOut found) (few found)
+      (omega (arith, found-length, contours-few file job e)) (omega (arith, all-in (job .threshold) (job .contours), edges-few file job e))
+
+  -- its edges, with a colour for each
+  with-colors : (colors : List ℕ) → length colors ≡ edgesOut (foundIn job) → AreColors colors
+      → ShapeOf job (record { lengths = lengthsOf edges; kinds = kindsOf (concat edges); points = placesOf (concat edges); colors = colors })
+  with-colors colors n are =
+      let contours = length-map edges (λ (c : List EdgeSegment). length c) ∙ length-map (foundIn job) layout ∙ found-length in
+      let kinds = kinds-length (concat edges) in
+      record {
+        contours-are = contours;
+        contours-fit = omega (arith, contours, contours-few file job e);
+        edges-fit = omega (arith, kinds, edges-out, out-few);
+        edges-add = total-lengths edges ∙ sym kinds;
+        places = omega (arith, kinds, places-length (concat edges));
+        marked = omega (arith, kinds, n, edges-out);
+        are-colors = are;
+      }
+
+  by-colors : (strategy : Strategy) → ShapeOf job (painted (Colors strategy (job .seed)) (foundIn job))
+  unfolding painted encode markContours
+  by-colors strategy =
+      let pen = initColor (job .seed) in
+      with-colors _ (all-colored strategy pen (foundIn job)) (colors-concat (colorContours strategy pen (foundIn job)))
+
+  by-numbers : (coloring : List ℕ) → ShapeOf job (withBytes (splineByte coloring) (painted Numbers (foundIn job)))
+  unfolding painted encode markContours
+  by-numbers coloring =
+      let numbers = concat (numberContours 0 (foundIn job)) in
+      with-colors _ (length-map numbers (splineByte coloring) ∙ all-numbered 0 (foundIn job)) (colors-map (splineColor coloring) numbers)
+
+  pub shape-of : ShapeOf job (colored job)
+  unfolding colored
+  shape-of = go (eqb (job .strategy) 1) (eqb (job .strategy) 2) (by-colors Simple) (by-colors InkTrap) (by-numbers (colorSplines (splineTotal (foundIn job)) (job .distances) (job .seed)))
+    where
+      go : (a b : Bool) {x y z : Result} → ShapeOf job x → ShapeOf job y → ShapeOf job z → ShapeOf job (cond a x (cond b y z))
+      go true b x y z = x
+      go false true x y z = y
+      go false false x y z = z

@@ -7,6 +7,7 @@ use lib.Ieee.{Float}
 use lib.ListN.{length}
 use Rattle.coloring.specs.declared.outline.Checked.{Checked}
 use Rattle.coloring.specs.declared.outline.Checked.the-variants.{Passed, Failed}
+use Rattle.coloring.specs.declared.outline.Counts.{Counts}
 use Rattle.coloring.specs.Refusal.{refusalNumber}
 use Rattle.coloring.specs.declared.outline.Colored.{Colored}
 use Rattle.coloring.specs.declared.outline.Colored.the-variants.{Edges, Refused}
@@ -67,6 +68,20 @@ unfoldable pub colorFile : List ℕ → Result → Outcome
 unfolding readJob colorReading
 colorFile file = colorReading (readJob file)
 
+-- the answer where every result has room
+abbrev pub answered : Checked → Counts → Colored
+answered Passed counts = Edges counts
+answered (Failed refusal) counts = Refused refusal
+
+unfoldable pub checkReading : Reading → Colored
+unfolding foundIn checkJob colored countsOf
+checkReading (reads job) = answered (checkJob job) (countsOf (foundIn job) (colored job))
+checkReading (refuses refusal) = Refused refusal
+
+unfoldable pub checkFile : List ℕ → Colored
+unfolding readJob checkReading
+checkFile file = checkReading (readJob file)
+
 -- accepted: reading and colouring give no number other than 11
 abbrev pub isPassed : Checked → Bool
 isPassed Passed = true
@@ -106,3 +121,10 @@ pub record HoldsJobs (b : Buffers) : Type 0 where
   pub kinds-fit : 256 ≤ length (b .kinds)
   pub points-fit : 2048 ≤ length (b .points)
   pub distances-fit : 2016 ≤ length (b .distances)
+
+-- four buffers that hold every result
+pub record HoldsResults (b : Result) : Type 0 where
+  pub lengths-fit : 64 ≤ length (b .lengths)
+  pub kinds-fit : 508 ≤ length (b .kinds)
+  pub points-fit : 4064 ≤ length (b .points)
+  pub colors-fit : 508 ≤ length (b .colors)

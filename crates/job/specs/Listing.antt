@@ -2,12 +2,20 @@
 -- with the refusal's number.
 use Prim.Native.Nat.{ℕ, zero, suc, _+_, _/_, _%_}
 use mathlib.Core.Path.{_≡_}
-use mathlib.Core.Bool.{true, false}
+use mathlib.Core.Bool.{true, false, cond}
 use mathlib.Core.List.{List, [], _∷_, _++_}
 use lib.ListN.{length, take, drop, getD}
-use lib.Dec.{ltb}
+use lib.Dec.{leb, ltb}
 use Rattle.coloring.specs.Refusal.{refusalNumber}
 use Rattle.coloring.specs.declared.refusal.Refusal.{Refusal}
+use Rattle.coloring.specs.declared.refusal.Refusal.the-variants.{ResultTooShort}
+use Rattle.coloring.specs.declared.outline.Checked.{Checked}
+use Rattle.coloring.specs.declared.outline.Checked.the-variants.{Passed, Failed}
+use Rattle.coloring.specs.Outline.{Result, over}
+use Rattle.job.specs.declared.listing.Listed.{Listed}
+use Rattle.job.specs.declared.listing.Listed.the-variants.{Bytes, Refused}
+use Rattle.job.specs.Job.{Reading, reads, refuses, readJob}
+use Rattle.job.specs.Color.{checkJob, colored}
 
 -- ---- numbers and letters
 
@@ -76,7 +84,44 @@ unfoldable pub refusalLine : Refusal → List ℕ
 unfolding decimal
 refusalLine refusal = refusedWord ++ (decimal (refusalNumber refusal) ++ (newline ∷ []))
 
+-- ---- a file
+
+-- the coloured shape where the checks are passed
+abbrev pub checkedText : Checked → Result → List ℕ
+checkedText Passed shape = listing (shape .lengths) (shape .kinds) (shape .colors)
+checkedText (Failed refusal) shape = refusalLine refusal
+
+unfoldable pub readingText : Reading → List ℕ
+unfolding checkJob colored listing refusalLine
+readingText (reads job) = checkedText (checkJob job) (colored job)
+readingText (refuses refusal) = refusalLine refusal
+
+-- what `channels` prints
+unfoldable pub fileText : List ℕ → List ℕ
+unfolding readJob readingText
+fileText file = readingText (readJob file)
+
+-- the answer and the buffer: the text over what stood there, and its length; 11 where it would not fit
+pub record Outcome : Type 0 where
+  pub answer : Listed
+  pub buffer : List ℕ
+
+unfoldable pub listFile : List ℕ → List ℕ → Outcome
+unfolding fileText over
+listFile file old =
+    let text = fileText file in
+    cond (leb (length text) (length old))
+    (record { answer = Bytes (length text); buffer = over text old })
+    (record { answer = Refused ResultTooShort; buffer = old })
+
 -- ---- in the words of contracts
+
+abbrev pub outcome : Listed → List ℕ → Outcome
+outcome answer buffer = record { answer = answer; buffer = buffer }
+
+abbrev pub contourCount : Reading → ℕ
+contourCount (reads job) = length (job .contours)
+contourCount (refuses refusal) = 0
 
 -- a number and the byte after it
 abbrev pub field : ℕ → ℕ → List ℕ

@@ -1,7 +1,7 @@
 -- The part of a file that is one contour (document 01, "Trays and the job file"): from its CT up to the next CT, DS or EN.
 use Prim.Native.Nat.{ℕ, zero, suc, _+_, _-_, _≤_}
 use mathlib.Core.Bool.{cond}
-use mathlib.Core.List.{List, []}
+use mathlib.Core.List.{List}
 use lib.ListN.{take, drop}
 use Rattle.job.specs.declared.records.Item.{Item}
 use Rattle.job.specs.declared.records.Item.the-variants.{Header, Contour, Edge, Distances}
@@ -40,12 +40,16 @@ unfoldable pub contourSpan : List ℕ → ℕ → Span
 unfolding seek recordsFrom
 contourSpan file number = seek (Passing number) 0 (recordsFrom start file)
 
--- nothing for a refused file or a number too large
-unfoldable pub contourPart : List ℕ → ℕ → List ℕ
+-- where its bytes stand: nowhere for a refused file or a number too large
+unfoldable pub contourPlace : List ℕ → ℕ → Span
 unfolding accepted contourSpan
+contourPlace file number = cond (accepted file) (contourSpan file number) (record { start = 0; end = 0 })
+
+unfoldable pub contourPart : List ℕ → ℕ → List ℕ
+unfolding contourPlace
 contourPart file number =
-    let span = contourSpan file number in
-    cond (accepted file) (take (span .end - span .start) (drop (span .start) file)) []
+    let span = contourPlace file number in
+    take (span .end - span .start) (drop (span .start) file)
 
 -- ---- in the words of contracts
 

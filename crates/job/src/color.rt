@@ -9,7 +9,7 @@ use coloring::outline::Colored;
 ghost use mathlib.Core.Path.{_≡_};
 ghost use Rattle.coloring.specs.Outline.{result, outcome};
 ghost use Rattle.job.specs.Buffers.{buffers};
-ghost use Rattle.job.specs.Color.{colorStored, colorFile, HoldsJobs};
+ghost use Rattle.job.specs.Color.{colorStored, colorFile, checkFile, HoldsJobs};
 
 // The colouring of an outline by a strategy.
 fn color_stored(
@@ -139,4 +139,15 @@ pub fn color(
         out_points,
         out_colors,
     )
+}
+
+// The answer of reading and colouring a file where every result has room: how many edges, or the first refusal.
+pub fn check(file: &[u8]) -> Colored
+    ensures { λ r. ⌜ r ≡ checkFile (now (file .entry)) ⌝ }
+{
+    let mut lengths = [0u16; 64];
+    let mut kinds = [0u8; 508];
+    let mut points = [0.0f64; 4064];
+    let mut colors = [0u8; 508];
+    color(file, &mut lengths, &mut kinds, &mut points, &mut colors)
 }

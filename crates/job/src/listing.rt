@@ -1,11 +1,24 @@
 // The text of an answer, written into a byte buffer. Each function gives the place after what it wrote.
+use crate::color;
+use crate::progress;
+use crate::progress::Read;
+use coloring::outline::Colored;
 use coloring::refusal::Refusal;
 ghost use mathlib.Core.Path.{_≡_};
 ghost use mathlib.Core.List.{[], _∷_};
 ghost use Prim.Native.Nat.{_+_, _≤_, _<_};
 ghost use lib.ListN.{length};
 ghost use Rattle.coloring.specs.Places.{total};
-ghost use Rattle.job.specs.Listing.{digit, decimal, letter, field, line, contourLines, shapeLines, listing, refusalLine, Pasted};
+ghost use Rattle.coloring.specs.Outline.{result};
+ghost use Rattle.job.specs.Job.{readJob};
+ghost use Rattle.job.specs.Color.{HoldsResults};
+ghost use Rattle.job.specs.Listing.{digit, decimal, letter, field, line, contourLines, shapeLines, listing, refusalLine, fileText, listFile, outcome, contourCount, Pasted};
+
+// The answer of a listing: how many bytes were written, or 11.
+pub enum Listed {
+    Bytes(usize),
+    Refused(Refusal),
+}
 
 fn put(out: &mut [u8], at: usize, byte: u8) -> usize
     requires { ⌜ at < length (now out) ⌝ }
@@ -119,7 +132,7 @@ fn put_word(out: &mut [u8], at: usize, word: &[u8]) -> usize
 }
 
 // The text of a coloured shape, from the start of the buffer; how many bytes.
-pub(crate) fn write_listing(lengths: &[u16], kinds: &[u8], colors: &[u8], out: &mut [u8]) -> usize
+fn write_listing(lengths: &[u16], kinds: &[u8], colors: &[u8], out: &mut [u8]) -> usize
     requires { ⌜ (length (now lengths) < 1000) × (length (now kinds) < 1000)
         × (total (now lengths) ≡ length (now kinds)) × (length (now colors) ≡ length (now kinds)) ⌝ }
     requires { ⌜ length (listing (now lengths) (now kinds) (now colors)) ≤ length (now out) ⌝ }
@@ -131,10 +144,80 @@ pub(crate) fn write_listing(lengths: &[u16], kinds: &[u8], colors: &[u8], out: &
 }
 
 // The text of a refusal, from the start of the buffer; how many bytes.
-pub(crate) fn write_refusal(refusal: Refusal, out: &mut [u8]) -> usize
+fn write_refusal(refusal: Refusal, out: &mut [u8]) -> usize
     requires { ⌜ length (refusalLine refusal) ≤ length (now out) ⌝ }
     ensures { λ r. ⌜ Pasted (refusalLine refusal) 0 (now (out .entry)) r (now (out .exit)) ⌝ }
 {
     let word = put_word(out, 0, b"refused ");
     put_field(out, word, refusal.number() as usize, b'\n')
+}
+
+// How many contours a file's job has.
+fn contour_count(file: &[u8]) -> usize
+    ensures { λ r. ⌜ r ≡ contourCount (readJob (now (file .entry))) ⌝ }
+{
+    match progress::scan(file) {
+        Read::Job(n) => n.contours,
+        Read::Refused(_) => 0,
+    }
+}
+
+// The text of a file's answer, with places for its coloured shape.
+fn write_answer(
+    file: &[u8],
+    lengths: &mut [u16],
+    kinds: &mut [u8],
+    points: &mut [f64],
+    colors: &mut [u8],
+    text: &mut [u8],
+) -> usize
+    requires { ⌜ HoldsResults (result (now lengths) (now kinds) (now points) (now colors)) ⌝ }
+    requires { ⌜ 5598 ≤ length (now text) ⌝ }
+    ensures { λ r. ⌜ Pasted (fileText (now (file .entry))) 0 (now (text .entry)) r (now (text .exit)) ⌝ }
+{
+    match color::color(file, lengths, kinds, points, colors) {
+        Colored::Edges(counts) => {
+            let contours = contour_count(file);
+            let edges = counts.edges;
+            write_listing(
+                &lengths[..contours],
+                &kinds[..edges],
+                &colors[..edges],
+                text,
+            )
+        }
+        Colored::Refused(refusal) => write_refusal(refusal, text),
+    }
+}
+
+fn write_text(file: &[u8], text: &mut [u8]) -> usize
+    requires { ⌜ 5598 ≤ length (now text) ⌝ }
+    ensures { λ r. ⌜ Pasted (fileText (now (file .entry))) 0 (now (text .entry)) r (now (text .exit)) ⌝ }
+{
+    let mut lengths = [0u16; 64];
+    let mut kinds = [0u8; 508];
+    let mut points = [0.0f64; 4064];
+    let mut colors = [0u8; 508];
+    write_answer(
+        file,
+        &mut lengths,
+        &mut kinds,
+        &mut points,
+        &mut colors,
+        text,
+    )
+}
+
+// Reads a file, colours its job and lists it: how many bytes of text, which stand at the buffer's start; or 11 where they do not fit, and the
+// buffer is as it came. A file that is refused has a text too, one line. No text is longer than 5,598 bytes.
+pub fn listing(file: &[u8], out: &mut [u8]) -> Listed
+    ensures { λ r. ⌜ outcome r (now (out .exit)) ≡ listFile (now (file .entry)) (now (out .entry)) ⌝ }
+{
+    let mut text = [0u8; 5598];
+    let n = write_text(file, &mut text);
+    if n > out.len() {
+        return Listed::Refused(Refusal::ResultTooShort);
+    }
+    put_word(out, 0, &text[..n]);
+    Listed::Bytes(n)
 }

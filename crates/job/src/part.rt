@@ -9,7 +9,7 @@ use coloring::outline::Colored;
 ghost use mathlib.Core.Path.{_≡_};
 ghost use lib.ListN.{length};
 ghost use Rattle.job.specs.Color.{accepted, noOther};
-ghost use Rattle.job.specs.Part.{sought, spanOf, contourSpan, contourPart, Inside};
+ghost use Rattle.job.specs.Part.{sought, spanOf, contourSpan, contourPlace, contourPart, Inside};
 
 // From a byte up to another.
 pub struct Span {
@@ -115,14 +115,22 @@ fn accepted(file: &[u8]) -> bool
     }
 }
 
-// The bytes of a contour, its mark first. Empty for a refused file and for a number too large.
+// Where the bytes of a contour stand, its mark first; from 0 up to 0 for a refused file and for a number too large.
+pub fn contour_place(file: &[u8], number: usize) -> Span
+    ensures { λ r. ⌜ r ≡ contourPlace (now (file .entry)) number ⌝ }
+    ensures { λ r. ⌜ Inside r (length (now (file .entry))) ⌝ }
+{
+    if !accepted(file) {
+        return Span { start: 0, end: 0 };
+    }
+    contour_span(file, number)
+}
+
+// The bytes of a contour. Empty for a refused file and for a number too large.
 pub fn contour_part(file: &[u8], number: usize) -> &[u8]
     ensures { λ r. ⌜ now r ≡ contourPart (now (file .entry)) number ⌝ }
 {
-    if !accepted(file) {
-        return &file[..0];
-    }
-    let span = contour_span(file, number);
+    let span = contour_place(file, number);
     let start = span.start;
     let end = span.end;
     &file[start..end]

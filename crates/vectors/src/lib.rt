@@ -1,7 +1,8 @@
 // Recorded calls of the library, and whether it answers as recorded. A record begins with the number of a function: 0 to 27 are
-// those of math, 32 to 46 those of geometry, 64 a run of offers to a spline table, 65 to 68 the colourings. Numbers are words of
-// eight bytes, the lowest byte first. The program `replay` reads records; the comparison with the Rust makes them one by one.
+// those of math, 32 to 46 those of geometry, 64 a run of offers to a spline table, 65 to 68 the colourings, 69 a job file. Numbers are
+// words of eight bytes, the lowest byte first. The program `replay` reads records; the comparison with the Rust makes them one by one.
 mod edges;
+mod jobs;
 mod leaves;
 pub mod replay;
 mod shapes;
@@ -26,6 +27,9 @@ fn right(s: &[u8]) -> u64 {
     }
     if f == 64 {
         return tables::right(s);
+    }
+    if f == 69 {
+        return one_if(jobs::is_right(s));
     }
     one_if(shapes::is_right(s))
 }

@@ -1,24 +1,16 @@
 -- `job::part::contour_part` meets its contract.
-use mathlib.Core.Path.{sym, _∙_}
-use borrow.Author.Tests.{not-true, not-false}
-use Rattle.job.proofs.PartLaws.{part-refused, part-accepted}
+use mathlib.Core.Path.{sym, ap}
+use mathlib.Core.List.{List}
+use Prim.Native.Nat.{_-_}
+use lib.ListN.{take, drop}
+use Rattle.job.specs.declared.part.Span.{Span}
+use Rattle.job.specs.Part.{contourPart}
 use borrow.Author.Needs.{needs}
 use Rattle.job.proofs.part.contour_part.Statement.{statement}
 use Rattle.job.proofs.part.contour_part.Tie as tie
 
-accepted-requires : tie.Need-accepted-requires
-accepted-requires c κs = search needs
-
-slice-aggregate-result : tie.Need-slice-aggregate-result
-slice-aggregate-result c = search needs
-
-returns : tie.Need-returns
-returns c =
-    let start = c .before .before .before .before in
-    sym (part-refused (start .args .file .now) (start .args .number) (sym (c .before .before .accepted .ensures) ∙ not-true (c .before .before .accepted .result) (c .before .if1 .taken)))
-
-contour-span-requires : tie.Need-contour-span-requires
-contour-span-requires c κs = search needs
+contour-place-requires : tie.Need-contour-place-requires
+contour-place-requires c κs = search needs
 
 sub-result : tie.Need-sub-result
 sub-result c = search needs
@@ -29,21 +21,13 @@ part-result-start c = search needs
 part-result-end : tie.Need-part-result-end
 part-result-end c = search needs
 
-returns-2 : tie.Need-returns-2
-returns-2 c =
-    let start = c .before .before .before .before .before in
-    let tested = c .before .before in
-    sym (part-accepted (start .args .file .now) (start .args .number) (c .before .contour-span .result) (sym (tested .before .accepted .ensures) ∙ not-false (tested .before .accepted .result) (tested .if1 .left)) (c .before .contour-span .ensures .0))
+returns : tie.Need-returns
+unfolding contourPart
+returns c =
+    let placed = c .before in
+    ap (λ (span : Span). take (span .end - span .start) (drop (span .start) (placed .before .before .args .file .now))) (placed .contour-place .ensures .0)
 
 pub contour-part-spec : {M : Type 1} → statement M
 contour-part-spec =
     tie.close
-    (tie.spec
-    accepted-requires
-    slice-aggregate-result
-    returns
-    contour-span-requires
-    sub-result
-    part-result-start
-    part-result-end
-    returns-2)
+    (tie.spec contour-place-requires sub-result part-result-start part-result-end returns)

@@ -1,0 +1,173 @@
+-- What reading and colouring a file give where every result has room: the answer, and the text.
+use mathlib.Core.Path.{_≡_, refl, sym, ap, _∙_}
+use mathlib.Core.Bool.{Bool, true, false, cond}
+use mathlib.Core.List.{List}
+use Prim.Native.Nat.{ℕ, _≤_, _<_}
+use native.Mathlib.Omega.{arith}
+use lib.Dec.{leb}
+use lib.ListN.{length, take, drop, length-append}
+use lib.Seq.{take-at}
+use borrow.Author.Tests.{le-leb, lt-leb}
+use Rattle.coloring.specs.declared.outline.Checked.{Checked}
+use Rattle.coloring.specs.declared.outline.Checked.the-variants.{Passed, Failed}
+use Rattle.coloring.specs.declared.outline.Counts.{Counts}
+use Rattle.coloring.specs.declared.outline.Colored.the-variants.{Edges, Refused}
+use Rattle.coloring.specs.declared.refusal.Refusal.{Refusal}
+use Rattle.coloring.specs.declared.refusal.Refusal.the-variants.{Truncated, UnknownMark, MisplacedMark, TooMany, UnknownKind, BadThreshold, BadCoordinate, LengthMismatch, BadDistance, BadTable, ResultTooShort}
+use Rattle.coloring.specs.Refusal.{refusalNumber}
+use Rattle.coloring.specs.Places.{total}
+use Rattle.coloring.specs.Outline.{Result, Outcome, outcome, over, fits, delivered, deliver}
+use Rattle.coloring.specs.Shape.{countsOf}
+use Rattle.job.specs.Job.{Job, Reading, reads, refuses, readJob}
+use Rattle.job.specs.Color.{foundIn, checkJob, colored, colorJob, colorReading, colorFile, answered, checkReading, checkFile, HoldsResults}
+use Rattle.job.specs.declared.listing.Listed.the-variants as listed
+use Rattle.job.specs.Listing as list
+use Rattle.job.specs.Listing.{listing, refusalLine, checkedText, readingText, fileText, listFile, contourCount}
+use Rattle.job.proofs.ListingLaws.{listing-few, refusal-few}
+use Rattle.job.proofs.ShapeLaws.{ShapeOf, shape-of}
+
+-- ---- the text is at most 5,598 bytes long
+
+below : (refusal : Refusal) → refusalNumber refusal ≤ 11
+below Truncated = omega arith
+below UnknownMark = omega arith
+below MisplacedMark = omega arith
+below TooMany = omega arith
+below UnknownKind = omega arith
+below BadThreshold = omega arith
+below BadCoordinate = omega arith
+below LengthMismatch = omega arith
+below BadDistance = omega arith
+below BadTable = omega arith
+below ResultTooShort = omega arith
+
+refusal-short : (refusal : Refusal) → length (refusalLine refusal) ≤ 5598
+refusal-short refusal = omega (arith, refusal-few refusal (omega (arith, below refusal)))
+
+pub text-few : (file : List ℕ) → length (fileText file) ≤ 5598
+unfolding fileText readingText
+text-few file = go (readJob file) refl
+  where
+    go : (reading : Reading) → readJob file ≡ reading → length (readingText reading) ≤ 5598
+    go (reads job) e = of (checkJob job)
+      where
+        of : (k : Checked) → length (checkedText k (colored job)) ≤ 5598
+        of Passed = let s = shape-of file job e in listing-few (colored job .lengths) (colored job .kinds) (colored job .colors) (s .contours-fit) (s .edges-fit) (s .are-colors)
+        of (Failed refusal) = refusal-short refusal
+    go (refuses refusal) e = refusal-short refusal
+
+-- ---- the answer
+
+-- a coloured shape that stands at the front of the buffers, with so many contours and edges, can be listed from there
+pub record Front (file : List ℕ) (contours edges : ℕ) (new : Result) : Type 0 where
+  pub lengths-within : contours ≤ length (new .lengths)
+  pub kinds-within : edges ≤ length (new .kinds)
+  pub colors-within : edges ≤ length (new .colors)
+  pub listable : (length (take contours (new .lengths)) < 1000) × (length (take edges (new .kinds)) < 1000)
+      × (total (take contours (new .lengths)) ≡ length (take edges (new .kinds))) × (length (take edges (new .colors)) ≡ length (take edges (new .kinds)))
+  pub text : fileText file ≡ listing (take contours (new .lengths)) (take edges (new .kinds)) (take edges (new .colors))
+
+take-over : {A : Type 0} {n : ℕ} {new : List A} (xs ys : List A) → new ≡ over xs ys → n ≡ length xs → take n new ≡ xs
+unfolding over
+take-over {n = n} xs ys e h = rw e (take-at xs _ n (sym h))
+
+within-over : {A : Type 0} {n : ℕ} {new : List A} (xs ys : List A) → new ≡ over xs ys → n ≡ length xs → n ≤ length new
+unfolding over
+within-over xs ys e h = rw e (omega (arith, h, length-append xs (drop (length xs) ys)))
+
+front-of : (file : List ℕ) (contours edges : ℕ) (job : Job) (shape old new : Result) → ShapeOf job shape → contours ≡ length (shape .lengths) → edges ≡ length (shape .kinds)
+    → new .lengths ≡ over (shape .lengths) (old .lengths) → new .kinds ≡ over (shape .kinds) (old .kinds) → new .colors ≡ over (shape .colors) (old .colors)
+    → fileText file ≡ listing (shape .lengths) (shape .kinds) (shape .colors) → Front file contours edges new
+front-of file contours edges job shape old new s c e l k m text =
+    let colors : edges ≡ length (shape .colors) = e ∙ sym (s .marked) in
+    let l-is = take-over (shape .lengths) (old .lengths) l c in
+    let k-is = take-over (shape .kinds) (old .kinds) k e in
+    let m-is = take-over (shape .colors) (old .colors) m colors in
+    record {
+      lengths-within = within-over (shape .lengths) (old .lengths) l c;
+      kinds-within = within-over (shape .kinds) (old .kinds) k e;
+      colors-within = within-over (shape .colors) (old .colors) m colors;
+      listable = rw (l-is, k-is, m-is) (omega (arith, s .contours-fit), omega (arith, s .edges-fit), s .edges-add, s .marked);
+      text = rw (l-is, k-is, m-is) text;
+    }
+
+module _ (file : List ℕ) (old : Result) (room : HoldsResults old) where
+  fits-all : (job : Job) → readJob file ≡ reads job → fits (colored job) old ≡ true
+  unfolding fits
+  fits-all job e =
+      let s = shape-of file job e in
+      let shape = colored job in
+      rw (
+        le-leb (length (shape .lengths)) (length (old .lengths)) (omega (arith, s .contours-fit, room .lengths-fit)),
+        le-leb (length (shape .kinds)) (length (old .kinds)) (omega (arith, s .edges-fit, room .kinds-fit)),
+        le-leb (length (shape .points)) (length (old .points)) (omega (arith, s .places, s .edges-fit, room .points-fit)),
+        le-leb (length (shape .colors)) (length (old .colors)) (omega (arith, s .marked, s .edges-fit, room .colors-fit)),
+      )
+
+  pub color-answer : colorFile file old .answer ≡ checkFile file
+  unfolding colorFile colorReading colorJob checkFile checkReading deliver delivered
+  color-answer = go (readJob file) refl
+    where
+      go : (reading : Reading) → readJob file ≡ reading → colorReading reading old .answer ≡ checkReading reading
+      go (reads job) e = of (checkJob job)
+        where
+          of : (k : Checked) → deliver k (countsOf (foundIn job) (colored job)) (colored job) old .answer ≡ answered k (countsOf (foundIn job) (colored job))
+          of Passed = rw (fits-all job e)
+          of (Failed refusal) = refl
+      go (refuses refusal) e = refl
+
+  pub front : (contours : ℕ) (counts : Counts) (new : Result) → contours ≡ contourCount (readJob file) → outcome (Edges counts) new ≡ colorFile file old
+      → Front file contours (counts .edges) new
+  unfolding colorFile colorReading colorJob deliver delivered countsOf fileText readingText
+  front contours counts new c same = go (readJob file) refl c same
+    where
+      go : (reading : Reading) → readJob file ≡ reading → contours ≡ contourCount reading → outcome (Edges counts) new ≡ colorReading reading old
+          → Front file contours (counts .edges) new
+      go (reads job) e c same = of (checkJob job) refl same
+        where
+          of : (k : Checked) → checkJob job ≡ k → outcome (Edges counts) new ≡ deliver k (countsOf (foundIn job) (colored job)) (colored job) old
+              → Front file contours (counts .edges) new
+          of Passed p same =
+              let s = shape-of file job e in
+              let given = rw (fits-all job e) at same in
+              let answer = ap (λ (o : Outcome). o .answer) given in
+              let edges : counts .edges ≡ length (colored job .kinds) = cc in
+              front-of file contours (counts .edges) job (colored job) old new s (c ∙ sym (s .contours-are)) edges
+              (ap (λ (o : Outcome). o .buffers .lengths) given) (ap (λ (o : Outcome). o .buffers .kinds) given) (ap (λ (o : Outcome). o .buffers .colors) given) (rw (e, p))
+          of (Failed refusal) p same = let no = ap (λ (o : Outcome). o .answer) same in let z : _≡_ {A = ℕ} 0 1 = cc in absurd (omega arith)
+      go (refuses refusal) e c same = let no = ap (λ (o : Outcome). o .answer) same in let z : _≡_ {A = ℕ} 0 1 = cc in absurd (omega arith)
+
+  pub refused-text : (refusal : Refusal) (new : Result) → outcome (Refused refusal) new ≡ colorFile file old → fileText file ≡ refusalLine refusal
+  unfolding colorFile colorReading colorJob deliver delivered fileText readingText
+  refused-text refusal new same = go (readJob file) refl same
+    where
+      go : (reading : Reading) → readJob file ≡ reading → outcome (Refused refusal) new ≡ colorReading reading old → readingText reading ≡ refusalLine refusal
+      go (reads job) e same = of (checkJob job) same
+        where
+          of : (k : Checked) → outcome (Refused refusal) new ≡ deliver k (countsOf (foundIn job) (colored job)) (colored job) old → checkedText k (colored job) ≡ refusalLine refusal
+          of Passed same = let given = rw (fits-all job e) at same in let no = ap (λ (o : Outcome). o .answer) given in let z : _≡_ {A = ℕ} 0 1 = cc in absurd (omega arith)
+          of (Failed other) same = let is : other ≡ refusal = (let a = ap (λ (o : Outcome). o .answer) same in cc) in ap refusalLine is
+      go (refuses other) e same = let is : other ≡ refusal = (let a = ap (λ (o : Outcome). o .answer) same in cc) in ap refusalLine is
+
+-- ---- the listing: 11 where the text does not fit, else the text over what stood there
+
+module _ (file old : List ℕ) (n : ℕ) (e : n ≡ length (fileText file)) where
+  pub list-short : length old < n → list.outcome (listed.Refused ResultTooShort) old ≡ listFile file old
+  unfolding listFile
+  list-short h = rw (lt-leb (length (fileText file)) (length old) (omega (arith, e)))
+
+  pub list-fits : (new : List ℕ) → n ≤ length old → new ≡ over (fileText file) old → list.outcome (listed.Bytes n) new ≡ listFile file old
+  unfolding listFile
+  list-fits new h same = rw (le-leb (length (fileText file)) (length old) (omega (arith, e)), e, same)
+
+-- where bytes were written, there are as many
+pub listed-within : (file old new : List ℕ) (n : ℕ) → list.outcome (listed.Bytes n) new ≡ listFile file old → n ≤ length new
+unfolding listFile over
+listed-within file old new n same = go (leb (length (fileText file)) (length old)) same
+  where
+    go : (b : Bool) → list.outcome (listed.Bytes n) new ≡ cond b (list.outcome (listed.Bytes (length (fileText file))) (over (fileText file) old)) (list.outcome (listed.Refused ResultTooShort) old) → n ≤ length new
+    go true same =
+        let counted = ap (λ (o : list.Outcome). o .answer) same in
+        let e : n ≡ length (fileText file) = cc in
+        omega (arith, e, ap (λ (o : list.Outcome). length (o .buffer)) same, length-append (fileText file) (drop (length (fileText file)) old))
+    go false same = let no = ap (λ (o : list.Outcome). o .answer) same in let z : _≡_ {A = ℕ} 0 1 = cc in absurd (omega arith)
