@@ -1,20 +1,32 @@
--- The reader's examples, computed from the definitions: files of document 01, and the order of its numbers.
+-- Examples computed from the definitions: files of document 01, what they read as and what is printed, and the order of the numbers.
 use Prim.Native.Nat.{ℕ}
 use mathlib.Core.Path.{_≡_, refl}
-use mathlib.Core.Bool.{false}
+use mathlib.Core.Bool.{true, false}
 use mathlib.Core.List.{List, [], _∷_, _++_}
 use lib.IntN.{negsuc}
+use lib.Ieee as Ieee
 use lib.Ieee.{fin, ofBits}
 use Rattle.math.specs.Scalar.{f0, f1}
-use Rattle.math.specs.Vector2.{new}
+use Rattle.math.specs.Sqrt.{sqrtOf}
+use Rattle.math.specs.Vector2.{new, sub, divScalar, dot, cross, squaredLength, lengthOf, normalize}
+use Rattle.geometry.specs.EdgeSegment.{direction, toStored}
 use Rattle.geometry.specs.declared.edge_segment.EdgeSegment.the-variants.{Line}
-use Rattle.coloring.specs.declared.refusal.Refusal.the-variants.{Truncated, UnknownMark, MisplacedMark, TooMany, UnknownKind, BadThreshold, BadCoordinate, BadDistance, ResultTooShort}
+use Rattle.coloring.specs.declared.refusal.Refusal.the-variants.{Truncated, UnknownMark, MisplacedMark, TooMany, UnknownKind, BadThreshold, BadCoordinate, LengthMismatch, BadDistance, ResultTooShort}
+use Rattle.coloring.specs.declared.outline.Checked.the-variants.{Failed}
+use Rattle.coloring.specs.declared.outline.Colored.the-variants.{Edges, Refused}
+use Rattle.coloring.specs.Corners.{searchCorners, cornerCount, firstCorner}
+use Rattle.coloring.specs.Outline.{Result, result, outcome}
+use Rattle.coloring.specs.Shape.{painted}
+use Rattle.coloring.specs.ByDistance.{maxSplines, checkSplines, checkDistances}
 use Rattle.job.specs.declared.records.Phase.the-variants.{Inside, Closing}
 use Rattle.job.specs.declared.records.State.{State}
 use Rattle.job.specs.Records.{fails, start, readRecord}
 use Rattle.job.specs.Job.{Job, reads, refuses, readJob}
 use Rattle.job.specs.Part.{contourPart}
-use Rattle.job.specs.Listing.{decimal, listing, refusalLine}
+use Rattle.job.specs.Color.{colorFile, checkFile, accepted}
+use Rattle.job.specs.declared.listing.Listed.the-variants as answer
+use Rattle.job.specs.Listing as list
+use Rattle.job.specs.Listing.{decimal, refusalLine, fileText, listFile}
 
 -- ---- files in bytes
 
@@ -58,8 +70,11 @@ line x0 y0 x1 y1 rest = LN (x0 ++ y0 ++ x1 ++ y1 ++ rest)
 -- ---- what they read as
 
 -- the square (0,0) (1,0) (1,1) (0,1) of lines, strategy 1, seed 0, threshold 0.125
+abbrev squareContour : List ℕ → List ℕ
+squareContour rest = CT (line zeros zeros one zeros (line one zeros one one (line one one zeros one (line zeros one zeros zeros rest))))
+
 abbrev pub squareFile : List ℕ
-squareFile = opening 1 (CT (line zeros zeros one zeros (line one zeros one one (line one one zeros one (line zeros one zeros zeros (EN []))))))
+squareFile = opening 1 (squareContour (EN []))
 
 abbrev pub squareJob : Job
 squareJob = record {
@@ -194,7 +209,7 @@ byte-after-end = refl
 
 -- ---- the part of one contour
 
-pub square-part : contourPart squareFile 0 ≡ CT (line zeros zeros one zeros (line one zeros one one (line one one zeros one (line zeros one zeros zeros []))))
+pub square-part : contourPart squareFile 0 ≡ squareContour []
 unfolding contourPart ofBits
 square-part = refl
 
@@ -203,21 +218,67 @@ pub no-part : (contourPart squareFile 1 ≡ []) × (contourPart (opening 1 (CT [
 unfolding contourPart ofBits
 no-part = (refl, refl)
 
+-- ---- after reading: splines 4, 8, 11
+
+-- buffers without a place
+abbrev noPlaces : Result
+noPlaces = result [] [] [] []
+
+-- 65 splines and no distances
+pub too-many-splines-before-miscounted : checkSplines 65 (checkDistances 65 []) ≡ Failed TooMany
+unfolding maxSplines
+too-many-splines-before-miscounted = refl
+
+-- the square by distance, without a distance and without a place for it
+abbrev squareAlone : List ℕ
+squareAlone = opening 3 (squareContour (DS (0 ∷ 0 ∷ EN [])))
+
+pub miscounted-before-short : (colorFile squareAlone noPlaces ≡ outcome (Refused LengthMismatch) noPlaces) × (accepted squareAlone ≡ false)
+unfolding colorFile accepted ofBits searchCorners cornerCount firstCorner painted direction sub dot cross divScalar squaredLength lengthOf normalize sqrtOf Ieee.add Ieee.sub Ieee.mul Ieee.div Ieee.ne Ieee.le Ieee.lt
+miscounted-before-short = (refl, refl)
+
+-- 11 is no fault of the file
+pub short : (colorFile squareFile noPlaces ≡ outcome (Refused ResultTooShort) noPlaces) × (accepted squareFile ≡ true)
+unfolding colorFile accepted ofBits
+short = (refl, refl)
+
+pub square-checked : checkFile squareFile ≡ Edges (record { edges = 4; splines = 4 })
+unfolding checkFile ofBits searchCorners cornerCount firstCorner painted direction sub dot cross divScalar squaredLength lengthOf normalize sqrtOf Ieee.add Ieee.sub Ieee.mul Ieee.div Ieee.ne Ieee.le Ieee.lt
+square-checked = refl
+
 -- ---- the text of an answer
 
--- the square's listing, as document 01 has it whole
-pub square-listing : listing (4 ∷ []) (1 ∷ 1 ∷ 1 ∷ 1 ∷ []) (5 ∷ 3 ∷ 6 ∷ 3 ∷ []) ≡ (
+abbrev squareText : List ℕ
+squareText =
     0x30 ∷ 0x20 ∷ 0x30 ∷ 0x20 ∷ 0x4C ∷ 0x20 ∷ 0x35 ∷ 0x0A
     ∷ 0x30 ∷ 0x20 ∷ 0x31 ∷ 0x20 ∷ 0x4C ∷ 0x20 ∷ 0x33 ∷ 0x0A
     ∷ 0x30 ∷ 0x20 ∷ 0x32 ∷ 0x20 ∷ 0x4C ∷ 0x20 ∷ 0x36 ∷ 0x0A
     ∷ 0x30 ∷ 0x20 ∷ 0x33 ∷ 0x20 ∷ 0x4C ∷ 0x20 ∷ 0x33 ∷ 0x0A
-    ∷ 0x65 ∷ 0x64 ∷ 0x67 ∷ 0x65 ∷ 0x73 ∷ 0x20 ∷ 0x34 ∷ 0x0A ∷ [])
-unfolding listing
-square-listing = refl
+    ∷ 0x65 ∷ 0x64 ∷ 0x67 ∷ 0x65 ∷ 0x73 ∷ 0x20 ∷ 0x34 ∷ 0x0A ∷ []
 
-pub no-edges : listing [] [] [] ≡ (0x65 ∷ 0x64 ∷ 0x67 ∷ 0x65 ∷ 0x73 ∷ 0x20 ∷ 0x30 ∷ 0x0A ∷ [])
-unfolding listing
-no-edges = refl
+-- from bytes to bytes: the square's file is printed as document 01 has it whole
+pub square-printed : fileText squareFile ≡ squareText
+unfolding fileText ofBits toStored searchCorners cornerCount firstCorner painted direction sub dot cross divScalar squaredLength lengthOf normalize sqrtOf Ieee.add Ieee.sub Ieee.mul Ieee.div Ieee.ne Ieee.le Ieee.lt
+square-printed = refl
+
+-- a job without contours and with strategy 1
+pub no-contours-printed : fileText (opening 1 (EN [])) ≡ (0x65 ∷ 0x64 ∷ 0x67 ∷ 0x65 ∷ 0x73 ∷ 0x20 ∷ 0x30 ∷ 0x0A ∷ [])
+unfolding fileText ofBits
+no-contours-printed = refl
+
+-- 0 bytes
+pub no-bytes-printed : fileText [] ≡ (0x72 ∷ 0x65 ∷ 0x66 ∷ 0x75 ∷ 0x73 ∷ 0x65 ∷ 0x64 ∷ 0x20 ∷ 0x31 ∷ 0x0A ∷ [])
+unfolding fileText
+no-bytes-printed = refl
+
+-- a place beyond the text keeps its byte; one place too few, and all do
+pub listed : listFile [] (1 ∷ 2 ∷ 3 ∷ 4 ∷ 5 ∷ 6 ∷ 7 ∷ 8 ∷ 9 ∷ 10 ∷ 11 ∷ []) ≡ list.outcome (answer.Bytes 10) (0x72 ∷ 0x65 ∷ 0x66 ∷ 0x75 ∷ 0x73 ∷ 0x65 ∷ 0x64 ∷ 0x20 ∷ 0x31 ∷ 0x0A ∷ 11 ∷ [])
+unfolding listFile
+listed = refl
+
+pub not-listed : listFile [] (1 ∷ 2 ∷ 3 ∷ 4 ∷ 5 ∷ 6 ∷ 7 ∷ 8 ∷ 9 ∷ []) ≡ list.outcome (answer.Refused ResultTooShort) (1 ∷ 2 ∷ 3 ∷ 4 ∷ 5 ∷ 6 ∷ 7 ∷ 8 ∷ 9 ∷ [])
+unfolding listFile
+not-listed = refl
 
 -- a number of two digits and one of three
 pub decimals : (decimal 63 ≡ (0x36 ∷ 0x33 ∷ [])) × (decimal 508 ≡ (0x35 ∷ 0x30 ∷ 0x38 ∷ []))
