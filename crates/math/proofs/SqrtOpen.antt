@@ -5,7 +5,7 @@ use Prim.Native.Nat.{ℕ, _+_, _-_, _*_, _/_, _%_, _^_, _≤_, _<_}
 use native.Mathlib.Omega.{arith}
 use lib.Dec.{ltb, eqb}
 use lib.Count.{leadingZeros}
-use lib.Ieee.{Float, binary64, ofBits, toBits}
+use lib.Ieee.{Float, nan, binary64, ofBits, toBits}
 use borrow.Author.Tests.{eq-eqb, ne-eqb, lt-ltb, le-ltb}
 use Rattle.math.specs.Sqrt.{root, shift, significand, exponent, scaled, rounded, positiveRoot, infinityPattern, nanPattern, sqrtBits, sqrtOf}
 
@@ -65,3 +65,8 @@ sqrtBits-positive b p h =
 pub sqrtOf-is : (x : Float) → sqrtOf x ≡ ofBits binary64 (sqrtBits (toBits binary64 x))
 unfolding sqrtOf
 sqrtOf-is x = refl
+
+-- the one NaN's pattern is read as the logic's NaN
+pub nan-read : ofBits binary64 nanPattern ≡ nan
+unfolding ofBits
+nan-read = refl

@@ -15,9 +15,9 @@ use lib.Ieee.Bits.{nanBits-above}
 use lib.Ieee.Compare.{differs-from-itself}
 use denote.Floats.{passes}
 use Rattle.math.specs.Sqrt as spec
-use Rattle.math.proofs.SqrtExamples.{sqrt-examples}
+use Rattle.math.specs.SqrtExamples.{sqrt-examples}
 use Rattle.math.proofs.SqrtNearest.{sqrt-nearest}
-use Rattle.math.proofs.SqrtOpen.{sqrtOf-is, sqrtBits-zero, sqrtBits-infinity, sqrtBits-above}
+use Rattle.math.proofs.SqrtOpen.{sqrtOf-is, sqrtBits-zero, sqrtBits-infinity, sqrtBits-above, nan-read}
 use Rattle.math.proofs.SqrtUnits.{le-or-lt}
 use Rattle.math.proofs.sqrt.sqrt.Statement.{statement}
 use Rattle.math.proofs.sqrt.sqrt.Tie as tie
@@ -25,10 +25,6 @@ use Rattle.math.proofs.sqrt.sqrt.Tie as tie
 zero-by-zero : div binary64 (ofBits binary64 0) (ofBits binary64 0) ≡ nan
 unfolding div ofBits
 zero-by-zero = refl
-
-nan-read : ofBits binary64 spec.nanPattern ≡ nan
-unfolding ofBits
-nan-read = refl
 
 no-nan : (x : Float) → ne x x ≡ false → T (not (isNan x))
 unfolding ne isNan

@@ -1,10 +1,30 @@
--- Evaluations of the definition of the square root: the root of 2, of the smallest double, and a few more.
+-- Evaluations of the definition of the square root: P4 of document 01, and a few more.
 use mathlib.Core.Path.{_≡_, refl}
-use lib.Ieee.{nan}
+use mathlib.Core.Bool.{false}
+use lib.IntN.{pos, negsuc}
+use lib.Ieee.{Float, nan, fin, binary64, ofBits}
 use Rattle.math.specs.Sqrt.{sqrtBits, sqrtOf}
 
+-- the numbers 2, 2 ^ −1074 and 2 ^ −537
+abbrev two : Float
+two = fin false 1 (pos 1)
+
+abbrev smallest : Float
+smallest = fin false 1 (negsuc 1073)
+
+abbrev rootOfSmallest : Float
+rootOfSmallest = fin false 1 (negsuc 536)
+
+-- P4: the root of 2 is 3FF6A09E667F3BCD, and of 2 ^ −1074 it is 2 ^ −537
+abbrev pub P4 : Type 0
+P4 = (sqrtOf two ≡ ofBits binary64 0x3FF6_A09E_667F_3BCD) × (sqrtOf smallest ≡ rootOfSmallest)
+
+pub p4 : P4
+unfolding sqrtOf
+p4 = (refl, refl)
+
 pub record SqrtExamples : Type 0 where
-  -- the root of 2, and of 2 ^ −1074, which is 2 ^ −537
+  -- P4 on patterns
   pub root-of-two : sqrtBits 0x4000_0000_0000_0000 ≡ 0x3FF6_A09E_667F_3BCD
   pub root-of-smallest : sqrtBits 1 ≡ 0x1E60_0000_0000_0000
   pub root-of-four : sqrtBits 0x4010_0000_0000_0000 ≡ 0x4000_0000_0000_0000
