@@ -1,38 +1,30 @@
 -- Worked examples of by-distance colouring of outlines, computed from the definitions: P7 whole, and some that refute wrong programs.
 use mathlib.Core.Path.{_≡_, refl}
 use mathlib.Core.Bool.{true, false}
-use mathlib.Core.List.{List, [], _∷_, map}
+use mathlib.Core.List.{[], _∷_, map}
 use lib.Ieee as Ieee
-use lib.Ieee.{Float}
-use Rattle.math.specs.Scalar.{f0, f1}
 use Rattle.math.specs.Sqrt.{sqrtOf}
 use Rattle.math.specs.Vector2.{sub, dot, cross, divScalar, squaredLength, lengthOf, normalize}
-use Rattle.geometry.specs.EdgeSegment.{direction}
+use Rattle.geometry.specs.EdgeSegment.{direction, toStored, fromStored}
 use Rattle.coloring.specs.declared.refusal.Refusal.the-variants.{TooMany, LengthMismatch, BadDistance}
 use Rattle.coloring.specs.declared.outline.Checked.the-variants.{Failed}
-use Rattle.coloring.specs.declared.settings.Marking.the-variants.{Numbers}
 use Rattle.coloring.specs.SplineTable.{offer}
 use Rattle.coloring.specs.PairOrder.{validDistance}
-use Rattle.coloring.specs.SplineColors.{offerSplines, colorSplines}
-use Rattle.coloring.specs.Corners.{Cornered, searchCorners, cornerCount, firstCorner}
+use Rattle.coloring.specs.SplineColors.{offerSplines}
+use Rattle.coloring.specs.Corners.{cornerCount, firstCorner}
 use Rattle.coloring.specs.Outline.{all}
-use Rattle.coloring.specs.Shape.{painted, numberContours}
-use Rattle.coloring.specs.ByDistance.{maxSplines, checkSplines, checkDistances, withBytes, splineByte, splineColor}
-use Rattle.coloring.specs.Examples.{square, eighth}
+use Rattle.coloring.specs.Shape.{numberContours}
+use Rattle.coloring.specs.ByDistance.{maxSplines, checkSplines, checkDistances, splineByte, splineColor, collectSplines, edgeColoringByDistance}
+use Rattle.coloring.specs.Examples.{square, fourEdges, eighth}
+use Rattle.coloring.specs.SplineColorsExamples.{squareDistances}
 
--- ---- P7: the square's four splines, distance 0 beside and 1 across, seed 0; its splines' colours and offers are in SplineColorsExamples
-
-abbrev distances : List Float
-distances = f0 ∷ f1 ∷ f0 ∷ f0 ∷ f1 ∷ f0 ∷ []
-
-abbrev found : List Cornered
-found = map (searchCorners eighth) (square ∷ [])
+-- ---- P7: the square by distance, seed 0; its splines' colours and offers are in SplineColorsExamples
 
 -- the edges' splines, and their colours
 pub square-edges :
-    (painted Numbers found .colors ≡ (0 ∷ 1 ∷ 2 ∷ 3 ∷ []))
-    × (withBytes (splineByte (colorSplines 4 distances 0)) (painted Numbers found) .colors ≡ (3 ∷ 6 ∷ 5 ∷ 6 ∷ []))
-unfolding square searchCorners cornerCount firstCorner painted splineColor offerSplines offer direction sub dot cross divScalar squaredLength lengthOf normalize sqrtOf Ieee.add Ieee.sub Ieee.mul Ieee.div Ieee.ne Ieee.le Ieee.lt Ieee.eq Ieee.ofBits
+    (collectSplines square eighth fourEdges .buffers .colors ≡ (0 ∷ 1 ∷ 2 ∷ 3 ∷ []))
+    × (edgeColoringByDistance square eighth 0 squareDistances fourEdges .buffers .colors ≡ (3 ∷ 6 ∷ 5 ∷ 6 ∷ []))
+unfolding square collectSplines edgeColoringByDistance validDistance cornerCount firstCorner offerSplines offer direction sub dot cross divScalar squaredLength lengthOf normalize sqrtOf toStored fromStored Ieee.add Ieee.sub Ieee.mul Ieee.div Ieee.neg Ieee.ne Ieee.le Ieee.lt Ieee.eq Ieee.ofBits
 square-edges = (refl, refl)
 
 -- ---- numbers

@@ -1,34 +1,31 @@
 -- Worked examples of document 01, P1 to P3, P5 and P6, and others that refute wrong colourings; all computed from the definitions.
-use Prim.Native.Nat.{ℕ}
+use Prim.Native.Nat.{ℕ, _*_}
 use mathlib.Core.Path.{_≡_, refl}
 use mathlib.Core.Bool.{Bool, true, false}
 use mathlib.Core.List.{List, [], _∷_, _++_, map}
 use lib.IntN.{ℤ, pos, negsuc}
+use lib.ListN.{replicate}
 use lib.Ieee as Ieee
 use lib.Ieee.{Float, fin, ofBits}
 use Rattle.math.specs.Scalar.{f0, f1}
 use Rattle.math.specs.Sqrt.{sqrtOf}
-use Rattle.math.specs.Vector2.{new, add, sub, mulScalar, divScalar, dot, cross, squaredLength, lengthOf, normalize}
+use Rattle.math.specs.Vector2.{add, sub, mulScalar, divScalar, dot, cross, squaredLength, lengthOf, normalize}
 use Rattle.geometry.specs.EdgeSegment.{vmix, point, direction, toStored, fromStored}
 use Rattle.geometry.specs.declared.edge_color.EdgeColor.{EdgeColor}
 use Rattle.geometry.specs.declared.edge_color.EdgeColor.the-variants.{Yellow, Magenta, Cyan}
 use Rattle.geometry.specs.declared.edge_segment.EdgeSegment.{EdgeSegment}
-use Rattle.geometry.specs.declared.edge_segment.EdgeSegment.the-variants.{Line}
 use Rattle.coloring.specs.declared.refusal.Refusal.the-variants.{ResultTooShort}
 use Rattle.coloring.specs.declared.outline.Colored.the-variants.{Edges, Refused}
-use Rattle.coloring.specs.declared.settings.Strategy.{Strategy}
-use Rattle.coloring.specs.declared.settings.Strategy.the-variants.{Simple, InkTrap}
-use Rattle.coloring.specs.declared.settings.Marking.the-variants.{Colors}
 use Rattle.coloring.specs.Trichotomy.{symmetricalTrichotomy}
 use Rattle.coloring.specs.Switching.{switchColor, switchColorBanned}
-use Rattle.coloring.specs.Corners.{searchCorners, cornerCount, firstCorner}
+use Rattle.coloring.specs.Places.{concat}
+use Rattle.coloring.specs.Corners.{cornerCount, firstCorner}
 use Rattle.coloring.specs.Layout.{thirds, layout}
 use Rattle.coloring.specs.Teardrop.{runs}
 use Rattle.coloring.specs.Splines.{paint}
 use Rattle.coloring.specs.InkTrap.{cornerAt, markMinors}
-use Rattle.coloring.specs.Outline.{Outline, outline, result, Outcome}
-use Rattle.coloring.specs.Shape.{painted}
-use Rattle.coloring.specs.EdgeColoring.{edgeColoring, edgeColoringSimple}
+use Rattle.coloring.specs.Outline.{Outline, Result, outline, result, Outcome}
+use Rattle.coloring.specs.EdgeColoring.{edgeColoring, edgeColoringSimple, edgeColoringInkTrap}
 
 -- ---- P1 to P3: the rule at several places of n
 
@@ -64,27 +61,55 @@ banned-without-draw = refl
 
 -- ---- P6: the square (0,0) (1,0) (1,1) (0,1) of lines, seed 0, threshold 0.125
 
-unfoldable pub square : List EdgeSegment
-square = Line (new f0 f0) (new f1 f0) ∷ Line (new f1 f0) (new f1 f1) ∷ Line (new f1 f1) (new f0 f1) ∷ Line (new f0 f1) (new f0 f0) ∷ []
+abbrev line : Float → Float → Float → Float → List Float
+line x0 y0 x1 y1 = x0 ∷ y0 ∷ x1 ∷ y1 ∷ f0 ∷ f0 ∷ f0 ∷ f0 ∷ []
+
+-- so many squares, a contour each
+unfoldable pub squares : ℕ → Outline
+squares n =
+    outline (replicate n 4) (replicate (4 * n) 1)
+    (concat (replicate n (line f0 f0 f1 f0 ++ line f1 f0 f1 f1 ++ line f1 f1 f0 f1 ++ line f0 f1 f0 f0)))
+
+-- buffers for their result, and so many colours
+abbrev room : ℕ → List ℕ → Result
+room n colors = result (replicate n 9) (replicate (4 * n) 9) (replicate (32 * n) f1) colors
+
+unfoldable pub square : Outline
+unfolding squares
+square = squares 1
+
+abbrev pub fourEdges : Result
+fourEdges = room 1 (9 ∷ 9 ∷ 9 ∷ 9 ∷ [])
 
 abbrev pub eighth : Float
 eighth = fin false 1 (negsuc 2)
 
-abbrev colorsOf : Strategy → List (List EdgeSegment) → List ℕ
-colorsOf strategy shape = painted (Colors strategy 0) (map (searchCorners eighth) shape) .colors
-
-pub simple-square : colorsOf Simple (square ∷ []) ≡ (5 ∷ 3 ∷ 6 ∷ 3 ∷ [])
-unfolding square searchCorners cornerCount firstCorner painted direction sub dot cross divScalar squaredLength lengthOf normalize sqrtOf Ieee.add Ieee.sub Ieee.mul Ieee.div Ieee.ne Ieee.le Ieee.lt
+pub simple-square : edgeColoringSimple square eighth 0 fourEdges .buffers .colors ≡ (5 ∷ 3 ∷ 6 ∷ 3 ∷ [])
+unfolding square edgeColoring cornerCount firstCorner direction sub dot cross divScalar squaredLength lengthOf normalize sqrtOf toStored fromStored Ieee.add Ieee.sub Ieee.mul Ieee.div Ieee.neg Ieee.ne Ieee.le Ieee.lt Ieee.ofBits
 simple-square = refl
 
-pub ink-trap-square : colorsOf InkTrap (square ∷ []) ≡ (5 ∷ 3 ∷ 6 ∷ 3 ∷ [])
-unfolding square searchCorners cornerCount firstCorner painted direction point vmix add sub mulScalar dot cross divScalar squaredLength lengthOf normalize sqrtOf Ieee.add Ieee.sub Ieee.mul Ieee.div Ieee.ne Ieee.le Ieee.lt
+pub ink-trap-square : edgeColoringInkTrap square eighth 0 fourEdges .buffers .colors ≡ (5 ∷ 3 ∷ 6 ∷ 3 ∷ [])
+unfolding square edgeColoring cornerCount firstCorner direction point vmix add sub mulScalar dot cross divScalar squaredLength lengthOf normalize sqrtOf toStored fromStored Ieee.add Ieee.sub Ieee.mul Ieee.div Ieee.neg Ieee.ne Ieee.le Ieee.lt Ieee.ofBits
 ink-trap-square = refl
 
 -- refutes one that colours the first contour only, or begins each with a new pen
-pub two-squares : colorsOf Simple (square ∷ square ∷ []) ≡ (5 ∷ 3 ∷ 6 ∷ 3 ∷ 6 ∷ 5 ∷ 3 ∷ 5 ∷ [])
-unfolding square searchCorners cornerCount firstCorner painted direction sub dot cross divScalar squaredLength lengthOf normalize sqrtOf Ieee.add Ieee.sub Ieee.mul Ieee.div Ieee.ne Ieee.le Ieee.lt
+pub two-squares : edgeColoringSimple (squares 2) eighth 0 (room 2 (replicate 8 9)) .buffers .colors ≡ (5 ∷ 3 ∷ 6 ∷ 3 ∷ 6 ∷ 5 ∷ 3 ∷ 5 ∷ [])
+unfolding squares edgeColoring cornerCount firstCorner direction sub dot cross divScalar squaredLength lengthOf normalize sqrtOf toStored fromStored Ieee.add Ieee.sub Ieee.mul Ieee.div Ieee.neg Ieee.ne Ieee.le Ieee.lt Ieee.ofBits
 two-squares = refl
+
+-- the square into buffers with room for so many colours
+abbrev into : List ℕ → Outcome
+into colors = edgeColoringSimple square eighth 0 (room 1 colors)
+
+-- refutes one that refuses a result that fits exactly, or writes beyond it
+pub exactly-fits : (into (9 ∷ 9 ∷ 9 ∷ 9 ∷ 8 ∷ []) .answer ≡ Edges (record { edges = 4; splines = 4 })) × (into (9 ∷ 9 ∷ 9 ∷ 9 ∷ 8 ∷ []) .buffers .colors ≡ (5 ∷ 3 ∷ 6 ∷ 3 ∷ 8 ∷ []))
+unfolding square edgeColoring cornerCount firstCorner direction sub dot cross divScalar squaredLength lengthOf normalize sqrtOf toStored fromStored Ieee.add Ieee.sub Ieee.mul Ieee.div Ieee.neg Ieee.ne Ieee.le Ieee.lt Ieee.ofBits
+exactly-fits = (refl, refl)
+
+-- refutes one that writes before it refuses
+pub one-short : into (9 ∷ 9 ∷ 9 ∷ []) ≡ record { answer = Refused ResultTooShort; buffers = room 1 (9 ∷ 9 ∷ 9 ∷ []) }
+unfolding square edgeColoring cornerCount firstCorner direction sub dot cross divScalar squaredLength lengthOf normalize sqrtOf toStored fromStored Ieee.add Ieee.sub Ieee.mul Ieee.div Ieee.neg Ieee.ne Ieee.le Ieee.lt Ieee.ofBits
+one-short = refl
 
 -- ---- teardrops
 
@@ -119,30 +144,3 @@ minors lengths = map (λ k. k .minor) (markMinors (record { corners = map (λ n.
 pub minors-only-among-four : (minors (3 ∷ 1 ∷ 3 ∷ []) ≡ (false ∷ false ∷ false ∷ [])) × (minors (3 ∷ 1 ∷ 3 ∷ 3 ∷ []) ≡ (true ∷ false ∷ false ∷ false ∷ []))
 unfolding markMinors Ieee.add Ieee.lt Ieee.ofBits
 minors-only-among-four = (refl, refl)
-
--- ---- buffers
-
-abbrev places : Float → Float → Float → Float → List Float
-places x0 y0 x1 y1 = x0 ∷ y0 ∷ x1 ∷ y1 ∷ f0 ∷ f0 ∷ f0 ∷ f0 ∷ []
-
-pub squareOutline : Outline
-squareOutline =
-    outline (4 ∷ []) (1 ∷ 1 ∷ 1 ∷ 1 ∷ [])
-    (places f0 f0 f1 f0 ++ places f1 f0 f1 f1 ++ places f1 f1 f0 f1 ++ places f0 f1 f0 f0)
-
-abbrev eight : List Float
-eight = places f1 f1 f1 f1
-
--- the square's result, into buffers with room for one contour and four edges, and so many colours
-abbrev into : List ℕ → Outcome
-into colors = edgeColoringSimple squareOutline eighth 0 (result (9 ∷ []) (9 ∷ 9 ∷ 9 ∷ 9 ∷ []) (eight ++ eight ++ eight ++ eight) colors)
-
--- refutes one that refuses a result that fits exactly, or writes beyond it
-pub exactly-fits : (into (9 ∷ 9 ∷ 9 ∷ 9 ∷ 8 ∷ []) .answer ≡ Edges (record { edges = 4; splines = 4 })) × (into (9 ∷ 9 ∷ 9 ∷ 9 ∷ 8 ∷ []) .buffers .colors ≡ (5 ∷ 3 ∷ 6 ∷ 3 ∷ 8 ∷ []))
-unfolding squareOutline edgeColoring cornerCount firstCorner direction sub dot cross divScalar squaredLength lengthOf normalize sqrtOf toStored fromStored Ieee.add Ieee.sub Ieee.mul Ieee.div Ieee.neg Ieee.ne Ieee.le Ieee.lt Ieee.ofBits
-exactly-fits = (refl, refl)
-
--- refutes one that writes before it refuses
-pub one-short : into (9 ∷ 9 ∷ 9 ∷ []) ≡ record { answer = Refused ResultTooShort; buffers = result (9 ∷ []) (9 ∷ 9 ∷ 9 ∷ 9 ∷ []) (eight ++ eight ++ eight ++ eight) (9 ∷ 9 ∷ 9 ∷ []) }
-unfolding squareOutline edgeColoring cornerCount firstCorner direction sub dot cross divScalar squaredLength lengthOf normalize sqrtOf toStored fromStored Ieee.add Ieee.sub Ieee.mul Ieee.div Ieee.neg Ieee.ne Ieee.le Ieee.lt Ieee.ofBits
-one-short = refl

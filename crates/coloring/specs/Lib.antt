@@ -29,3 +29,4 @@ pub mod ByDistance
 -- worked examples
 pub mod Examples
 pub mod ByDistanceExamples
+pub mod TenExamples

@@ -24,16 +24,16 @@ pairs (a ∷ firsts) (b ∷ seconds) = record { a = a; b = b } ∷ pairs firsts 
 
 -- ---- P7: the square's four splines, distance 0 beside and 1 across, seed 0
 
-abbrev square : List Float
-square = f0 ∷ f1 ∷ f0 ∷ f0 ∷ f1 ∷ f0 ∷ []
+abbrev pub squareDistances : List Float
+squareDistances = f0 ∷ f1 ∷ f0 ∷ f0 ∷ f1 ∷ f0 ∷ []
 
 -- refutes starting colours that are the lowest free ones (0, 1, 0, 1), and a declined offer that leaves its walk's colours
-pub square-colors : colorSplines 4 square 0 ≡ (0 ∷ 1 ∷ 2 ∷ 1 ∷ [])
+pub square-colors : colorSplines 4 squareDistances 0 ≡ (0 ∷ 1 ∷ 2 ∷ 1 ∷ [])
 unfolding offerSplines offer Ieee.lt Ieee.eq Ieee.ofBits
 square-colors = refl
 
 -- refutes a walk with another bound, zero pairs that are offered, and offers in another order
-pub square-answers : (offerSplines 4 square 0 .pairs ≡ pairs (0 ∷ 1 ∷ []) (2 ∷ 3 ∷ [])) × (offerSplines 4 square 0 .ends .answers ≡ (Kept 0 ∷ Declined 16 ∷ []))
+pub square-answers : (offerSplines 4 squareDistances 0 .pairs ≡ pairs (0 ∷ 1 ∷ []) (2 ∷ 3 ∷ [])) × (offerSplines 4 squareDistances 0 .ends .answers ≡ (Kept 0 ∷ Declined 16 ∷ []))
 unfolding offerSplines offer Ieee.lt Ieee.eq Ieee.ofBits
 square-answers = (refl, refl)
 

@@ -2,26 +2,14 @@
 use mathlib.Core.Path.{_≡_, refl}
 use mathlib.Core.Bool.{false}
 use lib.IntN.{pos, negsuc}
-use lib.Ieee.{Float, nan, fin, binary64, ofBits}
+use lib.Ieee.{nan, fin, binary64, ofBits}
 use Rattle.math.specs.Sqrt.{sqrtBits, sqrtOf}
 
--- the numbers 2, 2 ^ −1074 and 2 ^ −537
-abbrev two : Float
-two = fin false 1 (pos 1)
-
-abbrev smallest : Float
-smallest = fin false 1 (negsuc 1073)
-
-abbrev rootOfSmallest : Float
-rootOfSmallest = fin false 1 (negsuc 536)
-
 -- P4: the root of 2 is 3FF6A09E667F3BCD, and of 2 ^ −1074 it is 2 ^ −537
-abbrev pub P4 : Type 0
-P4 = (sqrtOf two ≡ ofBits binary64 0x3FF6_A09E_667F_3BCD) × (sqrtOf smallest ≡ rootOfSmallest)
-
-pub p4 : P4
+pub root-examples :
+    (sqrtOf (fin false 1 (pos 1)) ≡ ofBits binary64 0x3FF6_A09E_667F_3BCD) × (sqrtOf (fin false 1 (negsuc 1073)) ≡ fin false 1 (negsuc 536))
 unfolding sqrtOf
-p4 = (refl, refl)
+root-examples = (refl, refl)
 
 pub record SqrtExamples : Type 0 where
   -- P4 on patterns
