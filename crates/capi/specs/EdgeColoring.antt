@@ -1,19 +1,18 @@
 -- How the outcome of a colouring is handed to C: the answer as one number, and the four result buffers.
 use Prim.Native.Nat.{ℕ, _+_, _*_, _%_}
+use lib.ListN.{getD}
 use Rattle.coloring.specs.declared.outline.Colored.{Colored}
-use Rattle.coloring.specs.declared.outline.Colored.the-variants.{Edges, Refused}
-use Rattle.coloring.specs.Refusal.{refusalNumber}
+use Rattle.coloring.specs.Answers.{coloredAnswer}
 use Rattle.coloring.specs.Outline.{Outcome, Result}
+use Rattle.capi.specs.Answers.{codeOf}
 
 -- the number of edges, or 2^32 and the number of the refusal
 abbrev pub coloredCode : Colored → ℕ
-coloredCode (Edges counts) = counts .edges
-coloredCode (Refused refusal) = 4294967296 + refusalNumber refusal
+coloredCode answer = codeOf (λ vs. getD vs 0 0) 4294967296 (coloredAnswer answer)
 
 -- the same with the number of splines, 2^16 times
 abbrev pub collectedCode : Colored → ℕ
-collectedCode (Edges counts) = counts .edges % 65536 + 65536 * (counts .splines % 65536)
-collectedCode (Refused refusal) = 4294967296 + refusalNumber refusal
+collectedCode answer = codeOf (λ vs. getD vs 0 0 % 65536 + 65536 * (getD vs 1 0 % 65536)) 4294967296 (coloredAnswer answer)
 
 pub record Handed : Type 0 where
   pub code : ℕ

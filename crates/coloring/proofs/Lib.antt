@@ -5,3 +5,4 @@ pub mod Places
 pub mod Writing
 pub mod ChannelLaws
 pub mod TrichotomyExact
+pub mod AnswerLaws

@@ -26,6 +26,8 @@ pub mod Outline
 pub mod Shape
 pub mod EdgeColoring
 pub mod ByDistance
+-- the answers in document 01's numbers
+pub mod Answers
 -- worked examples
 pub mod Examples
 pub mod ByDistanceExamples

@@ -12,5 +12,7 @@ pub mod Color
 pub mod Part
 -- the text of an answer
 pub mod Listing
+-- the answers in document 01's numbers
+pub mod Answers
 -- evaluated examples
 pub mod Examples
