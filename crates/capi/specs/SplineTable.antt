@@ -7,4 +7,4 @@ use Rattle.capi.specs.Answers.{codeOf}
 
 -- 256 and the counter where the pair is kept, 512 and the counter where it is declined, 768 and the number of the refusal
 abbrev pub answerCode : Offer → ℕ
-answerCode answer = codeOf (λ vs. 512 - 256 * getD vs 0 0 + getD vs 1 0) 768 (offerAnswer answer)
+answerCode answer = codeOf (λ vs. 256 * (2 - getD vs 0 0) + getD vs 1 0) 768 (offerAnswer answer)
