@@ -294,17 +294,21 @@ fn distances_less(r: &mut Random, c: &mut DistanceCall) {
 }
 
 /// Not finite, or below zero by as little as can be.
+pub fn bad_distance(r: &mut Random) -> u64 {
+    match r.below(6) {
+        0 => f64::INFINITY.to_bits(),
+        1 => f64::NEG_INFINITY.to_bits(),
+        2 => noise(r) | 0x7FF0_0000_0000_0001,
+        3 => (-f64::from_bits(1)).to_bits(),
+        4 => (-1.0f64).to_bits(),
+        _ => (-f64::MAX).to_bits(),
+    }
+}
+
 fn distance_bad(r: &mut Random, c: &mut DistanceCall) {
     let at = some(r, c.distances.len());
     if let Some(d) = c.distances.get_mut(at) {
-        *d = match r.below(6) {
-            0 => f64::INFINITY.to_bits(),
-            1 => f64::NEG_INFINITY.to_bits(),
-            2 => noise(r) | 0x7FF0_0000_0000_0001,
-            3 => (-f64::from_bits(1)).to_bits(),
-            4 => (-1.0f64).to_bits(),
-            _ => (-f64::MAX).to_bits(),
-        };
+        *d = bad_distance(r);
     }
 }
 

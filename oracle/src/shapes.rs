@@ -383,7 +383,7 @@ fn kind_unknown(r: &mut Random, call: &mut Call) {
 }
 
 /// What is no coordinate: beyond the range by as little as can be, or infinite, or a NaN.
-fn bad_coordinate(r: &mut Random) -> u64 {
+pub fn bad_coordinate(r: &mut Random) -> u64 {
     let size = match r.below(6) {
         0 | 1 => MAX_COORDINATE.next_up(),
         2 => f64::INFINITY,
@@ -415,14 +415,19 @@ fn unused_bad(r: &mut Random, call: &mut Call) {
     }
 }
 
-fn threshold_bad(r: &mut Random, call: &mut Call) {
+/// The same of a threshold.
+pub fn bad_threshold(r: &mut Random) -> f64 {
     let size = match r.below(5) {
         0 | 1 => 1.0f64.next_up(),
         2 => f64::from_bits(0x7FF0_0000_0000_0001 + (r.next() >> 12)),
         3 => f64::INFINITY,
         _ => 1.0 + r.unit().abs() + f64::EPSILON,
     };
-    call.threshold = if r.coin() { size } else { -size };
+    if r.coin() { size } else { -size }
+}
+
+fn threshold_bad(r: &mut Random, call: &mut Call) {
+    call.threshold = bad_threshold(r);
 }
 
 /// How many places a buffer loses: one mostly.

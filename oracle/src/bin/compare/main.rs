@@ -1,9 +1,10 @@
 //! Runs the proved code, through the archives of target/staticlib, beside the Rust of docs/src, and counts
 //! the answers that differ. The last line is the verdict. A word names one part alone: `leaves`,
-//! `edges`, `tables`, `shapes`, `distances`; `speed` measures and compares nothing.
+//! `edges`, `tables`, `shapes`, `distances`, `jobs`; `speed` measures and compares nothing.
 
 mod distances;
 mod edges;
+mod jobs;
 mod leaves;
 mod records;
 mod shapes;
@@ -56,20 +57,23 @@ fn main() {
             tables::compare(&mut all);
             shapes::compare(&mut all);
             distances::compare(&mut all);
+            jobs::compare(&mut all);
         }
         Some("leaves") => leaves::compare(&mut all),
         Some("edges") => edges::compare(&mut all),
         Some("tables") => tables::compare(&mut all),
         Some("shapes") => shapes::compare(&mut all),
         Some("distances") => distances::compare(&mut all),
+        Some("jobs") => jobs::compare(&mut all),
         Some("speed") => {
             tables::speed();
             shapes::speed();
             distances::speed();
+            jobs::speed();
             return;
         }
         Some(_) => {
-            eprintln!("usage: compare [leaves | edges | tables | shapes | distances | speed]");
+            eprintln!("usage: compare [leaves | edges | tables | shapes | distances | jobs | speed]");
             std::process::exit(2);
         }
     }
