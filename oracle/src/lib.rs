@@ -23,6 +23,7 @@ pub mod edges;
 pub mod glyphs;
 pub mod job_faults;
 pub mod job_files;
+pub mod job_sample;
 pub mod jobs;
 pub mod leaves;
 pub mod numbers;

@@ -3,6 +3,7 @@
 
 use crate::contours::{self, Edges, MAX_COORDINATE, contour, coordinate, edge, planned};
 use crate::distances::{self, DistanceCall, collect, collected, pairs, with_splines};
+use crate::glyphs::{self, polygon};
 use crate::math::Vector2;
 use crate::numbers::Random;
 use crate::shapes::{Answer, Buffers, Call, FAULTS, Fault, STRATEGIES, Strategy};
@@ -139,19 +140,9 @@ fn v(x: f64, y: f64) -> Vector2 {
     Vector2::new(x, y)
 }
 
-/// A closed path of lines.
-fn polygon(points: &[(f64, f64)]) -> Edges {
-    let at = |i: usize| {
-        let (x, y) = points[i % points.len()];
-        v(x, y)
-    };
-    (0..points.len()).map(|i| edge(&[at(i), at(i + 1)])).collect()
-}
-
 /// Document 01's square, in both colourings 5, 3, 6, 3.
 fn square() -> Vec<Call> {
-    let square = polygon(&[(0.0, 0.0), (1.0, 0.0), (1.0, 1.0), (0.0, 1.0)]);
-    let call = on(&[square], 0.125, 0);
+    let call = on(&[glyphs::square()], 0.125, 0);
     for strategy in STRATEGIES {
         assert_eq!(color(strategy, &call).1.colors, [5, 3, 6, 3]);
     }

@@ -2,7 +2,7 @@
 //! `vectors ../crates/replay`.
 
 use oracle::tables::{self, Run, Table};
-use oracle::{edges, leaves, shape_sample};
+use oracle::{edges, job_sample, leaves, shape_sample};
 use std::path::Path;
 
 /// The records, and the counts that the program prints when every answer is right.
@@ -72,9 +72,9 @@ fn table(out: &mut Recording) {
     }
 }
 
-/// Calls of the colourings with their outcomes, of no common size.
-fn coloring(out: &mut Recording) {
-    for (name, records) in shape_sample::sample() {
+/// Calls of the colourings and job files, with their outcomes, of no common size.
+fn coloring_and_jobs(out: &mut Recording) {
+    for (name, records) in shape_sample::sample().into_iter().chain(job_sample::sample()) {
         out.heading(&name, records.len());
         out.records.extend(records.concat());
     }
@@ -89,7 +89,7 @@ fn main() {
     math(&mut out);
     geometry(&mut out);
     table(&mut out);
-    coloring(&mut out);
+    coloring_and_jobs(&mut out);
     let folder = Path::new(&folder);
     std::fs::write(folder.join("stdin"), &out.records).unwrap();
     std::fs::write(folder.join("stdout"), &out.counts).unwrap();
