@@ -17,6 +17,7 @@ pub mod by_distance_collected;
 pub mod by_distance_counted;
 pub mod by_distance_given;
 pub mod by_distance_longer;
+pub mod by_distance_measured;
 
 pub mod probe {
     use super::*;
@@ -85,6 +86,13 @@ const END: &str = "        shape.contours[ci].colors[si] = COLORS[coloring[splin
 const DECLINED: &str =
     "graph_edges.iter().filter(|&&(i, j)| edge_matrix[i * spline_count + j] == 0).count()";
 
+// What comes after the matrix, and its entries by i then j.
+const SORTED: &str = "    // Sorted list of graph edges (i<j) by distance.\n";
+const ENTRIES: &str = "    let above = |i: usize| &distance_matrix[i * spline_count..][i + 1..spline_count];
+    (0..spline_count).flat_map(above).copied().collect()
+}
+";
+
 const MATRIX: &str = "    // Distance matrix between splines.\n";
 
 const COUNT: &str = "    let spline_count = spline_starts.len() - 1;\n";
@@ -149,6 +157,21 @@ fn collected(by_distance: &str) -> String {
     format!("{pass}    (refs, spline_starts)\n}}\n")
 }
 
+// By-distance colouring up to its matrix: the source's own distances of the splines, by i then j.
+fn measured(by_distance: &str) -> String {
+    let t = replace(
+        by_distance,
+        1,
+        BY_DISTANCE,
+        "pub fn spline_distances(shape: &mut Shape, angle_threshold: f64) -> Vec<f64> {\n",
+    );
+    let none = "    if spline_count == 0 {\n        return";
+    let t = replace(&t, 1, none, &format!("{none} Vec::new()"));
+    assert_eq!(t.matches(SORTED).count(), 1);
+    let (matrix, _) = t.split_once(SORTED).unwrap();
+    format!("{matrix}{ENTRIES}")
+}
+
 fn main() {
     let here = PathBuf::from(env::var("CARGO_MANIFEST_DIR").unwrap());
     let out = PathBuf::from(env::var("OUT_DIR").unwrap());
@@ -167,6 +190,7 @@ fn main() {
     write("mod.rs", coloring + PROBE);
     write("by_distance_given.rs", given(&by_distance));
     write("by_distance_collected.rs", collected(&by_distance));
+    write("by_distance_measured.rs", measured(&by_distance));
     let counted = counted(&by_distance) + OFFER_COUNTED;
     write("by_distance_longer.rs", replace(&counted, 1, LIMIT, LONGER));
     write("by_distance_counted.rs", counted);
