@@ -6,9 +6,9 @@ use crate::outline::check;
 use crate::pair_order::distances_valid;
 use crate::refusal::Refusal;
 use crate::settings::Marking;
+use crate::shape::count_shape;
 use crate::shape::paint_shape;
 use crate::spline_colors::color_splines;
-use crate::splines::shape_splines;
 use geometry::edge_color::EdgeColor;
 ghost use mathlib.Core.Path.{_≡_};
 ghost use mathlib.Core.List.{map};
@@ -42,7 +42,8 @@ fn collect_outline(
         (result (now («out_lengths» .entry)) (now («out_kinds» .entry)) (now («out_points» .entry)) (now («out_splines» .entry))) ⌝ }
 {
     find_corners(lengths, kinds, points, threshold, flags);
-    if shape_splines(lengths, flags) > 64 {
+    let counts = count_shape(lengths, flags);
+    if counts.splines > 64 {
         return Colored::Refused(Refusal::TooMany);
     }
     paint_shape(
@@ -176,7 +177,8 @@ fn color_outline_by_distance(
         (result (now («out_lengths» .entry)) (now («out_kinds» .entry)) (now («out_points» .entry)) (now («out_colors» .entry))) ⌝ }
 {
     find_corners(lengths, kinds, points, threshold, flags);
-    let splines = shape_splines(lengths, flags);
+    let counts = count_shape(lengths, flags);
+    let splines = counts.splines;
     if splines > 64 {
         return Colored::Refused(Refusal::TooMany);
     }

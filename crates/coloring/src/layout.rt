@@ -13,7 +13,7 @@ ghost use lib.ListN.{length, take, drop};
 ghost use Rattle.coloring.specs.Places.{rotate, concat, total};
 ghost use Rattle.coloring.specs.Corners.{cornered};
 ghost use Rattle.coloring.specs.Layout.{thirds, splits, layout, resultEdges, resultCorner};
-ghost use Rattle.coloring.specs.Outline.{edgesOf, cut, kindOf, placesOf, overFrom, Matching, whole, Part, part, Stored, StoredFrom, Room, LaidOut};
+ghost use Rattle.coloring.specs.Outline.{edgesOf, kindOf, placesOf, overFrom, Matching, whole, Part, part, Stored, StoredFrom, Room, LaidOut};
 
 // ---- one contour
 
@@ -140,24 +140,6 @@ pub(crate) fn part_edges(flags: &[bool], at: usize, end: usize) -> usize
     ensures { λ r. ⌜ r ≡ resultEdges (take (end - at) (drop at (now (flags .entry)))) ⌝ }
 {
     result_edges(&flags[at..end])
-}
-
-// How many edges all contours come to.
-pub(crate) fn shape_edges(lengths: &[u16], flags: &[bool]) -> usize
-    requires { ⌜ (total (now lengths) ≡ length (now flags)) × (length (now flags) ≤ 256) ⌝ }
-    ensures edges { λ r. ⌜ r ≡ total (map resultEdges (cut (now (lengths .entry)) (now (flags .entry)))) ⌝ }
-    ensures few { λ r. ⌜ r ≤ 768 ⌝ }
-{
-    let mut edges: usize = 0;
-    let mut at: usize = 0;
-    let mut i = 0;
-    while i < lengths.len() {
-        let end = at + lengths[i] as usize;
-        edges += part_edges(flags, at, end);
-        at = end;
-        i += 1;
-    }
-    edges
 }
 
 // The edges of the result, contour by contour.

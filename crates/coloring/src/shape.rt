@@ -2,14 +2,13 @@
 use crate::contour::color_contour;
 use crate::layout::lay_out;
 use crate::layout::part_edges;
-use crate::layout::shape_edges;
 use crate::outline::Colored;
 use crate::outline::Counts;
 use crate::refusal::Refusal;
 use crate::settings::Marking;
 use crate::settings::Strategy;
 use crate::splines::paint;
-use crate::splines::shape_splines;
+use crate::splines::part_splines;
 use crate::splines::spline_count;
 use crate::switching::Pen;
 use crate::switching::init_color;
@@ -172,6 +171,26 @@ fn number_contours(lengths: &[u16], flags: &[bool], out: &mut [u8])
 
 // ---- the result
 
+// How many edges all contours come to, and how many splines they have.
+pub(crate) fn count_shape(lengths: &[u16], flags: &[bool]) -> Counts
+    requires { ⌜ (total (now lengths) ≡ length (now flags)) × (length (now flags) ≤ 256) ⌝ }
+    ensures edges { λ r. ⌜ (r .edges ≡ total (map resultEdges (cut (now (lengths .entry)) (now (flags .entry))))) × (r .edges ≤ 768) ⌝ }
+    ensures splines { λ r. ⌜ (r .splines ≡ total (map splineCount (cut (now (lengths .entry)) (now (flags .entry))))) × (r .splines ≤ 512) ⌝ }
+{
+    let mut edges: usize = 0;
+    let mut splines: usize = 0;
+    let mut at: usize = 0;
+    let mut i = 0;
+    while i < lengths.len() {
+        let end = at + lengths[i] as usize;
+        edges += part_edges(flags, at, end);
+        splines += part_splines(flags, at, end);
+        at = end;
+        i += 1;
+    }
+    Counts { edges, splines }
+}
+
 // Whether buffers of these lengths have room for so many contours and edges.
 fn has_room(
     contours: usize,
@@ -237,11 +256,10 @@ pub(crate) fn paint_shape(
         deliverFound Passed marking (cornered (now (lengths .entry)) (edgesOf (now (kinds .entry)) (now (points .entry))) (now (flags .entry)))
         (result (now («out_lengths» .entry)) (now («out_kinds» .entry)) (now («out_points» .entry)) (now («out_colors» .entry))) ⌝ }
 {
-    let edges = shape_edges(lengths, flags);
-    let splines = shape_splines(lengths, flags);
+    let counts = count_shape(lengths, flags);
     let room = has_room(
         lengths.len(),
-        edges,
+        counts.edges,
         out_lengths.len(),
         out_kinds.len(),
         out_points.len(),
@@ -260,5 +278,5 @@ pub(crate) fn paint_shape(
         out_points,
     );
     mark_contours(marking, lengths, kinds, points, flags, out_colors);
-    Colored::Edges(Counts { edges, splines })
+    Colored::Edges(counts)
 }

@@ -3,11 +3,8 @@ use crate::corners::count_corners;
 use crate::layout::result_corner;
 use crate::teardrop::paint_runs;
 ghost use mathlib.Core.Path.{_≡_};
-ghost use mathlib.Core.List.{map};
 ghost use Prim.Native.Nat.{_-_, _≤_, _<_};
 ghost use lib.ListN.{length, getD, take, drop};
-ghost use Rattle.coloring.specs.Places.{total};
-ghost use Rattle.coloring.specs.Outline.{cut};
 ghost use Rattle.coloring.specs.Splines.{splineCount, spread, paint, Paintable};
 
 // How many splines a contour has.
@@ -25,29 +22,11 @@ pub(crate) fn spline_count(flags: &[bool]) -> usize
 }
 
 // How many splines the contour of the edges from `at` up to `end` has.
-fn part_splines(flags: &[bool], at: usize, end: usize) -> usize
+pub(crate) fn part_splines(flags: &[bool], at: usize, end: usize) -> usize
     requires { ⌜ (at ≤ end) × (end ≤ length (now flags)) ⌝ }
     ensures { λ r. ⌜ r ≡ splineCount (take (end - at) (drop at (now (flags .entry)))) ⌝ }
 {
     spline_count(&flags[at..end])
-}
-
-// How many splines all contours have.
-pub(crate) fn shape_splines(lengths: &[u16], flags: &[bool]) -> usize
-    requires { ⌜ (total (now lengths) ≡ length (now flags)) × (length (now flags) ≤ 256) ⌝ }
-    ensures splines { λ r. ⌜ r ≡ total (map splineCount (cut (now (lengths .entry)) (now (flags .entry)))) ⌝ }
-    ensures few { λ r. ⌜ r ≤ 512 ⌝ }
-{
-    let mut splines: usize = 0;
-    let mut at: usize = 0;
-    let mut i = 0;
-    while i < lengths.len() {
-        let end = at + lengths[i] as usize;
-        splines += part_splines(flags, at, end);
-        at = end;
-        i += 1;
-    }
-    splines
 }
 
 // Each edge takes its spline's value. What stands before the first corner belongs to the last spline.

@@ -2,10 +2,11 @@
 use mathlib.Core.Path.{_≡_, refl, ap}
 use mathlib.Core.Bool.{Bool}
 use mathlib.Core.List.{List, [], _∷_, map}
-use Prim.Native.Nat.{ℕ, suc, _+_, _≤_, _<_}
+use Prim.Native.Nat.{ℕ, suc, _+_, _*_, _≤_, _<_}
 use native.Mathlib.Omega.{arith}
+use native.Mathlib.Nat.{mul-add}
 use native.Mathlib.Numerals.{add-one}
-use lib.ListN.{length, getD, take, drop, drop-of-length-le}
+use lib.ListN.{length, getD, take, drop, length-append, take-append-drop, drop-of-length-le}
 use lib.Seq.{drop-cons, drop-drop}
 use Rattle.geometry.specs.declared.edge_segment.EdgeSegment.{EdgeSegment}
 use Rattle.coloring.specs.Places.{total}
@@ -53,6 +54,15 @@ module _ (count : List Bool → ℕ) (lengths : List ℕ) (flags : List Bool) (i
       → left count lengths flags i at ≡ count (take (getD lengths i 0) (drop at flags)) + left count lengths flags (i + 1) (at + getD lengths i 0)
   unfolding total
   left-step h = rw (cut-step lengths flags i at h)
+
+-- counts of k an edge at most come to k an edge at most
+module _ (count : List Bool → ℕ) (k : ℕ) (bound : (flags : List Bool) → count flags ≤ k * length flags) where
+  pub total-most : (lengths : List ℕ) (flags : List Bool) → total (map count (cut lengths flags)) ≤ k * length flags
+  unfolding cut total
+  total-most [] flags = omega arith
+  total-most (n ∷ lengths) flags =
+      let parts : k * length (take n flags) + k * length (drop n flags) ≡ k * length flags = rw (← mul-add, ← length-append, take-append-drop) in
+      omega (arith, bound (take n flags), total-most lengths (drop n flags))
 
 pub cut-length : {A : Type 0} (lengths : List ℕ) (xs : List A) → length (cut lengths xs) ≡ length lengths
 unfolding cut

@@ -16,30 +16,38 @@ use Rattle.coloring.proofs.by_distance.collect_outline.Tie as tie
 abbrev found : tie.Start → List Cornered
 found c = map (searchCorners (c .args .threshold)) (contours (outline (c .args .lengths .now) (c .args .kinds .now) (c .args .points .now)))
 
-matching : (c : tie.After-find-corners) → Matching (c .before .before .before .before .before .before .before .before .before .before .args .kinds .now) (c .before .before .before .before .before .before .before .before .before .before .args .points .now) (c .find-corners .last .1 .1 .1 .1 .0)
-matching c =
-    let start = c .before .before .before .before .before .before .before .before .before .before in
-    let m = start .pre .0 in
-    record { places = m .places; flagged = c .find-corners .kept .1 .1 .1 .1 .0 ∙ m .flagged; few = m .few }
+-- the corners are searched
+module _ (c : tie.After-find-corners) where
+  abbrev start : tie.Start
+  start = c .before .before .before .before .before .before .before .before .before .before
 
-splines : (c : tie.After-shape-splines) → splineTotal (found (c .before .before .before .before .before .before .before .before .before .before .before .before .before .before)) ≡ c .shape-splines .result
-splines c =
-    let start = c .before .before .before .before .before .before .before .before .before .before .before .before .before .before in
-    let a = start .args in
-    ap splineTotal (sym (c .before .before .before .before .find-corners .ensures))
-    ∙ splines-cut (a .lengths .now) (edgesOf (a .kinds .now) (a .points .now)) _
-    ∙ sym (c .shape-splines .ensures .0)
+  matching : Matching (start .args .kinds .now) (start .args .points .now) (c .find-corners .last .1 .1 .1 .1 .0)
+  matching =
+      let m = start .pre .0 in
+      record { places = m .places; flagged = c .find-corners .kept .1 .1 .1 .1 .0 ∙ m .flagged; few = m .few }
+
+-- the splines are counted
+module _ (c : tie.After-count-shape) where
+  abbrev searched : tie.After-find-corners
+  searched = c .before .before .before .before
+
+  splines : splineTotal (found (start searched)) ≡ c .count-shape .result .splines
+  splines =
+      let a = start searched .args in
+      ap splineTotal (sym (searched .find-corners .ensures))
+      ∙ splines-cut (a .lengths .now) (edgesOf (a .kinds .now) (a .points .now)) _
+      ∙ sym (c .count-shape .ensures .1 .0)
 
 find-corners-requires : tie.Need-find-corners-requires
 find-corners-requires c κs =
     let start = c .before .before .before .before .before .before .before .before .before in
     start .pre
 
-shape-splines-requires : tie.Need-shape-splines-requires
-shape-splines-requires c κs =
-    let start = c .before .before .before .before .before .before .before .before .before .before .before .before .before in
-    let m = matching (c .before .before .before) in
-    (start .pre .1 ∙ sym (m .flagged), omega (arith, m .flagged, m .few))
+count-shape-requires : tie.Need-count-shape-requires
+count-shape-requires c κs =
+    let searched = c .before .before .before in
+    let m = matching searched in
+    (start searched .pre .1 ∙ sym (m .flagged), omega (arith, m .flagged, m .few))
 
 same-length : tie.Need-same-length
 same-length c = search needs
@@ -47,15 +55,14 @@ same-length c = search needs
 returns : tie.Need-returns
 unfolding deliver
 returns c =
-    let place = c .before .before .before .before .before .before .before .before .before .before .before .before .before .before .before in
-    rw (splines-many (splineTotal (found place)) Passed (rw (splines (c .before)) (c .if1 .taken)))
+    let counted = c .before .before in
+    rw (splines-many (splineTotal (found (start (searched counted)))) Passed (rw (splines counted) (c .if1 .taken)))
 
 paint-shape-requires : tie.Need-paint-shape-requires
 paint-shape-requires c κs =
-    let place = c .before .before .before .before .before .before .before .before .before .before in
-    let shape-splines = c .before .before .before .before .before .before in
-    let s = c .before .before .before .before .before .before .before .before .before .before .before .before .before .before .before .before .before .before .before .before in
-    (matching place, s .pre .1, rw (← shape-splines .shape-splines .ensures .0) (c .before .before .before .before .before .if1 .left))
+    let few = c .before .before .before .before .before in
+    let counted = few .before .before in
+    (matching (searched counted), start (searched counted) .pre .1, rw (← counted .count-shape .ensures .1 .0) (few .if1 .left))
 
 same-length-2 : tie.Need-same-length-2
 same-length-2 c = search needs
@@ -74,19 +81,18 @@ same-length-6 c = search needs
 
 returns-2 : tie.Need-returns-2
 returns-2 c =
-    let find-corners = c .before .before .before .before .before .before .before .before .before .before .before .before .before .before .before .before .before .before .before in
-    let place = c .before .before .before .before .before .before .before .before .before .before .before .before .before .before .before in
-    let branch = c .before .before .before .before .before .before .before .before .before .before .before .before .before .before in
-    let paint-shape = c .before .before .before .before .before .before .before .before in
-    let s = c .before .before .before .before .before .before .before .before .before .before .before .before .before .before .before .before .before .before .before .before .before .before .before .before .before .before .before .before .before in
-    rw (splines-passed (splineTotal (found s)) Passed (rw (splines place) (branch .if1 .left)), ← find-corners .find-corners .ensures) (paint-shape .paint-shape .ensures)
+    let painted = c .before .before .before .before .before .before .before .before in
+    let few = painted .before .before .before .before .before .before in
+    let counted = few .before .before in
+    let found = found (start (searched counted)) in
+    rw (splines-passed (splineTotal found) Passed (rw (splines counted) (few .if1 .left)), ← searched counted .find-corners .ensures) (painted .paint-shape .ensures)
 
 pub collect-outline-spec : {M : Type 1} → statement M
 collect-outline-spec =
     tie.close
     (tie.spec
     find-corners-requires
-    shape-splines-requires
+    count-shape-requires
     same-length
     returns
     paint-shape-requires

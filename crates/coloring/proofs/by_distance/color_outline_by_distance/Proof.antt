@@ -1,6 +1,7 @@
 -- `color_outline_by_distance` meets its contract: 4, 8, 9, then the edges with the colours of their splines.
 use borrow.Author.Needs.{needs}
 use mathlib.Core.Path.{_≡_, sym, ap, subst, _∙_}
+use mathlib.Core.Bool.{Bool}
 use mathlib.Core.List.{List, map}
 use Prim.Native.Nat.{ℕ, _≤_}
 use native.Mathlib.Omega.{arith}
@@ -37,49 +38,73 @@ counts c = countsOf (found c) (collected c)
 abbrev old : tie.Start → Result
 old c = result (c .args .out-lengths .now) (c .args .out-kinds .now) (c .args .out-points .now) (c .args .out-colors .now)
 
-matching : (c : tie.After-find-corners) → Matching (c .before .before .before .before .before .before .before .before .before .before .before .args .kinds .now) (c .before .before .before .before .before .before .before .before .before .before .before .args .points .now) (c .find-corners .last .1 .1 .1 .1 .0)
-matching c =
-    let start = c .before .before .before .before .before .before .before .before .before .before .before in
-    let m = start .pre .0 in
-    record { places = m .places; flagged = c .find-corners .kept .1 .1 .1 .1 .0 ∙ m .flagged; few = m .few }
-
-splines : (c : tie.After-shape-splines) → splineTotal (found (c .before .before .before .before .before .before .before .before .before .before .before .before .before .before .before)) ≡ c .shape-splines .result
-splines c =
-    let start = c .before .before .before .before .before .before .before .before .before .before .before .before .before .before .before in
-    let a = start .args in
-    ap splineTotal (sym (c .before .before .before .before .find-corners .ensures))
-    ∙ splines-cut (a .lengths .now) (edgesOf (a .kinds .now) (a .points .now)) _
-    ∙ sym (c .shape-splines .ensures .0)
-
-module _ (c : tie.After-paint-shape) where
+-- the corners are searched
+module _ (c : tie.After-find-corners) where
   abbrev start : tie.Start
-  start = c .before .before .before .before .before .before .before .before .before .before .before .before .before .before .before .before .before .before .before .before .before .before .before .before .before .before
+  start = c .before .before .before .before .before .before .before .before .before .before .before
 
-  few : c .before .before .before .before .before .before .before .before .before .before .before .shape-splines .result ≤ 64
-  few = c .before .before .before .before .before .before .before .before .before .before .if1 .left
+  abbrev flags : List Bool
+  flags = c .find-corners .last .1 .1 .1 .1 .0
 
-  given : Distances (c .before .before .before .before .before .before .before .before .before .before .before .shape-splines .result) (start .args .distances .now)
+  matching : Matching (start .args .kinds .now) (start .args .points .now) flags
+  matching =
+      let m = start .pre .0 in
+      record { places = m .places; flagged = c .find-corners .kept .1 .1 .1 .1 .0 ∙ m .flagged; few = m .few }
+
+-- the splines are counted
+module _ (c : tie.After-count-shape) where
+  abbrev searched : tie.After-find-corners
+  searched = c .before .before .before .before
+
+  splines : splineTotal (found (start searched)) ≡ c .count-shape .result .splines
+  splines =
+      let a = start searched .args in
+      ap splineTotal (sym (searched .find-corners .ensures))
+      ∙ splines-cut (a .lengths .now) (edgesOf (a .kinds .now) (a .points .now)) _
+      ∙ sym (c .count-shape .ensures .1 .0)
+
+-- the edges are laid out and numbered
+module _ (c : tie.After-paint-shape) where
+  abbrev tested : tie.Else3
+  tested = c .before .before .before .before .before .before
+
+  abbrev matched : tie.Else2
+  matched = tested .before .before
+
+  abbrev counted : tie.After-count-shape
+  counted = matched .before .before .before
+
+  abbrev began : tie.Start
+  began = start (searched counted)
+
+  abbrev count : ℕ
+  count = counted .count-shape .result .splines
+
+  few : count ≤ 64
+  few = matched .before .before .if1 .left
+
+  given : Distances count (began .args .distances .now)
   given =
       record {
         few = few;
-        count = c .before .before .before .before .before .before .before .before .if2 .left ∙ c .before .before .before .before .before .before .before .before .before .pair-count .ensures;
-        valid = sym (c .before .before .before .before .before .before .before .distances-valid .ensures) ∙ not-false (c .before .before .before .before .before .before .before .distances-valid .result) (c .before .before .before .before .before .before .if3 .left);
+        count = matched .if2 .left ∙ matched .before .pair-count .ensures;
+        valid = sym (tested .before .distances-valid .ensures) ∙ not-false (tested .before .distances-valid .result) (tested .if3 .left);
       }
 
   -- what was painted
   plain : outcome (c .paint-shape .result)
       (result (c .paint-shape .last .1 .1 .1 .1 .1 .0) (c .paint-shape .last .1 .1 .1 .1 .1 .1 .0) (c .paint-shape .last .1 .1 .1 .1 .1 .1 .1 .0)
       (c .paint-shape .last .1 .1 .1 .1 .1 .1 .1 .1 .0))
-      ≡ deliver Passed (counts start) (collected start) (old start)
-  plain = rw (c .before .before .before .before .before .before .before .before .before .before .before .before .before .before .before .find-corners .ensures) at (c .paint-shape .ensures)
+      ≡ deliver Passed (counts began) (collected began) (old began)
+  plain = rw (searched counted .find-corners .ensures) at (c .paint-shape .ensures)
 
-  sized : counts start .edges ≡ length (collected start .colors)
+  sized : counts began .edges ≡ length (collected began .colors)
   unfolding countsOf
   sized =
-      let a = start .args in
-      let m = matching (c .before .before .before .before .before .before .before .before .before .before .before .before .before .before .before) in
-      let flagged = rw (c .before .before .before .before .before .before .before .before .before .before .before .before .before .before .before .find-corners .ensures) at (cut-flagged (a .lengths .now) (edgesOf (a .kinds .now) (a .points .now)) (c .before .before .before .before .before .before .before .before .before .before .before .before .before .before .before .find-corners .last .1 .1 .1 .1 .0) (m .flagged ∙ sym (edges-length (a .kinds .now) (a .points .now)))) in
-      let s = painted-sized Numbers (found start) flagged in
+      let a = began .args in
+      let same = matching (searched counted) .flagged ∙ sym (edges-length (a .kinds .now) (a .points .now)) in
+      let flagged = cut-flagged (a .lengths .now) (edgesOf (a .kinds .now) (a .points .now)) (flags (searched counted)) same in
+      let s = painted-sized Numbers (found began) (rw (searched counted .find-corners .ensures) at flagged) in
       s .kinds-long ∙ sym (s .colors-long)
 
 find-corners-requires : tie.Need-find-corners-requires
@@ -87,20 +112,18 @@ find-corners-requires c κs =
     let start = c .before .before .before .before .before .before .before .before .before .before in
     start .pre
 
-shape-splines-requires : tie.Need-shape-splines-requires
-shape-splines-requires c κs =
-    let start = c .before .before .before .before .before .before .before .before .before .before .before .before .before .before in
-    let m = matching (c .before .before .before) in
-    (start .pre .1 ∙ sym (m .flagged), omega (arith, m .flagged, m .few))
+count-shape-requires : tie.Need-count-shape-requires
+count-shape-requires c κs =
+    let searched = c .before .before .before in
+    let m = matching searched in
+    (start searched .pre .1 ∙ sym (m .flagged), omega (arith, m .flagged, m .few))
 
 same-length : tie.Need-same-length
 same-length c = search needs
 
 returns : tie.Need-returns
 unfolding deliver
-returns c =
-    let place = c .before .before .before .before .before .before .before .before .before .before .before .before .before .before .before .before in
-    rw (splines-many (splineTotal (found place)) _ (rw (splines (c .before)) (c .if1 .taken)))
+returns c = rw (splines-many (splineTotal (found (start (searched (c .before))))) _ (rw (splines (c .before)) (c .if1 .taken)))
 
 pair-count-requires : tie.Need-pair-count-requires
 pair-count-requires c κs = c .if1 .left
@@ -111,10 +134,10 @@ same-length-2 c = search needs
 returns-2 : tie.Need-returns-2
 unfolding deliver
 returns-2 c =
-    let start = c .before .before .before .before .before .before .before .before .before .before .before .before .before .before .before .before .before .before in
-    let n = splineTotal (found start) in
-    let count = splines (c .before .before .before) in
-    rw (splines-passed n _ (rw count (c .before .before .if1 .left)), count-differs n (start .args .distances .now) (rw (count, ← c .before .pair-count .ensures) (c .if2 .taken)))
+    let counted = c .before .before .before in
+    let s = start (searched counted) in
+    let n = splineTotal (found s) in
+    rw (splines-passed n _ (rw (splines counted) (c .before .before .if1 .left)), count-differs n (s .args .distances .now) (rw (splines counted, ← c .before .pair-count .ensures) (c .if2 .taken)))
 
 distances-valid-requires : tie.Need-distances-valid-requires
 distances-valid-requires c κs = search needs
@@ -125,37 +148,33 @@ same-length-3 c = search needs
 returns-3 : tie.Need-returns-3
 unfolding deliver
 returns-3 c =
-    let s = c .before .before .before .before .before .before .before .before .before .before .before .before .before .before .before .before .before .before .before .before in
+    let matched = c .before .before in
+    let counted = matched .before .before .before in
+    let s = start (searched counted) in
     let n = splineTotal (found s) in
-    let count = splines (c .before .before .before .before .before) in
     let valid = sym (c .before .distances-valid .ensures) ∙ not-true (c .before .distances-valid .result) (c .if3 .taken) in
-    rw (splines-passed n _ (rw count (c .before .before .before .before .if1 .left)), distances-bad n (s .args .distances .now) (rw (count, ← c .before .before .before .pair-count .ensures) (c .before .before .if2 .left)) valid)
+    rw (splines-passed n _ (rw (splines counted) (matched .before .before .if1 .left)), distances-bad n (s .args .distances .now) (rw (splines counted, ← matched .before .pair-count .ensures) (matched .if2 .left)) valid)
 
 paint-shape-requires : tie.Need-paint-shape-requires
 paint-shape-requires c κs =
-    let place = c .before .before .before .before .before .before .before .before .before .before .before .before .before .before in
-    let shape-splines = c .before .before .before .before .before .before .before .before .before .before in
-    let branch = c .before .before .before .before .before .before .before .before .before in
-    let s = c .before .before .before .before .before .before .before .before .before .before .before .before .before .before .before .before .before .before .before .before .before .before .before .before .before in
-    (matching place, s .pre .1, rw (← shape-splines .shape-splines .ensures .0) (branch .if1 .left))
+    let few = c .before .before .before .before .before .before .before .before .before in
+    let counted = few .before in
+    (matching (searched counted), start (searched counted) .pre .1, rw (← counted .count-shape .ensures .1 .0) (few .if1 .left))
 
 array-borrow-prefix-coloring : tie.Need-array-borrow-prefix-coloring
 array-borrow-prefix-coloring c =
-    let place = c .before .before .before .before .before .before .before .before in
-    few place
+    let painted = c .before .before .before .before .before .before .before .before in
+    few painted
 
 slice-aggregate-color-collected : tie.Need-slice-aggregate-color-collected
 slice-aggregate-color-collected c =
-    let shape-splines = c .before .before .before .before .before .before .before .before .before .before .before .before .before .before .before .before .before .before .before .before in
-    let place = c .before .before .before .before .before .before .before .before .before in
-    sym (length-take-le (shape-splines .shape-splines .result) _ (few place))
+    let painted = c .before .before .before .before .before .before .before .before .before in
+    sym (length-take-le (count painted) _ (few painted))
 
 color-collected-requires : tie.Need-color-collected-requires
 color-collected-requires c κs =
-    let place = c .before .before .before .before .before .before .before .before .before .before .before .before .before .before .before .before .before .before .before .before .before .before .before .before .before .before .before .before .before .before .before .before .before .before .before .before in
-    let shape-splines = c .before .before .before .before .before .before .before .before .before .before .before .before .before .before .before .before .before .before .before .before .before in
     let p = c .before .before .before .before .before .before .before .before .before .before in
-    (rw (length-take-le (shape-splines .shape-splines .result) _ (few p)) (given p), subst (λ (o : Outcome). Recolorable (o .answer) (o .buffers .colors)) (sym (plain p)) (replaceable (λ b. b) _ _ (old place) (sized p)))
+    (rw (length-take-le (count p) _ (few p)) (given p), subst (λ (o : Outcome). Recolorable (o .answer) (o .buffers .colors)) (sym (plain p)) (replaceable (λ b. b) _ _ (old (began p)) (sized p)))
 
 same-length-4 : tie.Need-same-length-4
 same-length-4 c = search needs
@@ -175,15 +194,14 @@ same-length-8 c = search needs
 returns-4 : tie.Need-returns-4
 returns-4 c =
     let p = c .before .before .before .before .before .before .before .before .before .before .before .before .before .before in
-    let s = start p in
+    let s = began p in
     let n = splineTotal (found s) in
-    let few = few p in
+    let same = splines (counted p) in
     let all = given p in
-    let count = splines (p .before .before .before .before .before .before .before .before .before .before .before) in
     let byte = splineByte (colorSplines n (s .args .distances .now) (s .args .seed)) in
     let zeros : List ℕ = replicate 64 0 in
-    let long : length (take (p .before .before .before .before .before .before .before .before .before .before .before .shape-splines .result) zeros) ≡ n = length-take-le (p .before .before .before .before .before .before .before .before .before .before .before .shape-splines .result) zeros few ∙ sym count in
-    rw (splines-passed n _ (rw count few), distances-passed n (s .args .distances .now) (rw count (all .count)) (all .valid))
+    let long : length (take (count p) zeros) ≡ n = length-take-le (count p) zeros (few p) ∙ sym same in
+    rw (splines-passed n _ (rw same (few p)), distances-passed n (s .args .distances .now) (rw same (all .count)) (all .valid))
     (rw (c .before .before .before .color-collected .ensures, long) (ap (replaced byte (counts s) (collected s) (old s) (sized p)) (plain p) ∙ replaced-delivered byte (counts s) (collected s) (old s) (sized p)))
 
 pub color-outline-by-distance-spec : {M : Type 1} → statement M
@@ -191,7 +209,7 @@ color-outline-by-distance-spec =
     tie.close
     (tie.spec
     find-corners-requires
-    shape-splines-requires
+    count-shape-requires
     same-length
     returns
     pair-count-requires

@@ -9,7 +9,6 @@ use borrow.Author.Tests.{not-true, not-false}
 use Rattle.coloring.specs.Places.{total}
 use Rattle.coloring.specs.Corners.{Cornered, cornered}
 use Rattle.coloring.specs.Layout.{resultEdges}
-use Rattle.coloring.specs.Splines.{splineTotal}
 use Rattle.coloring.specs.Outline.{Result, edgesOf, cut, encode, result, fits, delivered}
 use Rattle.coloring.specs.Shape.{painted, countsOf}
 use Rattle.coloring.proofs.outline.EdgeLaws.{edges-length}
@@ -27,47 +26,43 @@ old c = result (c .args .out-lengths .now) (c .args .out-kinds .now) (c .args .o
 abbrev written : tie.Start → Result
 written c = painted (c .args .marking) (found c)
 
-module _ (c : tie.After-shape-edges) where
+module _ (c : tie.After-count-shape) where
   abbrev start : tie.Start
   start = c .before .before .before .before .before .before .before .before .before
 
-  sized : Sized (written start) (length (start .args .lengths .now)) (c .shape-edges .result)
+  sized : Sized (written start) (length (start .args .lengths .now)) (c .count-shape .result .edges)
   sized =
       let a = start .args in
       let xs = edgesOf (a .kinds .now) (a .points .now) in
       let flagged = cut-flagged (a .lengths .now) xs (a .flags .now) (start .pre .0 .flagged ∙ sym (edges-length (a .kinds .now) (a .points .now))) in
-      let edges : total (counted resultEdges (found start)) ≡ c .shape-edges .result =
-      ap total (counted-cut resultEdges (a .lengths .now) xs (a .flags .now)) ∙ sym (c .shape-edges .ensures .0) in
+      let edges : total (counted resultEdges (found start)) ≡ c .count-shape .result .edges =
+      ap total (counted-cut resultEdges (a .lengths .now) xs (a .flags .now)) ∙ sym (c .count-shape .ensures .0 .0) in
       subst (λ (n : ℕ). Sized (written start) (length (a .lengths .now)) n) edges
       (rw (cornered-length (a .lengths .now) xs (a .flags .now)) at (painted-sized (a .marking) (found start) flagged))
 
+  counts : c .count-shape .result ≡ countsOf (found start) (written start)
+  unfolding countsOf
+  counts =
+      let a = start .args in
+      let splines = splines-cut (a .lengths .now) (edgesOf (a .kinds .now) (a .points .now)) (a .flags .now) ∙ sym (c .count-shape .ensures .1 .0) in
+      rw (sized .kinds-long, splines)
+
 -- the answer on room is that for the result
-fit : (c : tie.After-has-room) → fits (written (start (c .before .before))) (old (start (c .before .before))) ≡ c .has-room .result
-fit c = sized-fits (old (start (c .before .before))) (sized (c .before .before)) ∙ sym (c .has-room .ensures)
+fit : (c : tie.After-has-room) → fits (written (start (c .before))) (old (start (c .before))) ≡ c .has-room .result
+fit c = sized-fits (old (start (c .before))) (sized (c .before)) ∙ sym (c .has-room .ensures)
 
 room : (c : tie.Else1)
-    → let s = start (c .before .before .before) in
+    → let s = start (c .before .before) in
     let n = total (map resultEdges (cut (s .args .lengths .now) (s .args .flags .now))) in
     (length (s .args .lengths .now) ≤ length (s .args .out-lengths .now)) × (n ≤ length (s .args .out-kinds .now))
     × (8 * n ≤ length (s .args .out-points .now)) × (n ≤ length (s .args .out-colors .now))
 room c =
-    rw (← c .before .before .before .shape-edges .ensures .0)
-    (room-fits _ _ (old (start (c .before .before .before))) (sym (c .before .has-room .ensures) ∙ not-false (c .before .has-room .result) (c .if1 .left)))
+    rw (← c .before .before .count-shape .ensures .0 .0)
+    (room-fits _ _ (old (start (c .before .before))) (sym (c .before .has-room .ensures) ∙ not-false (c .before .has-room .result) (c .if1 .left)))
 
-splines : (c : tie.After-shape-splines) → c .shape-splines .result ≡ splineTotal (found (start (c .before)))
-splines c =
-    let a = start (c .before) .args in
-    c .shape-splines .ensures .0 ∙ sym (splines-cut (a .lengths .now) (edgesOf (a .kinds .now) (a .points .now)) (a .flags .now))
-
-shape-edges-requires : tie.Need-shape-edges-requires
-shape-edges-requires c κs =
+count-shape-requires : tie.Need-count-shape-requires
+count-shape-requires c κs =
     let start = c .before .before .before .before .before .before .before .before in
-    let m = start .pre .0 in
-    (start .pre .1 ∙ sym (m .flagged), omega (arith, m .flagged, m .few))
-
-shape-splines-requires : tie.Need-shape-splines-requires
-shape-splines-requires c κs =
-    let start = c .before .before .before .before .before .before .before .before .before in
     let m = start .pre .0 in
     (start .pre .1 ∙ sym (m .flagged), omega (arith, m .flagged, m .few))
 
@@ -79,15 +74,16 @@ returns c = sym (deliver-short _ _ _ (fit (c .before) ∙ not-true (c .before .h
 
 lay-out-requires : tie.Need-lay-out-requires
 lay-out-requires c κs =
-    let s = c .before .before .before .before .before .before .before .before .before .before .before .before .before .before .before in
-    let r = room (c .before .before .before) in
+    let fitting = c .before .before .before in
+    let s = start (fitting .before .before) in
+    let r = room fitting in
     ((s .pre .0, s .pre .1), record { lengths-fit = r .0; kinds-fit = r .1; points-fit = r .2 })
 
 mark-contours-requires : tie.Need-mark-contours-requires
 mark-contours-requires c κs =
-    let place = c .before .before .before .before .before .before .before .before .before .before .before in
-    let s = c .before .before .before .before .before .before .before .before .before .before .before .before .before .before .before .before .before .before .before .before .before .before .before in
-    ((s .pre .0, s .pre .1), (s .pre .2, room place .3))
+    let fitting = c .before .before .before .before .before .before .before .before .before .before .before in
+    let s = start (fitting .before .before) in
+    ((s .pre .0, s .pre .1), (s .pre .2, room fitting .3))
 
 same-length : tie.Need-same-length
 same-length c = search needs
@@ -104,22 +100,19 @@ same-length-4 c = search needs
 returns-2 : tie.Need-returns-2
 unfolding delivered encode painted countsOf
 returns-2 c =
-    let place = c .before .before .before .before .before .before .before .before .before .before .before .before .before .before .before .before in
-    let has-room = c .before .before .before .before .before .before .before .before .before .before .before .before .before .before .before in
-    let branch = c .before .before .before .before .before .before .before .before .before .before .before .before .before .before in
     let lay-out = c .before .before .before .before .before .before .before .before .before .before in
-    let edges = c .before .before .before .before .before .before .before .before .before .before .before .before .before .before .before .before .before in
-    let s = start edges in
+    let fitting = lay-out .before .before .before .before in
+    let counting = fitting .before .before in
+    let s = start counting in
     let laid = lay-out .lay-out .ensures in
-    let whole = deliver-fits (countsOf (found s) (written s)) (written s) (old s) (fit (has-room) ∙ not-false (has-room .has-room .result) (branch .if1 .left)) in
-    rw (laid .lengths-are, laid .kinds-are, laid .points-are, c .before .before .mark-contours .ensures, ← sized edges .kinds-long, splines place) (sym whole)
+    let whole = deliver-fits (countsOf (found s) (written s)) (written s) (old s) (fit (fitting .before) ∙ not-false (fitting .before .has-room .result) (fitting .if1 .left)) in
+    rw (laid .lengths-are, laid .kinds-are, laid .points-are, c .before .before .mark-contours .ensures, counts counting) (sym whole)
 
 pub paint-shape-spec : {M : Type 1} → statement M
 paint-shape-spec =
     tie.close
     (tie.spec
-    shape-edges-requires
-    shape-splines-requires
+    count-shape-requires
     has-room-requires
     returns
     lay-out-requires
