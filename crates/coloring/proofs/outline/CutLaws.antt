@@ -1,8 +1,8 @@
 -- Contour by contour along the buffers: how far a pass has come, and what is still to be cut.
-use mathlib.Core.Path.{_≡_, refl, ap}
+use mathlib.Core.Path.{_≡_}
 use mathlib.Core.Bool.{Bool}
 use mathlib.Core.List.{List, [], _∷_, map}
-use Prim.Native.Nat.{ℕ, suc, _+_, _*_, _≤_, _<_}
+use Prim.Native.Nat.{ℕ, _+_, _*_, _≤_, _<_}
 use native.Mathlib.Omega.{arith}
 use native.Mathlib.Nat.{mul-add}
 use native.Mathlib.Numerals.{add-one}
@@ -63,11 +63,6 @@ module _ (count : List Bool → ℕ) (k : ℕ) (bound : (flags : List Bool) → 
   total-most (n ∷ lengths) flags =
       let parts : k * length (take n flags) + k * length (drop n flags) ≡ k * length flags = rw (← mul-add, ← length-append, take-append-drop) in
       omega (arith, bound (take n flags), total-most lengths (drop n flags))
-
-pub cut-length : {A : Type 0} (lengths : List ℕ) (xs : List A) → length (cut lengths xs) ≡ length lengths
-unfolding cut
-cut-length [] xs = refl
-cut-length (n ∷ lengths) xs = ap suc (cut-length lengths (drop n xs))
 
 module _ (lengths : List ℕ) (xs : List EdgeSegment) (flags : List Bool) (i at : ℕ) where
   pub cornered-step : i < length lengths

@@ -4,17 +4,25 @@ use mathlib.Core.Path.{_≡_, sym, _∙_}
 use lib.ListN.{length}
 use lib.Seq.{length-take-le}
 use Rattle.coloring.specs.declared.outline.Checked.the-variants.{Passed}
-use Rattle.coloring.specs.Outline.{outline, check, deliver, Agrees}
+use Rattle.coloring.specs.Outline.{Outline, outline, check, deliver, Agrees}
 use Rattle.coloring.specs.ByDistance.{collectSplines}
 use Rattle.coloring.proofs.shape.DeliverLaws.{passed-agrees}
 use Rattle.coloring.proofs.by_distance.collect_splines.Statement.{statement}
 use Rattle.coloring.proofs.by_distance.collect_splines.Tie as tie
 
-passed : (c : tie.After-enum-told) → check (outline (c .before .before .before .before .before .before .before .before .before .before .args .lengths .now) (c .before .before .before .before .before .before .before .before .before .before .args .kinds .now) (c .before .before .before .before .before .before .before .before .before .before .args .points .now)) (c .before .before .before .before .before .before .before .before .before .before .args .threshold) ≡ Passed
-passed c = sym (c .before .before .check .ensures) ∙ c .enum-told .given .1
+-- the checks are passed
+module _ (c : tie.After-enum-told) where
+  abbrev start : tie.Start
+  start = c .before .before .before .before .before .before .before .before .before .before
 
-agrees : (c : tie.After-enum-told) → Agrees (outline (c .before .before .before .before .before .before .before .before .before .before .args .lengths .now) (c .before .before .before .before .before .before .before .before .before .before .args .kinds .now) (c .before .before .before .before .before .before .before .before .before .before .args .points .now))
-agrees c = passed-agrees _ _ (passed c)
+  abbrev given : Outline
+  given = outline (start .args .lengths .now) (start .args .kinds .now) (start .args .points .now)
+
+  passed : check given (start .args .threshold) ≡ Passed
+  passed = sym (c .before .before .check .ensures) ∙ c .enum-told .given .1
+
+  agrees : Agrees given
+  agrees = passed-agrees _ _ passed
 
 check-requires : tie.Need-check-requires
 check-requires c κs = search needs
@@ -35,15 +43,13 @@ array-borrow-prefix-flags : tie.Need-array-borrow-prefix-flags
 array-borrow-prefix-flags c = agrees c .few
 
 slice-aggregate-collect-outline : tie.Need-slice-aggregate-collect-outline
-slice-aggregate-collect-outline c =
-    let start = c .before .before .before .before .before .before .before .before .before .before .before in
-    sym (length-take-le (length (start .args .kinds .now)) _ (agrees (c .before) .few))
+slice-aggregate-collect-outline c = sym (length-take-le (length (start (c .before) .args .kinds .now)) _ (agrees (c .before) .few))
 
 collect-outline-requires : tie.Need-collect-outline-requires
 collect-outline-requires c κs =
-    let start = c .before .before .before .before .before .before .before .before .before .before .before .before .before .before .before in
-    let a = agrees (c .before .before .before .before .before) in
-    (record { places = a .places; flagged = length-take-le (length (start .args .kinds .now)) _ (a .few); few = a .few }, sym (a .edges))
+    let told = c .before .before .before .before .before in
+    let a = agrees told in
+    (record { places = a .places; flagged = length-take-le (length (start told .args .kinds .now)) _ (a .few); few = a .few }, sym (a .edges))
 
 same-length : tie.Need-same-length
 same-length c = search needs
@@ -60,9 +66,9 @@ same-length-4 c = search needs
 returns-2 : tie.Need-returns-2
 unfolding collectSplines
 returns-2 c =
-    let place = c .before .before .before .before .before .before .before .before .before .before .before .before .before .before .before in
     let collect-outline = c .before .before .before .before .before .before .before .before .before in
-    rw (passed place) (collect-outline .collect-outline .ensures)
+    let told = collect-outline .before .before .before .before .before .before in
+    rw (passed told) (collect-outline .collect-outline .ensures)
 
 pub collect-splines-spec : {M : Type 1} → statement M
 collect-splines-spec =

@@ -5,17 +5,25 @@ use lib.ListN.{length}
 use lib.Seq.{length-take-le}
 use borrow.Author.Tests.{le-leb, lt-leb}
 use Rattle.coloring.specs.declared.outline.Checked.the-variants.{Passed}
-use Rattle.coloring.specs.Outline.{outline, check, deliver, Agrees}
+use Rattle.coloring.specs.Outline.{Outline, outline, check, deliver, Agrees}
 use Rattle.coloring.specs.ByDistance.{maxDistances, edgeColoringByDistance}
 use Rattle.coloring.proofs.shape.DeliverLaws.{passed-agrees}
 use Rattle.coloring.proofs.by_distance.edge_coloring_by_distance.Statement.{statement}
 use Rattle.coloring.proofs.by_distance.edge_coloring_by_distance.Tie as tie
 
-passed : (c : tie.After-enum-told) → check (outline (c .before .before .before .before .before .before .before .before .before .before .before .before .args .lengths .now) (c .before .before .before .before .before .before .before .before .before .before .before .before .args .kinds .now) (c .before .before .before .before .before .before .before .before .before .before .before .before .args .points .now)) (c .before .before .before .before .before .before .before .before .before .before .before .before .args .threshold) ≡ Passed
-passed c = sym (c .before .before .check .ensures) ∙ c .enum-told .given .1
+-- the checks are passed
+module _ (c : tie.After-enum-told) where
+  abbrev start : tie.Start
+  start = c .before .before .before .before .before .before .before .before .before .before .before .before
 
-agrees : (c : tie.After-enum-told) → Agrees (outline (c .before .before .before .before .before .before .before .before .before .before .before .before .args .lengths .now) (c .before .before .before .before .before .before .before .before .before .before .before .before .args .kinds .now) (c .before .before .before .before .before .before .before .before .before .before .before .before .args .points .now))
-agrees c = passed-agrees _ _ (passed c)
+  abbrev given : Outline
+  given = outline (start .args .lengths .now) (start .args .kinds .now) (start .args .points .now)
+
+  passed : check given (start .args .threshold) ≡ Passed
+  passed = sym (c .before .before .check .ensures) ∙ c .enum-told .given .1
+
+  agrees : Agrees given
+  agrees = passed-agrees _ _ passed
 
 returns : tie.Need-returns
 unfolding edgeColoringByDistance deliver maxDistances
@@ -43,15 +51,13 @@ array-borrow-prefix-flags : tie.Need-array-borrow-prefix-flags
 array-borrow-prefix-flags c = agrees c .few
 
 slice-aggregate-color-outline-by-distance : tie.Need-slice-aggregate-color-outline-by-distance
-slice-aggregate-color-outline-by-distance c =
-    let start = c .before .before .before .before .before .before .before .before .before .before .before .before .before in
-    sym (length-take-le (length (start .args .kinds .now)) _ (agrees (c .before) .few))
+slice-aggregate-color-outline-by-distance c = sym (length-take-le (length (start (c .before) .args .kinds .now)) _ (agrees (c .before) .few))
 
 color-outline-by-distance-requires : tie.Need-color-outline-by-distance-requires
 color-outline-by-distance-requires c κs =
-    let start = c .before .before .before .before .before .before .before .before .before .before .before .before .before .before .before .before .before in
-    let a = agrees (c .before .before .before .before .before) in
-    (record { places = a .places; flagged = length-take-le (length (start .args .kinds .now)) _ (a .few); few = a .few }, sym (a .edges))
+    let told = c .before .before .before .before .before in
+    let a = agrees told in
+    (record { places = a .places; flagged = length-take-le (length (start told .args .kinds .now)) _ (a .few); few = a .few }, sym (a .edges))
 
 same-length : tie.Need-same-length
 same-length c = search needs
@@ -68,9 +74,9 @@ same-length-4 c = search needs
 returns-3 : tie.Need-returns-3
 unfolding edgeColoringByDistance maxDistances
 returns-3 c =
-    let color-outline-by-distance = c .before .before .before .before .before .before .before .before .before in
-    let p = c .before .before .before .before .before .before .before .before .before .before .before .before .before .before .before in
-    rw (le-leb (length (p .before .before .before .before .before .before .before .before .before .before .before .before .args .distances .now)) 2016 (p .before .before .before .if1 .left), passed p) (color-outline-by-distance .color-outline-by-distance .ensures)
+    let color = c .before .before .before .before .before .before .before .before .before in
+    let told = color .before .before .before .before .before .before in
+    rw (le-leb (length (start told .args .distances .now)) 2016 (told .before .before .before .if1 .left), passed told) (color .color-outline-by-distance .ensures)
 
 pub edge-coloring-by-distance-spec : {M : Type 1} → statement M
 edge-coloring-by-distance-spec =

@@ -14,16 +14,20 @@ use Rattle.coloring.proofs.contour.spline_colors.Tie as tie
 abbrev contour : tie.Start → Cornered
 contour c = whole (c .args .kinds .now) (c .args .points .now) (c .args .flags .now)
 
-few : (c : tie.Then1) → cornerCount (c .before .before .before .before .before .before .args .flags .now) < 2
+module _ (c : tie.After-count-corners) where
+  abbrev start : tie.Start
+  start = c .before .before .before .before .before
+
+few : (c : tie.Then1) → cornerCount (start (c .before) .args .flags .now) < 2
 few c = rw (← c .before .count-corners .ensures) (c .if1 .taken)
 
-many : (c : tie.Else1) → 2 ≤ cornerCount (c .before .before .before .before .before .before .args .flags .now)
+many : (c : tie.Else1) → 2 ≤ cornerCount (start (c .before) .args .flags .now)
 many c = rw (← c .before .count-corners .ensures) (c .if1 .left)
 
-size : (c : tie.Else1) → length (c .before .before .before .before .before .before .args .colors .now) ≡ cornerCount (c .before .before .before .before .before .before .args .flags .now)
+size : (c : tie.Else1) → length (start (c .before) .args .colors .now) ≡ cornerCount (start (c .before) .args .flags .now)
 size c =
-    let start = c .before .before .before .before .before .before in
-    start .pre .2 ∙ splines-many (start .args .flags .now) (start .pre .1) (many c)
+    let s = start (c .before) in
+    s .pre .2 ∙ splines-many (s .args .flags .now) (s .pre .1) (many c)
 
 count-corners-requires : tie.Need-count-corners-requires
 count-corners-requires c κs = search needs
@@ -36,9 +40,9 @@ same-length c = search needs
 
 returns : tie.Need-returns
 returns c =
-    let start = c .before .before .before .before .before .before .before .before .before .before in
-    let few = few (c .before .before .before .before) in
-    rw (colors-few (start .args .strategy) (start .args .pen) (contour start) few, ← splines-few (start .args .flags .now) (start .pre .1) few, ← start .pre .2)
+    let branch = c .before .before .before .before in
+    let s = start (branch .before) in
+    rw (colors-few (s .args .strategy) (s .args .pen) (contour s) (few branch), ← splines-few (s .args .flags .now) (s .pre .1) (few branch), ← s .pre .2)
     (c .before .before .switch-each .ensures)
 
 enum-told : tie.Need-enum-told
@@ -52,18 +56,17 @@ enum-told-2 c = search needs
 
 ink-trap-colors-requires : tie.Need-ink-trap-colors-requires
 ink-trap-colors-requires c κs =
-    let start = c .before .before .before .before .before .before .before .before .before in
-    (start .pre .0, many (c .before .before .before), size (c .before .before .before))
+    let branch = c .before .before .before in
+    (start (branch .before) .pre .0, many branch, size branch)
 
 same-length-2 : tie.Need-same-length-2
 same-length-2 c = search needs
 
 returns-2 : tie.Need-returns-2
 returns-2 c =
-    let place = c .before .before .before .before .before .before in
-    let start = c .before .before .before .before .before .before .before .before .before .before .before .before in
-    let many = many place in
-    rw (colors-many (start .args .strategy) (start .args .pen) (contour start) many, c .before .before .before .before .enum-told .given .1, ← size place)
+    let branch = c .before .before .before .before .before .before in
+    let start = branch .before .before .before .before .before .before in
+    rw (colors-many (start .args .strategy) (start .args .pen) (contour start) (many branch), c .before .before .before .before .enum-told .given .1, ← size branch)
     (c .before .before .simple-colors .ensures)
 
 same-length-3 : tie.Need-same-length-3
@@ -71,9 +74,9 @@ same-length-3 c = search needs
 
 returns-3 : tie.Need-returns-3
 returns-3 c =
-    let place = c .before .before .before .before .before .before in
-    let start = c .before .before .before .before .before .before .before .before .before .before .before .before in
-    rw (colors-many (start .args .strategy) (start .args .pen) (contour start) (many place), c .before .before .before .before .enum-told2 .given .1)
+    let branch = c .before .before .before .before .before .before in
+    let start = branch .before .before .before .before .before .before in
+    rw (colors-many (start .args .strategy) (start .args .pen) (contour start) (many branch), c .before .before .before .before .enum-told2 .given .1)
     (c .before .before .ink-trap-colors .ensures)
 
 pub spline-colors-spec : {M : Type 1} → statement M

@@ -1,7 +1,7 @@
 -- `find_corners` meets its contract: the contours passed have their flags.
 use native.Mathlib.Omega.{arith}
 use mathlib.Core.Path.{_≡_, sym, _∙_}
-use Prim.Native.Nat.{_+_, _-_, _≤_}
+use Prim.Native.Nat.{ℕ, _+_, _-_, _≤_}
 use lib.ListN.{length, getD, take, drop, length-drop}
 use lib.Seq.{length-take-le}
 use Rattle.coloring.specs.Corners.{cornerFlags}
@@ -23,9 +23,15 @@ abbrev μ-loop : tie.MeasureT-loop
 μ-loop lengths kinds points threshold flags₀ at₀ i₀ flags at i = length lengths - i
 
 -- the next contour lies within the edges
-room : (c : tie.In-loop Inv-loop μ-loop)
-    → c .before .loop .at + getD (c .before .before .before .before .before .before .args .lengths .now) (c .before .loop .i) 0 ≤ length (c .before .before .before .before .before .before .args .kinds .now)
-room c = along-room _ _ _ _ (c .before .loop .inv .0) (c .loop-test .taken)
+module _ (c : tie.In-loop Inv-loop μ-loop) where
+  abbrev start : tie.Start Inv-loop μ-loop
+  start = c .before .before .before .before .before .before
+
+  abbrev n : ℕ
+  n = getD (start .args .lengths .now) (c .before .loop .i) 0
+
+  room : c .before .loop .at + n ≤ length (start .args .kinds .now)
+  room = along-room _ _ _ _ (c .before .loop .inv .0) (c .loop-test .taken)
 
 loop-holds : tie.Need-loop-holds Inv-loop μ-loop
 loop-holds c =
@@ -43,21 +49,16 @@ shared-slice-read-end : tie.Need-shared-slice-read-end Inv-loop μ-loop
 shared-slice-read-end c = omega arith
 
 cast-end : tie.Need-cast-end Inv-loop μ-loop
-cast-end c =
-    let start = c .before .before .before .before .before .before .before in
-    omega (arith, room (c .before), start .pre .0 .few)
+cast-end c = omega (arith, room (c .before), start (c .before) .pre .0 .few)
 
 add-end : tie.Need-add-end Inv-loop μ-loop
-add-end c =
-    let start = c .before .before .before .before .before .before .before in
-    omega (arith, room (c .before), start .pre .0 .few)
+add-end c = omega (arith, room (c .before), start (c .before) .pre .0 .few)
 
 identify-part-requires : tie.Need-identify-part-requires Inv-loop μ-loop
 identify-part-requires c κs =
-    let start2 = c .before .before .before .before .before .before .before .before in
-    let at = c .before .before .before .loop in
-    let pre = start2 .pre .0 in
-    record { matching = record { places = pre .places; flagged = at .inv .1; few = pre .few }; start = omega arith; inside = room (c .before .before) }
+    let turn = c .before .before in
+    let pre = start turn .pre .0 in
+    record { matching = record { places = pre .places; flagged = turn .before .loop .inv .1; few = pre .few }; start = omega arith; inside = room turn }
 
 add-i : tie.Need-add-i Inv-loop μ-loop
 add-i c = omega arith
@@ -67,18 +68,17 @@ loop-less c = omega arith
 
 loop-again : tie.Need-loop-again Inv-loop μ-loop
 loop-again c =
-    let turn = c .before .before .before .before .before .before in
-    let start = c .before .before .before .before .before .before .before .before .before .before .before in
-    let a = start .args in
-    let at = turn .loop in
-    let n = getD (a .lengths .now) (at .i) 0 in
-    let h = c .before .before .before .before .before .loop-test .taken in
+    let turn = c .before .before .before .before .before in
+    let a = start turn .args in
+    let at = turn .before .loop in
+    let n = n turn in
+    let h = turn .loop-test .taken in
     let edges = edgesOf (a .kinds .now) (a .points .now) in
     let contour = take n (drop (at .at) edges) in
     let m : at .at + n - at .at ≡ n = omega arith in
     let flagged : c .before .before .identify-part .last .1 .1 .1 .1 .1 .0 ≡ overFrom (at .at) (cornerFlags (a .threshold) contour) (at .flags) =
     rw m at (c .before .before .identify-part .ensures) in
-    let inside = room (c .before .before .before .before .before) in
+    let inside = room turn in
     let long : length (cornerFlags (a .threshold) contour) ≡ n =
     flags-length (a .threshold) contour ∙ length-take-le n (drop (at .at) edges) (omega (arith, length-drop (at .at) edges, edges-length (a .kinds .now) (a .points .now))) in (
       along-next _ _ _ _ (at .inv .0) h,

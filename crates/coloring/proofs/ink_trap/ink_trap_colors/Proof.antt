@@ -65,40 +65,46 @@ contour c = whole (c .args .kinds .now) (c .args .points .now) (c .args .flags .
 -- ---- after the measuring
 
 module _ (c : tie.After-measure Inv-measure μ-measure Inv-mark μ-mark Inv-majors μ-majors Inv-minors μ-minors) where
+  abbrev start : tie.Start Inv-measure μ-measure Inv-mark μ-mark Inv-majors μ-majors Inv-minors μ-minors
+  start = c .before .before .before .before .before .before .before
+
   abbrev array : List InkTrapCorner
   array = c .before .measure .corners
 
   abbrev count : ℕ
   count = c .before .measure .count
 
-  found : measureCorners (contour (c .before .before .before .before .before .before .before)) ≡ record { corners = take count array; splineLength = c .before .measure .spline-length }
+  found : measureCorners (contour start) ≡ record { corners = take count array; splineLength = c .before .measure .spline-length }
   found =
-      let a = c .before .before .before .before .before .before .before .args in
+      let a = start .args in
       c .before .measure .inv .3
       ∙ measuring-ends count (c .before .measure .index) (c .before .measure .spline-length) array (edgesOf (a .kinds .now) (a .points .now)) (a .flags .now)
       (omega (arith, edges-length (a .kinds .now) (a .points .now)))
 
   few : count ≤ 256
-  few = omega (arith, c .before .before .before .before .before .before .before .pre .0 .few)
+  few = omega (arith, start .pre .0 .few)
+
+  -- a place among the corners is one of the array
+  inside : (i : ℕ) → 0 < count → i % count < 256
+  inside i h = omega (arith, few, mod-lt i h)
 
   size : length (take count array) ≡ count
   size = length-take-le count array (omega (arith, few))
 
-  counted : count ≡ cornerCount (c .before .before .before .before .before .before .before .args .flags .now)
+  counted : count ≡ cornerCount (start .args .flags .now)
   counted =
-      let a = c .before .before .before .before .before .before .before .args in
+      let a = start .args in
       sym size
       ∙ sym (ap (λ (m : Measured). length (m .corners)) found)
-      ∙ measured-count (contour (c .before .before .before .before .before .before .before)) (c .before .before .before .before .before .before .before .pre .0 .flagged ∙ sym (edges-length (a .kinds .now) (a .points .now)))
+      ∙ measured-count (contour start) (start .pre .0 .flagged ∙ sym (edges-length (a .kinds .now) (a .points .now)))
 
 -- ---- after the marking
 
 marked : (c : tie.Joined2 Inv-measure μ-measure Inv-mark μ-mark Inv-majors μ-majors Inv-minors μ-minors)
     → (length (c .if2 .corners) ≡ 256)
-    × (take (count (c .before)) (c .if2 .corners) ≡ markMinors (measureCorners (contour (c .before .before .before .before .before .before .before .before))))
+    × (take (count (c .before)) (c .if2 .corners) ≡ markMinors (measureCorners (contour (start (c .before)))))
     × (c .if2 .left ≡ majorCount (take (count (c .before)) (c .if2 .corners)))
 marked c =
-    let place = c .before .before .before .before .before .before .before .before in
     let at = c .before in
     let n = count at in
     let fits : n ≤ length (array at) = omega (arith, few at) in
@@ -114,18 +120,24 @@ marked c =
     (λ w. (
       ap length (w .1) ∙ at .before .measure .inv .2,
       rw (w .1, found at) (marks-few n (at .before .measure .spline-length) (array at) fits (w .0 .left)),
-      w .2 ∙ sym (ap (λ (l : List InkTrapCorner). majorCount (take n l)) (w .1) ∙ rw (found at) at (measured-majors (contour place)) ∙ size at),
+      w .2 ∙ sym (ap (λ (l : List InkTrapCorner). majorCount (take n l)) (w .1) ∙ rw (found at) at (measured-majors (contour (start at))) ∙ size at),
     ))
     (c .if2 .came)
 
 -- ---- after the major corners
 
-inked : (c : tie.After-majors Inv-measure μ-measure Inv-mark μ-mark Inv-majors μ-majors Inv-minors μ-minors)
-    → colorMajors Black (c .before .before .if2 .left) (c .before .before .before .before .before .before .before .before .before .before .args .pen) (take (count (c .before .before .before)) (c .before .before .if2 .corners))
-    ≡ record { corners = take (count (c .before .before .before)) (c .before .majors .corners); pen = c .before .majors .ink }
-inked c =
-    let at = c .before .majors in
-    at .inv .3 ∙ going-ends (at .j) (count (c .before .before .before)) (at .initial) (at .left) (at .ink) (at .corners) (at .inv .0) (c .majors-test .left) (omega (arith, few (c .before .before .before)))
+module _ (c : tie.After-majors Inv-measure μ-measure Inv-mark μ-mark Inv-majors μ-majors Inv-minors μ-minors) where
+  abbrev joined : tie.Joined2 Inv-measure μ-measure Inv-mark μ-mark Inv-majors μ-majors Inv-minors μ-minors
+  joined = c .before .before
+
+  abbrev measured : tie.After-measure Inv-measure μ-measure Inv-mark μ-mark Inv-majors μ-majors Inv-minors μ-minors
+  measured = joined .before
+
+  inked : colorMajors Black (joined .if2 .left) (start measured .args .pen) (take (count measured) (joined .if2 .corners))
+      ≡ record { corners = take (count measured) (c .before .majors .corners); pen = c .before .majors .ink }
+  inked =
+      let at = c .before .majors in
+      at .inv .3 ∙ going-ends (at .j) (count measured) (at .initial) (at .left) (at .ink) (at .corners) (at .inv .0) (c .majors-test .left) (omega (arith, few measured))
 
 corner-at-requires : tie.Need-corner-at-requires Inv-measure μ-measure Inv-mark μ-mark Inv-majors μ-majors Inv-minors μ-minors
 corner-at-requires c κs = search needs
@@ -214,16 +226,13 @@ add-next c = omega arith
 rem-next : tie.Need-rem-next Inv-measure μ-measure Inv-mark μ-mark Inv-majors μ-majors Inv-minors μ-minors
 rem-next c = omega arith
 
-next-in : (c : tie.After-corner Inv-measure μ-measure Inv-mark μ-mark Inv-majors μ-majors Inv-minors μ-minors) → (c .before .before .mark .i + 1) % count (c .before .before .before .before .before .before) < 256
-next-in c =
-    let place = c .before .before .before .before .before .before in
-    omega (arith, few place, mod-lt (c .before .before .mark .i + 1) (rem-next c))
+array-copy-out-next : tie.Need-array-copy-out-next Inv-measure μ-measure Inv-mark μ-mark Inv-majors μ-majors Inv-minors μ-minors
+array-copy-out-next c =
+    let measured = c .before .before .before .before .before .before in
+    inside measured _ (rem-next c)
 
 mul-next : tie.Need-mul-next Inv-measure μ-measure Inv-mark μ-mark Inv-majors μ-majors Inv-minors μ-minors
-mul-next c = omega (arith, next-in c)
-
-array-copy-out-next : tie.Need-array-copy-out-next Inv-measure μ-measure Inv-mark μ-mark Inv-majors μ-majors Inv-minors μ-minors
-array-copy-out-next c = next-in c
+mul-next c = omega (arith, array-copy-out-next c)
 
 add-third : tie.Need-add-third Inv-measure μ-measure Inv-mark μ-mark Inv-majors μ-majors Inv-minors μ-minors
 add-third c = omega arith
@@ -231,16 +240,13 @@ add-third c = omega arith
 rem-third : tie.Need-rem-third Inv-measure μ-measure Inv-mark μ-mark Inv-majors μ-majors Inv-minors μ-minors
 rem-third c = omega arith
 
-third-in : (c : tie.After-next Inv-measure μ-measure Inv-mark μ-mark Inv-majors μ-majors Inv-minors μ-minors) → (c .before .before .before .mark .i + 2) % count (c .before .before .before .before .before .before .before) < 256
-third-in c =
-    let place = c .before .before .before .before .before .before .before in
-    omega (arith, few place, mod-lt (c .before .before .before .mark .i + 2) (rem-third c))
+array-copy-out-third : tie.Need-array-copy-out-third Inv-measure μ-measure Inv-mark μ-mark Inv-majors μ-majors Inv-minors μ-minors
+array-copy-out-third c =
+    let measured = c .before .before .before .before .before .before .before in
+    inside measured _ (rem-third c)
 
 mul-third : tie.Need-mul-third Inv-measure μ-measure Inv-mark μ-mark Inv-majors μ-majors Inv-minors μ-minors
-mul-third c = omega (arith, third-in c)
-
-array-copy-out-third : tie.Need-array-copy-out-third Inv-measure μ-measure Inv-mark μ-mark Inv-majors μ-majors Inv-minors μ-minors
-array-copy-out-third c = third-in c
+mul-third c = omega (arith, array-copy-out-third c)
 
 is-minor-requires : tie.Need-is-minor-requires Inv-measure μ-measure Inv-mark μ-mark Inv-majors μ-majors Inv-minors μ-minors
 is-minor-requires c κs = search needs
@@ -267,15 +273,16 @@ mark-less c = omega arith
 
 mark-again : tie.Need-mark-again Inv-measure μ-measure Inv-mark μ-mark Inv-majors μ-majors Inv-minors μ-minors
 mark-again c =
-    let place = c .before .before .before .before .before .before .before .before .before .before .before in
-    let closed = c .before .before .before .before .before .before .before .before in
-    let at = c .before .before .before .before .before .before .before .mark in
-    let n = count place in
+    let turn = c .before .before .before .before .before .before in
+    let closed = turn .before .before in
+    let measured = closed .before .before .before in
+    let at = turn .before .mark in
+    let n = count measured in
     let flag = c .before .before .is-minor .ensures in
     let corner = c .before .with-minor .ensures in
     let h : at .i < n = omega arith in
-    let fits : n ≤ length (set (array place) 0 (closed .closed .result)) = omega (arith, at .inv .2, few place) in
-    let same : n ≤ length (at .corners) = omega (arith, few place) in
+    let fits : n ≤ length (set (array measured) 0 (closed .closed .result)) = omega (arith, at .inv .2, few measured) in
+    let same : n ≤ length (at .corners) = omega (arith, few measured) in
     let minor : c .before .with-minor .result .minor ≡ c .before .before .is-minor .result = ap (λ (k : InkTrapCorner). k .minor) corner in (
       omega arith,
       simp length-set (at .inv .1),
@@ -284,7 +291,7 @@ mark-again c =
           (λ w. omega (arith, at .inv .3, w .1, majors-same (at .i) (at .corners) (c .before .with-minor .result) (omega arith) (minor ∙ w .0 .taken)))
           (λ w. omega (arith, at .inv .3, w .1, majors-more (at .i) (at .corners) (c .before .with-minor .result) (omega arith) (minor ∙ w .0 .left)))
           (c .if3 .came),
-      rw (corner, flag) (mark-turn (at .i) n (set (array place) 0 (closed .closed .result)) (at .corners) h fits same (at .inv .4)),
+      rw (corner, flag) (mark-turn (at .i) n (set (array measured) 0 (closed .closed .result)) (at .corners) h fits same (at .inv .4)),
     )
 
 majors-holds : tie.Need-majors-holds Inv-measure μ-measure Inv-mark μ-mark Inv-majors μ-majors Inv-minors μ-minors
@@ -298,10 +305,9 @@ array-copy-out-corner-2 c = omega arith
 
 sub-left-2 : tie.Need-sub-left-2 Inv-measure μ-measure Inv-mark μ-mark Inv-majors μ-majors Inv-minors μ-minors
 sub-left-2 c =
-    let place = c .before .before .before .before .before .before in
+    let measured = c .before .before .before .before .before .before in
     let at = c .before .before .before .before .majors in
-    let n = count place in
-    omega (arith, at .inv .2, majors-fall (at .j) n (at .corners) (omega arith) (omega (arith, few place)) (not-true _ (c .if4 .taken)))
+    omega (arith, at .inv .2, majors-fall (at .j) (count measured) (at .corners) (omega arith) (omega (arith, few measured)) (not-true _ (c .if4 .taken)))
 
 banned-before-requires : tie.Need-banned-before-requires Inv-measure μ-measure Inv-mark μ-mark Inv-majors μ-majors Inv-minors μ-minors
 banned-before-requires c κs = search needs
@@ -329,11 +335,11 @@ majors-less c = omega arith
 
 majors-again : tie.Need-majors-again Inv-measure μ-measure Inv-mark μ-mark Inv-majors μ-majors Inv-minors μ-minors
 majors-again c =
-    let place = c .before .before .before .before .before .before in
+    let measured = c .before .before .before .before .before .before in
     let at = c .before .before .before .before .majors in
-    let n = count place in
+    let n = count measured in
     let h : at .j < n = omega arith in
-    let fits : n ≤ length (at .corners) = omega (arith, few place) in
+    let fits : n ≤ length (at .corners) = omega (arith, few measured) in
     ⊎-elim
     (λ w.
     let major = not-true _ (w .0 .taken) in
@@ -356,8 +362,14 @@ majors-again c =
 
 minors-holds : tie.Need-minors-holds Inv-measure μ-measure Inv-mark μ-mark Inv-majors μ-majors Inv-minors μ-minors
 minors-holds c =
-    let start = c .before .before .before .before .before .before .before .before .before .before in
-    (omega arith, c .before .majors .inv .1, start .pre .2 ∙ sym (counted (c .before .before .before)), ap (λ k. colorMinors 0 k (c .before .majors .ink .color) (take (count (c .before .before .before)) (c .before .majors .corners))) (omega arith), refl, refl)
+    let at = c .before .majors in (
+      omega arith,
+      at .inv .1,
+      start (measured c) .pre .2 ∙ sym (counted (measured c)),
+      ap (λ k. colorMinors 0 k (at .ink .color) (take (count (measured c)) (at .corners))) (omega arith),
+      refl,
+      refl,
+    )
 
 mul-corner-3 : tie.Need-mul-corner-3 Inv-measure μ-measure Inv-mark μ-mark Inv-majors μ-majors Inv-minors μ-minors
 mul-corner-3 c = omega arith
@@ -371,16 +383,13 @@ add-next-2 c = omega arith
 rem-next-2 : tie.Need-rem-next-2 Inv-measure μ-measure Inv-mark μ-mark Inv-majors μ-majors Inv-minors μ-minors
 rem-next-2 c = omega arith
 
-next-in-2 : (c : tie.Then5 Inv-measure μ-measure Inv-mark μ-mark Inv-majors μ-majors Inv-minors μ-minors) → (c .before .before .before .minors .k + 1) % count (c .before .before .before .before .before .before .before) < 256
-next-in-2 c =
-    let place = c .before .before .before .before .before .before .before in
-    omega (arith, few place, mod-lt (c .before .before .before .minors .k + 1) (rem-next-2 c))
+array-copy-out-next-2 : tie.Need-array-copy-out-next-2 Inv-measure μ-measure Inv-mark μ-mark Inv-majors μ-majors Inv-minors μ-minors
+array-copy-out-next-2 c =
+    let measured = c .before .before .before .before .before .before .before in
+    inside measured _ (rem-next-2 c)
 
 mul-next-2 : tie.Need-mul-next-2 Inv-measure μ-measure Inv-mark μ-mark Inv-majors μ-majors Inv-minors μ-minors
-mul-next-2 c = omega (arith, next-in-2 c)
-
-array-copy-out-next-2 : tie.Need-array-copy-out-next-2 Inv-measure μ-measure Inv-mark μ-mark Inv-majors μ-majors Inv-minors μ-minors
-array-copy-out-next-2 c = next-in-2 c
+mul-next-2 c = omega (arith, array-copy-out-next-2 c)
 
 mixed-color-requires : tie.Need-mixed-color-requires Inv-measure μ-measure Inv-mark μ-mark Inv-majors μ-majors Inv-minors μ-minors
 mixed-color-requires c κs = search needs
@@ -408,11 +417,11 @@ minors-less c = omega arith
 
 minors-again : tie.Need-minors-again Inv-measure μ-measure Inv-mark μ-mark Inv-majors μ-majors Inv-minors μ-minors
 minors-again c =
-    let place = c .before .before .before .before .before .before .before .before in
+    let measured = c .before .before .before .before .before .before .before .before in
     let at = c .before .before .before .before .minors in
-    let n = count place in
+    let n = count measured in
     let h : at .k < n = omega arith in
-    let fits : n ≤ length (at .corners) = omega (arith, few place) in
+    let fits : n ≤ length (at .corners) = omega (arith, few measured) in
     let inside : at .k < length (at .corners) = omega arith in
     let room : at .k < length (at .colors) = omega (arith, at .inv .2) in
     ⊎-elim
@@ -436,21 +445,23 @@ minors-again c =
 
 same-length : tie.Need-same-length Inv-measure μ-measure Inv-mark μ-mark Inv-majors μ-majors Inv-minors μ-minors
 same-length c =
-    let start = c .before .before .before .before .before .before .before .before .before .before .before .before in
-    c .before .minors .inv .2 ∙ counted (c .before .before .before .before .before) ∙ sym (start .pre .2)
+    let measured = measured (c .before .before) in
+    c .before .minors .inv .2 ∙ counted measured ∙ sym (start measured .pre .2)
 
 returns : tie.Need-returns Inv-measure μ-measure Inv-mark μ-mark Inv-majors μ-majors Inv-minors μ-minors
 returns c =
-    let start = c .before .before .before .before .before .before .before .before .before .before .before .before in
+    let inked = inked (c .before .before) in
+    let joined = joined (c .before .before) in
+    let measured = joined .before in
+    let start = start measured in
     let at = c .before .minors in
     let ink = c .before .before .before .majors .ink in
-    let n = count (c .before .before .before .before .before) in
-    let joined = c .before .before .before .before .if2 in
-    let marks = marked (c .before .before .before .before) in
+    let n = count measured in
+    let marks = marked joined in
     let done : at .k ≡ n = omega arith in
-    let all = length-take-le n (at .corners) (omega (arith, few (c .before .before .before .before .before))) in
+    let all = length-take-le n (at .corners) (omega (arith, few measured)) in
     let corners : colorCorners (measureCorners (contour start)) (start .args .pen) ≡ record { corners = take n (at .corners); pen = ink } =
-    colored _ _ (take n (joined .corners)) (joined .left) _ n (marks .1) (marks .2) (inked (c .before .before)) (length-take-le n (joined .corners) (omega (arith, marks .0, few (c .before .before .before .before .before))))
+    colored _ _ (take n (joined .if2 .corners)) (joined .if2 .left) _ n (marks .1) (marks .2) inked (length-take-le n (joined .if2 .corners) (omega (arith, marks .0, few measured)))
     ∙ ap (λ (cs : List InkTrapCorner). record { corners = cs; pen = ink }) (at .inv .3 ∙ minors-done (at .k) n (at .color) (at .corners) (c .minors-test .left)) in
     drawn (contour start) (start .args .pen) ink (take n (at .corners)) (at .colors) (at .last) corners
     (sym (take-all n (at .colors) (omega (arith, at .inv .2))) ∙ rw done at (at .inv .4)) (rw all (rw done at (at .inv .5)))

@@ -1,6 +1,7 @@
 -- `lay_out` meets its contract: the contours passed are laid out.
 use native.Mathlib.Omega.{arith}
 use mathlib.Core.Path.{_≡_, refl, sym, ap, _∙_}
+use mathlib.Core.Bool.{Bool}
 use mathlib.Core.List.{List, [], map}
 use Prim.Native.Nat.{ℕ, _+_, _-_, _≤_}
 use lib.Ieee.{Float}
@@ -32,35 +33,45 @@ abbrev μ-loop : tie.MeasureT-loop
 μ-loop lengths kinds points flags out-lengths₀ out-kinds₀ out-points₀ at₀ to₀ i₀ out-lengths out-kinds out-points at to i = length lengths - i
 
 -- the next contour lies within the edges
-room : (c : tie.In-loop Inv-loop μ-loop)
-    → c .before .loop .at + getD (c .before .before .before .before .before .before .before .before .before .args .lengths .now) (c .before .loop .i) 0 ≤ length (c .before .before .before .before .before .before .before .before .before .args .kinds .now)
-room c =
-    let start = c .before .before .before .before .before .before .before .before .before in
-    let a = start .args in
-    rw (edges-length (a .kinds .now) (a .points .now)) at (along-room _ _ _ _ (c .before .loop .inv .3 .along) (c .loop-test .taken))
+module _ (c : tie.In-loop Inv-loop μ-loop) where
+  abbrev start : tie.Start Inv-loop μ-loop
+  start = c .before .before .before .before .before .before .before .before .before
+
+  abbrev n : ℕ
+  n = getD (start .args .lengths .now) (c .before .loop .i) 0
+
+  room : c .before .loop .at + n ≤ length (start .args .kinds .now)
+  room = rw (edges-length (start .args .kinds .now) (start .args .points .now)) at (along-room _ _ _ _ (c .before .loop .inv .3 .along) (c .loop-test .taken))
+
+  -- its flags
+  abbrev part : List Bool
+  part = take n (drop (c .before .loop .at) (start .args .flags .now))
+
+  whole : c .before .loop .at + n - c .before .loop .at ≡ n
+  whole = omega arith
 
 module _ (c : tie.After-part-edges Inv-loop μ-loop) where
   -- what it comes to
-  counted : c .part-edges .result ≡ resultEdges (take (getD (c .before .before .before .before .before .before .before .before .before .before .before .args .lengths .now) (c .before .before .before .loop .i) 0) (drop (c .before .before .before .loop .at) (c .before .before .before .before .before .before .before .before .before .before .before .args .flags .now)))
-  counted =
-      let n = getD (c .before .before .before .before .before .before .before .before .before .before .before .args .lengths .now) (c .before .before .before .loop .i) 0 in
-      let m : c .before .before .before .loop .at + n - c .before .before .before .loop .at ≡ n = omega arith in
-      rw m at (c .part-edges .ensures)
+  counted : c .part-edges .result ≡ resultEdges (part (c .before .before))
+  counted = rw (whole (c .before .before)) at (c .part-edges .ensures)
 
   -- there is room for it
-  fit : c .before .before .before .loop .to + c .part-edges .result ≤ total (map resultEdges (cut (c .before .before .before .before .before .before .before .before .before .before .before .args .lengths .now) (c .before .before .before .before .before .before .before .before .before .before .before .args .flags .now)))
+  fit : let a = start (c .before .before) .args in
+      c .before .before .before .loop .to + c .part-edges .result ≤ total (map resultEdges (cut (a .lengths .now) (a .flags .now)))
   fit =
-      let s = c .before .before .before .loop in
-      omega (arith, counted, s .inv .3 .counted, left-step resultEdges (c .before .before .before .before .before .before .before .before .before .before .before .args .lengths .now) (c .before .before .before .before .before .before .before .before .before .before .before .args .flags .now) (s .i) (s .at) (c .before .before .loop-test .taken))
+      let turn = c .before .before in
+      let s = turn .before .loop in
+      let a = start turn .args in
+      omega (arith, counted, s .inv .3 .counted, left-step resultEdges (a .lengths .now) (a .flags .now) (s .i) (s .at) (turn .loop-test .taken))
 
   bound : c .part-edges .result ≤ 768
   bound =
-      let start = c .before .before .before .before .before .before .before .before .before .before .before in
-      let n = getD (start .args .lengths .now) (c .before .before .before .loop .i) 0 in
-      let flags = drop (c .before .before .before .loop .at) (start .args .flags .now) in
-      let inside = room (c .before .before) in
-      let long = length-take-le n flags (omega (arith, length-drop (c .before .before .before .loop .at) (start .args .flags .now), start .pre .0 .0 .flagged)) in
-      omega (arith, counted, edges-bound (take n flags), start .pre .0 .0 .few)
+      let turn = c .before .before in
+      let at = turn .before .loop .at in
+      let flags = start turn .args .flags .now in
+      let m = start turn .pre .0 .0 in
+      let long = length-take-le (n turn) (drop at flags) (omega (arith, room turn, length-drop at flags, m .flagged)) in
+      omega (arith, counted, edges-bound (part turn), room turn, m .few)
 
 loop-holds : tie.Need-loop-holds Inv-loop μ-loop
 unfolding overFrom
@@ -86,25 +97,18 @@ shared-slice-read-end : tie.Need-shared-slice-read-end Inv-loop μ-loop
 shared-slice-read-end c = omega arith
 
 cast-end : tie.Need-cast-end Inv-loop μ-loop
-cast-end c =
-    let start = c .before .before .before .before .before .before .before .before .before .before in
-    omega (arith, room (c .before), start .pre .0 .0 .few)
+cast-end c = omega (arith, room (c .before), start (c .before) .pre .0 .0 .few)
 
 add-end : tie.Need-add-end Inv-loop μ-loop
-add-end c =
-    let start = c .before .before .before .before .before .before .before .before .before .before in
-    omega (arith, room (c .before), start .pre .0 .0 .few)
+add-end c = omega (arith, room (c .before), start (c .before) .pre .0 .0 .few)
 
 part-edges-requires : tie.Need-part-edges-requires Inv-loop μ-loop
 part-edges-requires c κs =
-    let start = c .before .before .before .before .before .before .before .before .before .before in
-    let pre = start .pre .0 .0 in
-    (omega arith, omega (arith, room (c .before), pre .flagged), omega (arith, pre .flagged, pre .few))
+    let m = start (c .before) .pre .0 .0 in
+    (omega arith, omega (arith, room (c .before), m .flagged), omega (arith, m .flagged, m .few))
 
 add-next : tie.Need-add-next Inv-loop μ-loop
-add-next c =
-    let start = c .before .before .before .before .before .before .before .before .before .before .before in
-    omega (arith, fit c, start .pre .1 .kinds-fit, start .good)
+add-next c = omega (arith, fit c, start (c .before .before) .pre .1 .kinds-fit, start (c .before .before) .good)
 
 cast-out-lengths : tie.Need-cast-out-lengths Inv-loop μ-loop
 cast-out-lengths c = omega (arith, bound c)
@@ -114,46 +118,43 @@ mul-out-lengths c = omega arith
 
 slice-write-out-lengths : tie.Need-slice-write-out-lengths Inv-loop μ-loop
 slice-write-out-lengths c =
-    let start = c .before .before .before .before .before .before .before .before .before .before .before in
-    omega (arith, c .before .before .before .loop .inv .0, start .pre .1 .lengths-fit, c .before .before .loop-test .taken)
+    let turn = c .before .before in
+    omega (arith, turn .before .loop .inv .0, start turn .pre .1 .lengths-fit, turn .loop-test .taken)
 
 lay-out-part-requires : tie.Need-lay-out-part-requires Inv-loop μ-loop
 lay-out-part-requires c κs =
-    let start = c .before .before .before .before .before .before .before .before .before .before .before .before .before in
-    let at = c .before .before .before .before .before .loop in
-    let edges = c .before .before in (
-      (record { matching = start .pre .0 .0; start = omega arith; inside = room (c .before .before .before .before) }, ap (λ k. at .to + k) (edges .part-edges .ensures)),
-      (omega (arith, fit edges, at .inv .1, start .pre .1 .kinds-fit), omega (arith, fit edges, at .inv .2, start .pre .1 .points-fit)),
+    let edges = c .before .before in
+    let turn = edges .before .before in
+    let pre = start turn .pre in
+    let at = turn .before .loop in (
+      (record { matching = pre .0 .0; start = omega arith; inside = room turn }, ap (λ k. at .to + k) (edges .part-edges .ensures)),
+      (omega (arith, fit edges, at .inv .1, pre .1 .kinds-fit), omega (arith, fit edges, at .inv .2, pre .1 .points-fit)),
     )
 
 add-i : tie.Need-add-i Inv-loop μ-loop
 add-i c =
-    let start = c .before .before .before .before .before .before .before .before .before .before .before .before .before .before .before .before .before .before in
-    let branch = c .before .before .before .before .before .before .before .before .before in
-    omega (arith, branch .loop-test .taken, start .good)
+    let turn = c .before .before .before .before .before .before .before .before .before in
+    omega (arith, turn .loop-test .taken, start turn .good)
 
 loop-less : tie.Need-loop-less Inv-loop μ-loop
 loop-less c = omega arith
 
 loop-again : tie.Need-loop-again Inv-loop μ-loop
 loop-again c =
-    let turn = c .before .before .before .before .before .before .before .before .before .before in
-    let branch = c .before .before .before .before .before .before .before .before .before in
-    let start = c .before .before .before .before .before .before .before .before .before .before .before .before .before .before .before .before .before .before in
-    let a = start .args in
-    let at = turn .loop in
     let edges = c .before .before .before .before .before .before .before in
+    let turn = edges .before .before in
+    let pre = start turn .pre in
+    let a = start turn .args in
+    let at = turn .before .loop in
     let laid-out = c .before .before .before .before .lay-out-part in
-    let n = getD (a .lengths .now) (at .i) 0 in
-    let m : at .at + n - at .at ≡ n = omega arith in
-    let stored = rw m at (laid-out .ensures) in
-    let h = branch .loop-test .taken in (
+    let stored = rw (whole turn) at (laid-out .ensures) in
+    let h = turn .loop-test .taken in (
       simp length-set (at .inv .0),
       laid-out .kept .1 .1 .1 .1 .1 .1 .1 .0 ∙ at .inv .1,
       laid-out .kept .1 .1 .1 .1 .1 .1 .1 .1 .0 ∙ at .inv .2,
       rw (stored .kinds-are, stored .points-are, counted edges)
-          (laying-next _ _ _ _ _ _ _ _ _ _ _ (at .inv .3) (start .pre .0 .0 .flagged ∙ sym (edges-length (a .kinds .now) (a .points .now))) h
-          (omega (arith, at .inv .0, start .pre .1 .lengths-fit)) (omega (arith, at .inv .1, start .pre .1 .kinds-fit)) (omega (arith, at .inv .2, start .pre .1 .points-fit))),
+          (laying-next _ _ _ _ _ _ _ _ _ _ _ (at .inv .3) (pre .0 .0 .flagged ∙ sym (edges-length (a .kinds .now) (a .points .now))) h
+          (omega (arith, at .inv .0, pre .1 .lengths-fit)) (omega (arith, at .inv .1, pre .1 .kinds-fit)) (omega (arith, at .inv .2, pre .1 .points-fit))),
     )
 
 same-length : tie.Need-same-length Inv-loop μ-loop

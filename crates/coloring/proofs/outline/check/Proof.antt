@@ -12,10 +12,12 @@ use borrow.Author.Needs.{needs}
 use Rattle.coloring.proofs.outline.check.Statement.{statement}
 use Rattle.coloring.proofs.outline.check.Tie as tie
 
-few : (c : tie.Else2) → (leb (length (c .before .before .before .before .before .before .args .lengths .now)) 64 && leb (total (c .before .before .before .before .before .before .args .lengths .now)) 256) ≡ true
-few c =
-    let start = c .before .before .before .before .before .before in
-    rw (le-leb (length (start .args .lengths .now)) 64 (c .before .before .if1 .left), ← c .before .total .ensures, le-leb (c .before .total .result) 256 (c .if2 .left))
+module _ (c : tie.Else2) where
+  abbrev start : tie.Start
+  start = c .before .before .before .before .before .before
+
+  few : (leb (length (start .args .lengths .now)) 64 && leb (total (start .args .lengths .now)) 256) ≡ true
+  few = rw (le-leb (length (start .args .lengths .now)) 64 (c .before .before .if1 .left), ← c .before .total .ensures, le-leb (c .before .total .result) 256 (c .if2 .left))
 
 returns : tie.Need-returns
 unfolding check maxContours
@@ -33,8 +35,8 @@ returns-2 c =
 returns-3 : tie.Need-returns-3
 unfolding check maxContours maxEdges
 returns-3 c =
-    let start = c .before .before .before .before .before .before .before in
-    rw (few (c .before), ← c .before .before .total .ensures, ne-eqb (length (start .args .kinds .now)) (c .before .before .total .result) (c .if3 .taken))
+    let counted = c .before .before .total in
+    rw (few (c .before), ← counted .ensures, ne-eqb (length (start (c .before) .args .kinds .now)) (counted .result) (c .if3 .taken))
 
 mul-if4 : tie.Need-mul-if4
 mul-if4 c = search needs
@@ -42,24 +44,34 @@ mul-if4 c = search needs
 returns-4 : tie.Need-returns-4
 unfolding check maxContours maxEdges
 returns-4 c =
-    let start = c .before .before .before .before .before .before .before .before in
-    rw (few (c .before .before), ← c .before .before .before .total .ensures, eq-eqb (length (start .args .kinds .now)) (c .before .before .before .total .result) (c .before .if3 .left), ne-eqb (length (start .args .points .now)) (8 * c .before .before .before .total .result) (c .if4 .taken))
+    let counted = c .before .before .before .total in
+    let a = start (c .before .before) .args in
+    rw (few (c .before .before), ← counted .ensures, eq-eqb (length (a .kinds .now)) (counted .result) (c .before .if3 .left), ne-eqb (length (a .points .now)) (8 * counted .result) (c .if4 .taken))
 
-agree : (c : tie.Else4) → (eqb (length (c .before .before .before .before .before .before .before .before .args .kinds .now)) (total (c .before .before .before .before .before .before .before .before .args .lengths .now))
-    && eqb (length (c .before .before .before .before .before .before .before .before .args .points .now)) (8 * total (c .before .before .before .before .before .before .before .before .args .lengths .now))) ≡ true
-agree c =
-    let start = c .before .before .before .before .before .before .before .before in
-    rw (← c .before .before .before .total .ensures, eq-eqb (length (start .args .kinds .now)) (c .before .before .before .total .result) (c .before .if3 .left), eq-eqb (length (start .args .points .now)) (8 * c .before .before .before .total .result) (c .if4 .left))
+module _ (c : tie.Else4) where
+  abbrev within : tie.Else2
+  within = c .before .before
+
+  agree : let a = start within .args in
+      (eqb (length (a .kinds .now)) (total (a .lengths .now)) && eqb (length (a .points .now)) (8 * total (a .lengths .now))) ≡ true
+  agree =
+      let counted = within .before .total in
+      let a = start within .args in
+      rw (← counted .ensures, eq-eqb (length (a .kinds .now)) (counted .result) (c .before .if3 .left), eq-eqb (length (a .points .now)) (8 * counted .result) (c .if4 .left))
 
 kinds-known-requires : tie.Need-kinds-known-requires
 kinds-known-requires c κs = search needs
 
 returns-5 : tie.Need-returns-5
 unfolding check maxContours maxEdges
-returns-5 c = rw (few (c .before .before .before .before), agree (c .before .before), ← c .before .kinds-known .ensures, not-true (c .before .kinds-known .result) (c .if5 .taken))
+returns-5 c = rw (few (within (c .before .before)), agree (c .before .before), ← c .before .kinds-known .ensures, not-true (c .before .kinds-known .result) (c .if5 .taken))
 
-known : (c : tie.Else5) → all knownKind (c .before .before .before .before .before .before .before .before .before .before .args .kinds .now) ≡ true
-known c = sym (c .before .kinds-known .ensures) ∙ not-false _ (c .if5 .left)
+module _ (c : tie.Else5) where
+  abbrev agreeing : tie.Else4
+  agreeing = c .before .before
+
+  known : all knownKind (start (within agreeing) .args .kinds .now) ≡ true
+  known = sym (c .before .kinds-known .ensures) ∙ not-false _ (c .if5 .left)
 
 coordinates-fit-requires : tie.Need-coordinates-fit-requires
 coordinates-fit-requires c κs = (omega arith, known c)
@@ -67,10 +79,13 @@ coordinates-fit-requires c κs = (omega arith, known c)
 returns-6 : tie.Need-returns-6
 unfolding check maxContours maxEdges
 returns-6 c =
-    let place = c .before .before .before .before .before .before in
-    rw (few place, agree (c .before .before .before .before), known (c .before .before), ← c .before .coordinates-fit .ensures, not-true (c .before .coordinates-fit .result) (c .if6 .taken))
+    let known-kinds = c .before .before in
+    let agreeing = agreeing known-kinds in
+    rw (few (within agreeing), agree agreeing, known known-kinds, ← c .before .coordinates-fit .ensures, not-true (c .before .coordinates-fit .result) (c .if6 .taken))
 
-fit : (c : tie.Else6) → coordinatesFit (c .before .before .before .before .before .before .before .before .before .before .before .before .args .kinds .now) (c .before .before .before .before .before .before .before .before .before .before .before .before .args .points .now) ≡ true
+fit : (c : tie.Else6)
+    → let a = start (within (agreeing (c .before .before))) .args in
+    coordinatesFit (a .kinds .now) (a .points .now) ≡ true
 fit c = sym (c .before .coordinates-fit .ensures) ∙ not-false _ (c .if6 .left)
 
 between-requires : tie.Need-between-requires
@@ -79,16 +94,16 @@ between-requires c κs = search needs
 returns-7 : tie.Need-returns-7
 unfolding check maxContours maxEdges
 returns-7 c =
-    let place = c .before .before .before .before .before .before .before .before in
-    let place2 = c .before .before .before .before .before .before in
-    rw (few place, agree (place2), known (c .before .before .before .before), fit (c .before .before), ← c .before .between .ensures, not-true (c .before .between .result) (c .if7 .taken))
+    let known-kinds = c .before .before .before .before in
+    let agreeing = agreeing known-kinds in
+    rw (few (within agreeing), agree agreeing, known known-kinds, fit (c .before .before), ← c .before .between .ensures, not-true (c .before .between .result) (c .if7 .taken))
 
 returns-8 : tie.Need-returns-8
 unfolding check maxContours maxEdges
 returns-8 c =
-    let place = c .before .before .before .before .before .before .before .before in
-    let place2 = c .before .before .before .before .before .before in
-    rw (few place, agree (place2), known (c .before .before .before .before), fit (c .before .before), ← c .before .between .ensures, not-false (c .before .between .result) (c .if7 .left))
+    let known-kinds = c .before .before .before .before in
+    let agreeing = agreeing known-kinds in
+    rw (few (within agreeing), agree agreeing, known known-kinds, fit (c .before .before), ← c .before .between .ensures, not-false (c .before .between .result) (c .if7 .left))
 
 pub check-spec : {M : Type 1} → statement M
 check-spec =

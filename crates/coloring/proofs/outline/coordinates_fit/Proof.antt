@@ -1,6 +1,6 @@
 -- `coloring::outline::coordinates_fit` meets its contract.
 use mathlib.Core.Path.{_≡_, refl, sym, _∙_}
-use Prim.Native.Nat.{_≤_, _+_, _*_, _-_}
+use Prim.Native.Nat.{ℕ, _≤_, _+_, _*_, _-_}
 use native.Mathlib.Omega.{arith}
 use borrow.Author.Needs.{needs}
 use borrow.Author.Tests.{not-true, not-false}
@@ -53,19 +53,25 @@ places-fit-requires : tie.Need-places-fit-requires Inv-loop μ-loop
 places-fit-requires c κs = search needs
 
 -- the part that was tested holds the used places of the edge
-tested : (c : tie.After-places-fit Inv-loop μ-loop) → c .places-fit .result
-    ≡ all inRange (take (usedPlaces (getD (c .before .before .before .before .before .before .before .before .args .kinds .now) (c .before .before .before .before .before .loop .i) 0))
-    (drop (8 * c .before .before .before .before .before .loop .i) (c .before .before .before .before .before .before .before .before .args .points .now)))
-tested c =
-    let start = c .before .before .before .before .before .before .before .before in
-    let e : 8 * c .before .before .before .before .before .loop .i + c .before .before .used-places .result - 8 * c .before .before .before .before .before .loop .i ≡ usedPlaces (getD (start .args .kinds .now) (c .before .before .before .before .before .loop .i) 0) = omega arith in
-    c .places-fit .ensures ∙ rw e
+module _ (c : tie.After-places-fit Inv-loop μ-loop) where
+  abbrev turn : tie.In-loop Inv-loop μ-loop
+  turn = c .before .before .before .before
+
+  abbrev start : tie.Start Inv-loop μ-loop
+  start = turn .before .before .before .before
+
+  abbrev i : ℕ
+  i = turn .before .loop .i
+
+  tested : c .places-fit .result ≡ all inRange (take (usedPlaces (getD (start .args .kinds .now) i 0)) (drop (8 * i) (start .args .points .now)))
+  tested =
+      let e : 8 * i + c .before .before .used-places .result - 8 * i ≡ usedPlaces (getD (start .args .kinds .now) i 0) = omega arith in
+      c .places-fit .ensures ∙ rw e
 
 returns : tie.Need-returns Inv-loop μ-loop
 returns c =
-    let turn = c .before .before .before .before .before .before in
-    fit-fail _ _ _ (turn .loop .inv .1) (c .before .before .before .before .before .loop-test .taken)
-    (sym (tested (c .before)) ∙ not-true _ (c .if1 .taken))
+    let turn = turn (c .before) in
+    fit-fail _ _ _ (turn .before .loop .inv .1) (turn .loop-test .taken) (sym (tested (c .before)) ∙ not-true _ (c .if1 .taken))
 
 add-i : tie.Need-add-i Inv-loop μ-loop
 add-i c = omega arith
@@ -75,11 +81,8 @@ loop-less c = omega arith
 
 loop-again : tie.Need-loop-again Inv-loop μ-loop
 loop-again c =
-    let turn = c .before .before .before .before .before .before in (
-      omega arith,
-      fit-more _ _ _ (turn .loop .inv .1) (c .before .before .before .before .before .loop-test .taken)
-          (sym (tested (c .before)) ∙ not-false _ (c .if1 .left)),
-    )
+    let turn = turn (c .before) in
+    (omega arith, fit-more _ _ _ (turn .before .loop .inv .1) (turn .loop-test .taken) (sym (tested (c .before)) ∙ not-false _ (c .if1 .left)))
 
 returns-2 : tie.Need-returns-2 Inv-loop μ-loop
 returns-2 c = fit-end _ _ _ (c .before .loop .inv .1) (c .loop-test .left)

@@ -52,15 +52,18 @@ zero-requires-2 : tie.Need-zero-requires-2
 zero-requires-2 c κs = search needs
 
 -- what was decoded is the edge at place i
-stands : (c : tie.After-from-stored) → decoded (c .from-stored .result)
-    ≡ getD (edgesOf (c .before .before .before .before .before .before .before .before .args .kinds .now) (c .before .before .before .before .before .before .before .before .args .points .now)) (c .before .before .before .before .before .before .before .before .args .i) anyEdge
-unfolding edgeOf
-stands c =
-    let start = c .before .before .before .before .before .before .before .before in
-    let i = start .args .i in
-    let eight : 8 * i + 8 - 8 * i ≡ 8 = omega arith in
-    let places : c .before .before .before .copy .last .1 .0 ≡ take 8 (drop (8 * i) (start .args .points .now)) = c .before .before .before .copy .ensures ∙ rw eight in
-    ap decoded (c .from-stored .ensures) ∙ rw places (sym (edges-at _ _ i anyEdge (start .pre .0)))
+module _ (c : tie.After-from-stored) where
+  abbrev start : tie.Start
+  start = c .before .before .before .before .before .before .before .before
+
+  stands : decoded (c .from-stored .result) ≡ getD (edgesOf (start .args .kinds .now) (start .args .points .now)) (start .args .i) anyEdge
+  unfolding edgeOf
+  stands =
+      let i = start .args .i in
+      let copy = c .before .before .before .copy in
+      let eight : 8 * i + 8 - 8 * i ≡ 8 = omega arith in
+      let places : copy .last .1 .0 ≡ take 8 (drop (8 * i) (start .args .points .now)) = copy .ensures ∙ rw eight in
+      ap decoded (c .from-stored .ensures) ∙ ap (edgeOf (getD (start .args .kinds .now) i 0)) places ∙ sym (edges-at _ _ i anyEdge (start .pre .0))
 
 returns : tie.Need-returns
 returns c = sym (ap decoded (c .before .e .given .1)) ∙ stands (c .before .before .before)

@@ -2,6 +2,7 @@
 use native.Mathlib.Omega.{arith}
 use borrow.Author.Needs.{needs}
 use mathlib.Core.Path.{_≡_, refl, sym, ap, _∙_}
+use mathlib.Core.Bool.{Bool}
 use mathlib.Core.List.{List, _∷_, _++_, map}
 use Prim.Native.Nat.{ℕ, _+_, _-_, _≤_}
 use lib.ListN.{length, getD, take, drop, length-map}
@@ -41,24 +42,35 @@ abbrev μ-loop : tie.MeasureT-loop
 μ-loop strategy lengths kinds points flags seed out₀ pen₀ at₀ to₀ i₀ out pen at to i = length lengths - i
 
 -- the next contour lies within the edges
-room : (c : tie.In-loop Inv-loop μ-loop)
-    → c .before .loop .at + getD (c .before .before .before .before .before .before .before .before .args .lengths .now) (c .before .loop .i) 0 ≤ length (c .before .before .before .before .before .before .before .before .args .kinds .now)
-room c = along-room _ _ _ _ (c .before .loop .inv .0) (c .loop-test .taken)
+module _ (c : tie.In-loop Inv-loop μ-loop) where
+  abbrev start : tie.Start Inv-loop μ-loop
+  start = c .before .before .before .before .before .before .before .before
+
+  abbrev n : ℕ
+  n = getD (start .args .lengths .now) (c .before .loop .i) 0
+
+  room : c .before .loop .at + n ≤ length (start .args .kinds .now)
+  room = along-room _ _ _ _ (c .before .loop .inv .0) (c .loop-test .taken)
+
+  -- its flags
+  abbrev part : List Bool
+  part = take n (drop (c .before .loop .at) (start .args .flags .now))
+
+  whole : c .before .loop .at + n - c .before .loop .at ≡ n
+  whole = omega arith
 
 module _ (c : tie.After-part-edges Inv-loop μ-loop) where
   -- what it comes to
-  counted : c .part-edges .result ≡ resultEdges (take (getD (c .before .before .before .before .before .before .before .before .before .before .args .lengths .now) (c .before .before .before .loop .i) 0) (drop (c .before .before .before .loop .at) (c .before .before .before .before .before .before .before .before .before .before .args .flags .now)))
-  counted =
-      let n = getD (c .before .before .before .before .before .before .before .before .before .before .args .lengths .now) (c .before .before .before .loop .i) 0 in
-      let m : c .before .before .before .loop .at + n - c .before .before .before .loop .at ≡ n = omega arith in
-      rw m at (c .part-edges .ensures)
+  counted : c .part-edges .result ≡ resultEdges (part (c .before .before))
+  counted = rw (whole (c .before .before)) at (c .part-edges .ensures)
 
   -- there is room for it
   fit : c .before .before .before .loop .to + c .part-edges .result ≤ length (c .before .before .before .loop .out)
   fit =
-      let s = c .before .before .before .loop in
-      let start = c .before .before .before .before .before .before .before .before .before .before in
-      omega (arith, counted, s .inv .1, s .inv .2, start .pre .1, left-step resultEdges (start .args .lengths .now) (start .args .flags .now) (s .i) (s .at) (c .before .before .loop-test .taken))
+      let turn = c .before .before in
+      let s = turn .before .loop in
+      let a = start turn .args in
+      omega (arith, counted, s .inv .1, s .inv .2, start turn .pre .1, left-step resultEdges (a .lengths .now) (a .flags .now) (s .i) (s .at) (turn .loop-test .taken))
 
 init-color-requires : tie.Need-init-color-requires Inv-loop μ-loop
 init-color-requires c κs = search needs
@@ -76,55 +88,43 @@ shared-slice-read-end : tie.Need-shared-slice-read-end Inv-loop μ-loop
 shared-slice-read-end c = omega arith
 
 cast-end : tie.Need-cast-end Inv-loop μ-loop
-cast-end c =
-    let start = c .before .before .before .before .before .before .before .before .before in
-    omega (arith, room (c .before), start .pre .0 .0 .few)
+cast-end c = omega (arith, room (c .before), start (c .before) .pre .0 .0 .few)
 
 add-end : tie.Need-add-end Inv-loop μ-loop
-add-end c =
-    let start = c .before .before .before .before .before .before .before .before .before in
-    omega (arith, room (c .before), start .pre .0 .0 .few)
+add-end c = omega (arith, room (c .before), start (c .before) .pre .0 .0 .few)
 
 part-edges-requires : tie.Need-part-edges-requires Inv-loop μ-loop
 part-edges-requires c κs =
-    let start = c .before .before .before .before .before .before .before .before .before in
-    let pre = start .pre .0 .0 in
-    (omega arith, omega (arith, room (c .before), pre .flagged), omega (arith, pre .flagged, pre .few))
+    let m = start (c .before) .pre .0 .0 in
+    (omega arith, omega (arith, room (c .before), m .flagged), omega (arith, m .flagged, m .few))
 
 add-next : tie.Need-add-next Inv-loop μ-loop
-add-next c =
-    let start = c .before .before .before .before .before .before .before .before .before .before in
-    omega (arith, fit c, c .before .before .before .loop .inv .1, start .good)
+add-next c = omega (arith, fit c, c .before .before .before .loop .inv .1, start (c .before .before) .good)
 
 color-part-requires : tie.Need-color-part-requires Inv-loop μ-loop
 color-part-requires c κs =
-    let start = c .before .before .before .before .before .before .before .before .before .before .before in
-    let at = c .before .before .before .before .loop in (
-      record { matching = start .pre .0 .0; start = omega arith; inside = room (c .before .before .before) },
-      (ap (λ k. at .to + k) (c .before .part-edges .ensures), fit (c .before)),
+    let turn = c .before .before .before in (
+      record { matching = start turn .pre .0 .0; start = omega arith; inside = room turn },
+      (ap (λ k. turn .before .loop .to + k) (c .before .part-edges .ensures), fit (c .before)),
     )
 
 add-i : tie.Need-add-i Inv-loop μ-loop
 add-i c =
-    let start = c .before .before .before .before .before .before .before .before .before .before .before .before .before .before in
-    let branch = c .before .before .before .before .before .before in
-    omega (arith, branch .loop-test .taken, start .good)
+    let turn = c .before .before .before .before .before .before in
+    omega (arith, turn .loop-test .taken, start turn .good)
 
 loop-less : tie.Need-loop-less Inv-loop μ-loop
 loop-less c = omega arith
 
 loop-again : tie.Need-loop-again Inv-loop μ-loop
 loop-again c =
-    let turn = c .before .before .before .before .before .before .before in
-    let branch = c .before .before .before .before .before .before in
-    let start = c .before .before .before .before .before .before .before .before .before .before .before .before .before .before in
-    let a = start .args in
-    let at = turn .loop in
-    let h = branch .loop-test .taken in
     let edges = c .before .before .before .before in
-    let n = getD (a .lengths .now) (at .i) 0 in
-    let m : at .at + n - at .at ≡ n = omega arith in
-    let painted = rw m at (c .before .before .color-part .ensures) in
+    let turn = edges .before .before in
+    let a = start turn .args in
+    let at = turn .before .loop in
+    let h = turn .loop-test .taken in
+    let n = n turn in
+    let painted = rw (whole turn) at (c .before .before .color-part .ensures) in
     let xs = edgesOf (a .kinds .now) (a .points .now) in
     let here : Cornered = record { edges = take n (drop (at .at) xs); corners = take n (drop (at .at) (a .flags .now)) } in
     let colors = colorContour (a .strategy) (at .pen) here .colors in

@@ -3,7 +3,7 @@ use native.Mathlib.Omega.{arith}
 use mathlib.Core.Path.{_≡_, refl, sym, ap, _∙_}
 use mathlib.Core.Bool.{Bool}
 use mathlib.Core.List.{List, map}
-use Prim.Native.Nat.{_+_, _-_, _≤_}
+use Prim.Native.Nat.{ℕ, _+_, _-_, _≤_}
 use lib.ListN.{length, getD, take, drop}
 use Rattle.coloring.specs.Places.{range, total, concat}
 use Rattle.coloring.specs.Layout.{resultEdges}
@@ -27,34 +27,41 @@ abbrev μ-loop : tie.MeasureT-loop
 μ-loop lengths flags out₀ first₀ at₀ to₀ i₀ out first at to i = length lengths - i
 
 -- the next contour lies within the edges
-room : (c : tie.In-loop Inv-loop μ-loop)
-    → c .before .loop .at + getD (c .before .before .before .before .before .args .lengths .now) (c .before .loop .i) 0 ≤ length (c .before .before .before .before .before .args .flags .now)
-room c = along-room _ _ _ _ (c .before .loop .inv .0) (c .loop-test .taken)
+module _ (c : tie.In-loop Inv-loop μ-loop) where
+  abbrev start : tie.Start Inv-loop μ-loop
+  start = c .before .before .before .before .before
 
-module _ (c : tie.After-part-edges Inv-loop μ-loop) where
+  abbrev n : ℕ
+  n = getD (start .args .lengths .now) (c .before .loop .i) 0
+
+  room : c .before .loop .at + n ≤ length (start .args .flags .now)
+  room = along-room _ _ _ _ (c .before .loop .inv .0) (c .loop-test .taken)
+
   -- its flags
   abbrev part : List Bool
-  part = take (getD (c .before .before .before .before .before .before .before .args .lengths .now) (c .before .before .before .loop .i) 0) (drop (c .before .before .before .loop .at) (c .before .before .before .before .before .before .before .args .flags .now))
+  part = take n (drop (c .before .loop .at) (start .args .flags .now))
 
-  whole : c .before .before .before .loop .at + getD (c .before .before .before .before .before .before .before .args .lengths .now) (c .before .before .before .loop .i) 0 - c .before .before .before .loop .at ≡ getD (c .before .before .before .before .before .before .before .args .lengths .now) (c .before .before .before .loop .i) 0
+  whole : c .before .loop .at + n - c .before .loop .at ≡ n
   whole = omega arith
 
-  -- what it comes to
-  counted : c .part-edges .result ≡ resultEdges part
-  counted = rw whole at (c .part-edges .ensures)
+  -- there are numbers for its splines
+  few : c .before .loop .first + splineCount part ≤ 64
+  few =
+      let s = c .before .loop in
+      omega (arith, s .inv .3, start .pre .0 .2, left-step splineCount (start .args .lengths .now) (start .args .flags .now) (s .i) (s .at) (c .loop-test .taken))
 
-  -- there is room for it, and numbers for its splines
+module _ (c : tie.After-part-edges Inv-loop μ-loop) where
+  -- what it comes to
+  counted : c .part-edges .result ≡ resultEdges (part (c .before .before))
+  counted = rw (whole (c .before .before)) at (c .part-edges .ensures)
+
+  -- there is room for it
   fit : c .before .before .before .loop .to + c .part-edges .result ≤ length (c .before .before .before .loop .out)
   fit =
-      let s = c .before .before .before .loop in
-      let start = c .before .before .before .before .before .before .before in
-      omega (arith, counted, s .inv .1, s .inv .2, start .pre .1, left-step resultEdges (start .args .lengths .now) (start .args .flags .now) (s .i) (s .at) (c .before .before .loop-test .taken))
-
-  few : c .before .before .before .loop .first + splineCount part ≤ 64
-  few =
-      let s = c .before .before .before .loop in
-      let start = c .before .before .before .before .before .before .before in
-      omega (arith, s .inv .3, start .pre .0 .2, left-step splineCount (start .args .lengths .now) (start .args .flags .now) (s .i) (s .at) (c .before .before .loop-test .taken))
+      let turn = c .before .before in
+      let s = turn .before .loop in
+      let a = start turn .args in
+      omega (arith, counted, s .inv .1, s .inv .2, start turn .pre .1, left-step resultEdges (a .lengths .now) (a .flags .now) (s .i) (s .at) (turn .loop-test .taken))
 
 loop-holds : tie.Need-loop-holds Inv-loop μ-loop
 unfolding overFrom
@@ -67,43 +74,34 @@ shared-slice-read-end : tie.Need-shared-slice-read-end Inv-loop μ-loop
 shared-slice-read-end c = omega arith
 
 cast-end : tie.Need-cast-end Inv-loop μ-loop
-cast-end c =
-    let start = c .before .before .before .before .before .before in
-    omega (arith, room (c .before), start .pre .0 .1)
+cast-end c = omega (arith, room (c .before), start (c .before) .pre .0 .1)
 
 add-end : tie.Need-add-end Inv-loop μ-loop
-add-end c =
-    let start = c .before .before .before .before .before .before in
-    omega (arith, room (c .before), start .pre .0 .1)
+add-end c = omega (arith, room (c .before), start (c .before) .pre .0 .1)
 
 part-edges-requires : tie.Need-part-edges-requires Inv-loop μ-loop
-part-edges-requires c κs =
-    let start = c .before .before .before .before .before .before in
-    (omega arith, room (c .before), start .pre .0 .1)
+part-edges-requires c κs = (omega arith, room (c .before), start (c .before) .pre .0 .1)
 
 add-next : tie.Need-add-next Inv-loop μ-loop
-add-next c =
-    let start = c .before .before .before .before .before .before .before in
-    omega (arith, fit c, c .before .before .before .loop .inv .1, start .good)
+add-next c = omega (arith, fit c, c .before .before .before .loop .inv .1, start (c .before .before) .good)
 
 number-part-requires : tie.Need-number-part-requires Inv-loop μ-loop
 number-part-requires c κs =
-    let start = c .before .before .before .before .before .before .before .before in
-    let at = c .before .before .before .before .loop in (
-      (omega arith, room (c .before .before .before), start .pre .0 .1),
-      (rw (whole (c .before)) (few (c .before)), (ap (λ k. at .to + k) (c .before .part-edges .ensures), fit (c .before))),
+    let turn = c .before .before .before in (
+      (omega arith, room turn, start turn .pre .0 .1),
+      (rw (whole turn) (few turn), (ap (λ k. turn .before .loop .to + k) (c .before .part-edges .ensures), fit (c .before))),
     )
 
 add-first : tie.Need-add-first Inv-loop μ-loop
 add-first c =
-    let done = rw (whole (c .before .before .before .before)) at (c .before .before .number-part .ensures .0) in
-    omega (arith, done, few (c .before .before .before .before))
+    let turn = c .before .before .before .before .before .before in
+    let done = rw (whole turn) at (c .before .before .number-part .ensures .0) in
+    omega (arith, done, few turn)
 
 add-i : tie.Need-add-i Inv-loop μ-loop
 add-i c =
-    let start = c .before .before .before .before .before .before .before .before .before .before .before in
-    let branch = c .before .before .before .before .before .before in
-    omega (arith, branch .loop-test .taken, start .good)
+    let turn = c .before .before .before .before .before .before in
+    omega (arith, turn .loop-test .taken, start turn .good)
 
 loop-less : tie.Need-loop-less Inv-loop μ-loop
 loop-less c = omega arith
@@ -111,18 +109,16 @@ loop-less c = omega arith
 loop-again : tie.Need-loop-again Inv-loop μ-loop
 unfolding numberFlags concat
 loop-again c =
-    let turn = c .before .before .before .before .before .before .before in
-    let branch = c .before .before .before .before .before .before in
-    let start = c .before .before .before .before .before .before .before .before .before .before .before in
-    let a = start .args in
-    let at = turn .loop in
-    let h = branch .loop-test .taken in
     let edges = c .before .before .before .before in
-    let flags = part edges in
+    let turn = edges .before .before in
+    let a = start turn .args in
+    let at = turn .before .loop in
+    let h = turn .loop-test .taken in
+    let flags = part turn in
     let done = c .before .before .number-part in
-    let splines : done .result ≡ splineCount flags = rw (whole edges) at (done .ensures .0) in
+    let splines : done .result ≡ splineCount flags = rw (whole turn) at (done .ensures .0) in
     let numbers : done .last .1 .1 .1 .1 .1 .1 .0 ≡ overFrom (at .to) (paint noSpline (range (at .first) (splineCount flags)) flags) (at .out) =
-    rw (whole edges, splines) at (done .ensures .1) in
+    rw (whole turn, splines) at (done .ensures .1) in
     let long = paint-length noSpline (range (at .first) (splineCount flags)) flags in (
       along-next _ _ _ _ (at .inv .0) h,
       done .kept .1 .1 .1 .1 .1 .1 .0 ∙ at .inv .1,

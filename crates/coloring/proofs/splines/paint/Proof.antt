@@ -45,12 +45,12 @@ same-length c = search needs
 
 returns : tie.Need-returns
 returns c =
-    let place = c .before .before .before .before .before .before .before in
     let result-corner = c .before .before .before .before .before .before in
-    let start = c .before .before .before .before .before .before .before .before .before .before .before .before in
+    let branch = result-corner .before in
+    let start = branch .before .before .before .before .before in
     let values = start .args .values .now in
-    let h = two place in
-    rw (paint-one _ _ _ (eq-eqb _ _ (one place)), getD-any values 0 (start .args .middle) 0 (omega arith), getD-any values 1 (start .args .middle) 0 (omega arith))
+    let h = two branch in
+    rw (paint-one _ _ _ (eq-eqb _ _ (one branch)), getD-any values 0 (start .args .middle) 0 (omega arith), getD-any values 1 (start .args .middle) 0 (omega arith))
     (c .before .before .paint-runs .ensures ∙ rw (result-corner .result-corner .ensures, start .pre .room))
 
 spread-requires : tie.Need-spread-requires

@@ -104,11 +104,12 @@ loop-less c = omega arith
 
 loop-again : tie.Need-loop-again Inv-loop μ-loop
 loop-again c =
-    let l = c .before .before .before .before .before .before .before in (
+    let put = c .before .before in
+    let l = put .before .before .before .before .before in (
       omega arith,
       omega (arith, at l .loop .inv .1, total-step (contour l) (start l .args .lengths .now) (l .loop-test .taken)),
-      c .before .before .put-contour .kept .0 ∙ at l .loop .inv .2,
-      listed-next (here l) (rest l) (step l) (at l .loop .inv .3) (c .before .before .put-contour .ensures),
+      put .put-contour .kept .0 ∙ at l .loop .inv .2,
+      listed-next (here l) (rest l) (step l) (at l .loop .inv .3) (put .put-contour .ensures),
     )
 
 same-length : tie.Need-same-length Inv-loop μ-loop
