@@ -32,11 +32,11 @@ returns c =
     let numbers = c .before in
     let read = numbers .before .before .before .before .before .before .before .before .before .before in
     let is = read .read .ensures .answers in
-    let old = read .before .before .before .before .before .before .before .before .before .before .args .numbers .now in
+    let start = read .before .before .before .before .before .before .before .before .before .before in
     record {
       answers = c .read-code .ensures ∙ ap readCode is;
       holds = read .read .ensures .holds;
-      numbers-are = numbers .write-numbers .ensures ∙ ap (λ (r : Read). numbersAfter r old) is;
+      numbers-are = numbers .write-numbers .ensures ∙ ap (λ (r : Read). numbersAfter r (start .args .numbers .now)) is;
     }
 
 pub merelsplum-job-read-spec : {M : Type 1} → statement M
