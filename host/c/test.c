@@ -1,0 +1,145 @@
+/* What merelsplum.h says, tried: NULL buffers, the helpers, the floating-point state, the job file's entries. Silent where all is well. */
+#include <stdio.h>
+#include <string.h>
+#include <xmmintrin.h>
+
+#include "merelsplum.h"
+
+static int failures;
+
+#define CHECK(condition) \
+    do { \
+        if (!(condition)) { \
+            fprintf(stderr, "%s:%d: %s\n", __FILE__, __LINE__, #condition); \
+            failures++; \
+        } \
+    } while (0)
+
+static const uint16_t lengths[] = {4};
+static const uint8_t kinds[] = {MERELSPLUM_LINE, MERELSPLUM_LINE, MERELSPLUM_LINE, MERELSPLUM_LINE};
+
+struct result {
+    uint16_t lengths[1];
+    uint8_t kinds[12], bytes[12];
+    double points[8 * 12];
+};
+
+/* The corners of a square with sides s, as points. */
+static void square(double points[32], double s) {
+    static const int x[] = {0, 1, 1, 0, 0}, y[] = {0, 0, 1, 1, 0};
+    for (int i = 0; i < 4; i++) {
+        const double edge[8] = {x[i] * s, y[i] * s, x[i + 1] * s, y[i + 1] * s};
+        memcpy(points + 8 * i, edge, sizeof edge);
+    }
+}
+
+static uint64_t color(double s, double threshold, size_t room, struct result *out) {
+    double points[32];
+    square(points, s);
+    return merelsplum_edge_coloring_simple(
+        lengths, 1, kinds, 4, points, 32, threshold, 0,
+        out->lengths, 1, out->kinds, room, out->points, 8 * room, out->bytes, room);
+}
+
+static int colors_are(const struct result *out, const char *colors) { return memcmp(out->bytes, colors, 4) == 0; }
+
+static void nothing(void) {
+    CHECK(merelsplum_edge_coloring_simple(NULL, 0, NULL, 0, NULL, 0, 0, 0, NULL, 0, NULL, 0, NULL, 0, NULL, 0) == 0);
+    CHECK(merelsplum_edge_coloring_ink_trap(NULL, 0, NULL, 0, NULL, 0, 0, 0, NULL, 0, NULL, 0, NULL, 0, NULL, 0) == 0);
+    CHECK(merelsplum_edge_coloring_by_distance(NULL, 0, NULL, 0, NULL, 0, 0, 0, NULL, 0, NULL, 0, NULL, 0, NULL, 0, NULL, 0) == 0);
+    CHECK(merelsplum_collect_splines(NULL, 0, NULL, 0, NULL, 0, 0, NULL, 0, NULL, 0, NULL, 0, NULL, 0) == 0);
+    CHECK(merelsplum_offer_refusal(merelsplum_try_add_edge(NULL, 0, NULL, 0, 0, 1)) == MERELSPLUM_BAD_TABLE);
+    uint64_t numbers[6];
+    CHECK(merelsplum_refusal(merelsplum_job_read(NULL, 0, NULL, 0, NULL, 0, NULL, 0, NULL, 0, numbers)) == MERELSPLUM_TRUNCATED);
+    CHECK(merelsplum_refusal(merelsplum_job_check(NULL, 0)) == MERELSPLUM_TRUNCATED);
+    CHECK(merelsplum_refusal(merelsplum_job_color(NULL, 0, NULL, 0, NULL, 0, NULL, 0, NULL, 0)) == MERELSPLUM_TRUNCATED);
+    CHECK(merelsplum_refusal(merelsplum_job_listing(NULL, 0, NULL, 0)) == MERELSPLUM_RESULT_TOO_SHORT);
+    CHECK(merelsplum_job_contour_part(NULL, 0, 0) == 0);
+}
+
+static void outlines(void) {
+    struct result out = {0};
+    double points[32];
+    CHECK(color(1, 0.125, 12, &out) == 4 && colors_are(&out, "\5\3\6\3"));
+    CHECK(color(1, 0.125, 4, &out) == 4);
+    CHECK(merelsplum_refusal(color(1, 0.125, 3, &out)) == MERELSPLUM_RESULT_TOO_SHORT);
+    CHECK(merelsplum_refusal(color(1, 1.5, 12, &out)) == MERELSPLUM_BAD_THRESHOLD);
+    CHECK(merelsplum_refusal(color(2 * MERELSPLUM_MAX_COORDINATE, 0.125, 12, &out)) == MERELSPLUM_BAD_COORDINATE);
+
+    square(points, 1);
+    uint64_t answer = merelsplum_collect_splines(
+        lengths, 1, kinds, 4, points, 32, 0.125, out.lengths, 1, out.kinds, 12, out.points, 96, out.bytes, 12);
+    CHECK(!merelsplum_is_refusal(answer) && merelsplum_refusal(answer) == 0);
+    CHECK(merelsplum_collected_edges(answer) == 4 && merelsplum_collected_splines(answer) == 4);
+    CHECK(colors_are(&out, "\0\1\2\3"));
+    static const double distances[] = {0, 1, 0, 0, 1, 0};
+    answer = merelsplum_edge_coloring_by_distance(
+        lengths, 1, kinds, 4, points, 32, 0.125, 0, distances, 6,
+        out.lengths, 1, out.kinds, 12, out.points, 96, out.bytes, 12);
+    CHECK(answer == 4 && colors_are(&out, "\3\6\5\6"));
+}
+
+static void offers(void) {
+    uint8_t coloring[] = {0, 1, 2, 1}, matrix[16] = {0, 1, 0, 1, 1, 0, 1, 0, 0, 1, 0, 1, 1, 0, 1, 0};
+    uint64_t answer = merelsplum_try_add_edge(coloring, 4, matrix, 16, 0, 2);
+    CHECK(merelsplum_offer_outcome(answer) == MERELSPLUM_OFFER_KEPT && merelsplum_offer_steps(answer) == 0);
+    answer = merelsplum_try_add_edge(coloring, 4, matrix, 16, 1, 3);
+    CHECK(merelsplum_offer_outcome(answer) == MERELSPLUM_OFFER_DECLINED && merelsplum_offer_steps(answer) == 16);
+    answer = merelsplum_try_add_edge(coloring, 4, matrix, 15, 1, 3);
+    CHECK(merelsplum_offer_outcome(answer) == MERELSPLUM_OFFER_REFUSED && merelsplum_offer_steps(answer) == 0);
+    CHECK(merelsplum_offer_refusal(answer) == MERELSPLUM_LENGTH_MISMATCH);
+}
+
+/* A square with sides 2^-520, whose squared sides are subnormal, loses its corners with flush to zero or denormals-are-zero on. */
+static void floating_point_state(void) {
+    static const unsigned flags[] = {0x8000, 0x40};
+    struct result out = {0};
+    const unsigned usual = _mm_getcsr();
+    CHECK(color(0x1p-520, 0.125, 12, &out) == 4 && colors_are(&out, "\5\3\6\3"));
+    for (int i = 0; i < 2; i++) {
+        _mm_setcsr(usual | flags[i]);
+        color(0x1p-520, 0.125, 12, &out);
+        _mm_setcsr(usual);
+        CHECK(colors_are(&out, "\5\5\5\5"));
+    }
+}
+
+/* The file of docs/FORMAT.md. */
+static void jobs(const char *path) {
+    uint8_t file[MERELSPLUM_MAX_JOB_BYTES + 1], text[MERELSPLUM_MAX_LISTING_BYTES];
+    FILE *f = fopen(path, "rb");
+    CHECK(f);
+    if (!f)
+        return;
+    const size_t n = fread(file, 1, sizeof file, f);
+    fclose(f);
+
+    struct result out = {0};
+    uint64_t numbers[6];
+    CHECK(merelsplum_job_read(file, n, out.lengths, 1, out.kinds, 12, out.points, 96, NULL, 0, numbers) == 0);
+    const double threshold = 0.125;
+    CHECK(numbers[0] == MERELSPLUM_SIMPLE && numbers[1] == 0 && memcmp(numbers + 2, &threshold, 8) == 0);
+    CHECK(numbers[3] == 1 && numbers[4] == 4 && numbers[5] == 0);
+    CHECK(merelsplum_job_check(file, n) == 4);
+    CHECK(merelsplum_refusal(merelsplum_job_check(file, n - 1)) == MERELSPLUM_TRUNCATED);
+    CHECK(merelsplum_job_color(file, n, out.lengths, 1, out.kinds, 12, out.points, 96, out.bytes, 12) == 4);
+    CHECK(out.lengths[0] == 4 && colors_are(&out, "\5\3\6\3"));
+    static const char listing[] = "0 0 L 5\n0 1 L 3\n0 2 L 6\n0 3 L 3\nedges 4\n";
+    CHECK(merelsplum_job_listing(file, n, text, sizeof text) == sizeof listing - 1 && !memcmp(text, listing, sizeof listing - 1));
+    CHECK(merelsplum_refusal(merelsplum_job_listing(file, n, text, sizeof listing - 2)) == MERELSPLUM_RESULT_TOO_SHORT);
+    CHECK(merelsplum_job_listing(file, 1, text, sizeof text) == 10 && memcmp(text, "refused 1\n", 10) == 0);
+    const uint64_t part = merelsplum_job_contour_part(file, n, 0);
+    CHECK(merelsplum_part_start(part) == 19 && merelsplum_part_len(part) == n - 21);
+    CHECK(merelsplum_part_len(merelsplum_job_contour_part(file, n, 1)) == 0);
+}
+
+int main(int argc, char **argv) {
+    nothing();
+    outlines();
+    offers();
+    floating_point_state();
+    CHECK(argc == 2);
+    if (argc == 2)
+        jobs(argv[1]);
+    return failures != 0;
+}
