@@ -1,0 +1,322 @@
+//! The library's C functions (crates/capi/merelsplum.h), and all unsafe code of this crate.
+//!
+//! The functions take any contents and lengths. What they ask of a caller is what slices have: each pointer is good for the length beside
+//! it, and what is written overlaps nothing else.
+
+/// An outline as the library takes it.
+pub(crate) struct Flat {
+    pub lengths: Vec<u16>,
+    pub kinds: Vec<u8>,
+    pub points: Vec<f64>,
+}
+
+/// A length that no result has. Places beyond a result keep their bytes, so the contours of a result end at the first of these.
+const UNWRITTEN: u16 = u16::MAX;
+
+/// Where a result goes: an outline and a byte for each edge.
+pub(crate) struct FlatResult {
+    pub lengths: Vec<u16>,
+    pub kinds: Vec<u8>,
+    pub points: Vec<f64>,
+    pub bytes: Vec<u8>,
+}
+
+impl FlatResult {
+    pub fn new(contours: usize, edges: usize) -> FlatResult {
+        FlatResult {
+            lengths: vec![UNWRITTEN; contours],
+            kinds: vec![0; edges],
+            points: vec![0.0; 8 * edges],
+            bytes: vec![0; edges],
+        }
+    }
+
+    /// The lengths of the contours that were written.
+    pub fn lengths(&self) -> impl Iterator<Item = usize> {
+        self.lengths.iter().take_while(|&&length| length != UNWRITTEN).map(|&length| length as usize)
+    }
+}
+
+/// What a job file holds, as the library writes it.
+pub(crate) struct FlatJob {
+    pub outline: Flat,
+    pub distances: Vec<f64>,
+    /// Strategy, seed, the threshold's bits, contours, edges, distances.
+    pub numbers: [u64; 6],
+}
+
+unsafe extern "C" {
+    fn merelsplum_edge_coloring_simple(
+        lengths: *const u16,
+        lengths_len: usize,
+        kinds: *const u8,
+        kinds_len: usize,
+        points: *const f64,
+        points_len: usize,
+        threshold: f64,
+        seed: u64,
+        out_lengths: *mut u16,
+        out_lengths_len: usize,
+        out_kinds: *mut u8,
+        out_kinds_len: usize,
+        out_points: *mut f64,
+        out_points_len: usize,
+        out_colors: *mut u8,
+        out_colors_len: usize,
+    ) -> u64;
+
+    fn merelsplum_edge_coloring_ink_trap(
+        lengths: *const u16,
+        lengths_len: usize,
+        kinds: *const u8,
+        kinds_len: usize,
+        points: *const f64,
+        points_len: usize,
+        threshold: f64,
+        seed: u64,
+        out_lengths: *mut u16,
+        out_lengths_len: usize,
+        out_kinds: *mut u8,
+        out_kinds_len: usize,
+        out_points: *mut f64,
+        out_points_len: usize,
+        out_colors: *mut u8,
+        out_colors_len: usize,
+    ) -> u64;
+
+    fn merelsplum_edge_coloring_by_distance(
+        lengths: *const u16,
+        lengths_len: usize,
+        kinds: *const u8,
+        kinds_len: usize,
+        points: *const f64,
+        points_len: usize,
+        threshold: f64,
+        seed: u64,
+        distances: *const f64,
+        distances_len: usize,
+        out_lengths: *mut u16,
+        out_lengths_len: usize,
+        out_kinds: *mut u8,
+        out_kinds_len: usize,
+        out_points: *mut f64,
+        out_points_len: usize,
+        out_colors: *mut u8,
+        out_colors_len: usize,
+    ) -> u64;
+
+    fn merelsplum_collect_splines(
+        lengths: *const u16,
+        lengths_len: usize,
+        kinds: *const u8,
+        kinds_len: usize,
+        points: *const f64,
+        points_len: usize,
+        threshold: f64,
+        out_lengths: *mut u16,
+        out_lengths_len: usize,
+        out_kinds: *mut u8,
+        out_kinds_len: usize,
+        out_points: *mut f64,
+        out_points_len: usize,
+        out_splines: *mut u8,
+        out_splines_len: usize,
+    ) -> u64;
+
+    fn merelsplum_try_add_edge(
+        coloring: *mut u8,
+        coloring_len: usize,
+        edge_matrix: *mut u8,
+        edge_matrix_len: usize,
+        a: usize,
+        b: usize,
+    ) -> u64;
+
+    fn merelsplum_job_read(
+        file: *const u8,
+        file_len: usize,
+        lengths: *mut u16,
+        lengths_len: usize,
+        kinds: *mut u8,
+        kinds_len: usize,
+        points: *mut f64,
+        points_len: usize,
+        distances: *mut f64,
+        distances_len: usize,
+        numbers: *mut [u64; 6],
+    ) -> u64;
+
+    fn merelsplum_job_check(file: *const u8, file_len: usize) -> u64;
+
+    fn merelsplum_job_color(
+        file: *const u8,
+        file_len: usize,
+        out_lengths: *mut u16,
+        out_lengths_len: usize,
+        out_kinds: *mut u8,
+        out_kinds_len: usize,
+        out_points: *mut f64,
+        out_points_len: usize,
+        out_colors: *mut u8,
+        out_colors_len: usize,
+    ) -> u64;
+
+    fn merelsplum_job_listing(file: *const u8, file_len: usize, out: *mut u8, out_len: usize) -> u64;
+
+    fn merelsplum_job_contour_part(file: *const u8, file_len: usize, contour: usize) -> u64;
+}
+
+pub(crate) fn edge_coloring_simple(o: &Flat, threshold: f64, seed: u64, out: &mut FlatResult) -> u64 {
+    // SAFETY: each pointer and length is a slice's, and those written are borrowed mutably.
+    unsafe {
+        merelsplum_edge_coloring_simple(
+            o.lengths.as_ptr(),
+            o.lengths.len(),
+            o.kinds.as_ptr(),
+            o.kinds.len(),
+            o.points.as_ptr(),
+            o.points.len(),
+            threshold,
+            seed,
+            out.lengths.as_mut_ptr(),
+            out.lengths.len(),
+            out.kinds.as_mut_ptr(),
+            out.kinds.len(),
+            out.points.as_mut_ptr(),
+            out.points.len(),
+            out.bytes.as_mut_ptr(),
+            out.bytes.len(),
+        )
+    }
+}
+
+pub(crate) fn edge_coloring_ink_trap(o: &Flat, threshold: f64, seed: u64, out: &mut FlatResult) -> u64 {
+    // SAFETY: as above.
+    unsafe {
+        merelsplum_edge_coloring_ink_trap(
+            o.lengths.as_ptr(),
+            o.lengths.len(),
+            o.kinds.as_ptr(),
+            o.kinds.len(),
+            o.points.as_ptr(),
+            o.points.len(),
+            threshold,
+            seed,
+            out.lengths.as_mut_ptr(),
+            out.lengths.len(),
+            out.kinds.as_mut_ptr(),
+            out.kinds.len(),
+            out.points.as_mut_ptr(),
+            out.points.len(),
+            out.bytes.as_mut_ptr(),
+            out.bytes.len(),
+        )
+    }
+}
+
+pub(crate) fn edge_coloring_by_distance(o: &Flat, threshold: f64, seed: u64, distances: &[f64], out: &mut FlatResult) -> u64 {
+    // SAFETY: as above.
+    unsafe {
+        merelsplum_edge_coloring_by_distance(
+            o.lengths.as_ptr(),
+            o.lengths.len(),
+            o.kinds.as_ptr(),
+            o.kinds.len(),
+            o.points.as_ptr(),
+            o.points.len(),
+            threshold,
+            seed,
+            distances.as_ptr(),
+            distances.len(),
+            out.lengths.as_mut_ptr(),
+            out.lengths.len(),
+            out.kinds.as_mut_ptr(),
+            out.kinds.len(),
+            out.points.as_mut_ptr(),
+            out.points.len(),
+            out.bytes.as_mut_ptr(),
+            out.bytes.len(),
+        )
+    }
+}
+
+pub(crate) fn collect_splines(o: &Flat, threshold: f64, out: &mut FlatResult) -> u64 {
+    // SAFETY: as above.
+    unsafe {
+        merelsplum_collect_splines(
+            o.lengths.as_ptr(),
+            o.lengths.len(),
+            o.kinds.as_ptr(),
+            o.kinds.len(),
+            o.points.as_ptr(),
+            o.points.len(),
+            threshold,
+            out.lengths.as_mut_ptr(),
+            out.lengths.len(),
+            out.kinds.as_mut_ptr(),
+            out.kinds.len(),
+            out.points.as_mut_ptr(),
+            out.points.len(),
+            out.bytes.as_mut_ptr(),
+            out.bytes.len(),
+        )
+    }
+}
+
+pub(crate) fn try_add_edge(colors: &mut [u8], pairs: &mut [u8], a: usize, b: usize) -> u64 {
+    // SAFETY: as above.
+    unsafe { merelsplum_try_add_edge(colors.as_mut_ptr(), colors.len(), pairs.as_mut_ptr(), pairs.len(), a, b) }
+}
+
+pub(crate) fn job_read(file: &[u8], job: &mut FlatJob) -> u64 {
+    let Flat { lengths, kinds, points } = &mut job.outline;
+    // SAFETY: as above.
+    unsafe {
+        merelsplum_job_read(
+            file.as_ptr(),
+            file.len(),
+            lengths.as_mut_ptr(),
+            lengths.len(),
+            kinds.as_mut_ptr(),
+            kinds.len(),
+            points.as_mut_ptr(),
+            points.len(),
+            job.distances.as_mut_ptr(),
+            job.distances.len(),
+            &mut job.numbers,
+        )
+    }
+}
+
+pub(crate) fn job_check(file: &[u8]) -> u64 {
+    // SAFETY: as above.
+    unsafe { merelsplum_job_check(file.as_ptr(), file.len()) }
+}
+
+pub(crate) fn job_color(file: &[u8], out: &mut FlatResult) -> u64 {
+    // SAFETY: as above.
+    unsafe {
+        merelsplum_job_color(
+            file.as_ptr(),
+            file.len(),
+            out.lengths.as_mut_ptr(),
+            out.lengths.len(),
+            out.kinds.as_mut_ptr(),
+            out.kinds.len(),
+            out.points.as_mut_ptr(),
+            out.points.len(),
+            out.bytes.as_mut_ptr(),
+            out.bytes.len(),
+        )
+    }
+}
+
+pub(crate) fn job_listing(file: &[u8], out: &mut [u8]) -> u64 {
+    // SAFETY: as above.
+    unsafe { merelsplum_job_listing(file.as_ptr(), file.len(), out.as_mut_ptr(), out.len()) }
+}
+
+pub(crate) fn job_contour_part(file: &[u8], contour: usize) -> u64 {
+    // SAFETY: as above.
+    unsafe { merelsplum_job_contour_part(file.as_ptr(), file.len(), contour) }
+}

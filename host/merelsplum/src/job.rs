@@ -1,0 +1,150 @@
+//! Job files: an outline with all that its colouring needs, in a few kilobytes (docs/FORMAT.md of the repository has the format).
+//!
+//! ```
+//! use merelsplum::{Outline, job::{self, Job, Strategy}};
+//!
+//! let outline = Outline::polygon(&[[0.0, 0.0], [1.0, 0.0], [1.0, 1.0], [0.0, 1.0]]);
+//! let job = Job { strategy: Strategy::Simple, seed: 0, threshold: 0.125, outline, distances: vec![] };
+//! let file = job.to_bytes();
+//! assert_eq!(file.len(), 159);
+//! assert_eq!(Job::read(&file)?, job);
+//! assert_eq!(job::check(&file)?, 4);
+//! assert_eq!(job::listing(&file), "0 0 L 5\n0 1 L 3\n0 2 L 6\n0 3 L 3\nedges 4\n");
+//! # Ok::<(), merelsplum::Refusal>(())
+//! ```
+
+use crate::coloring::{answer, colored, edge_coloring_by_distance, edge_coloring_ink_trap, edge_coloring_simple};
+use crate::ffi::{self, Flat, FlatJob, FlatResult};
+use crate::outline::{self, Colored, Outline};
+use crate::refusal::Refusal;
+
+const MAX_CONTOURS: usize = 64;
+const MAX_EDGES: usize = 256;
+const MAX_RESULT_EDGES: usize = 508;
+const MAX_DISTANCES: usize = 2016;
+const MAX_LISTING_BYTES: usize = 5598;
+
+/// How a job is coloured.
+#[derive(Clone, Copy, Debug, PartialEq, Eq, Hash)]
+pub enum Strategy {
+    /// By [`edge_coloring_simple`](crate::edge_coloring_simple).
+    Simple = 1,
+    /// By [`edge_coloring_ink_trap`](crate::edge_coloring_ink_trap).
+    InkTrap,
+    /// By [`edge_coloring_by_distance`](crate::edge_coloring_by_distance).
+    ByDistance,
+}
+
+/// What a job file holds.
+#[derive(Clone, Debug, PartialEq)]
+pub struct Job {
+    /// How it is coloured.
+    pub strategy: Strategy,
+    /// The seed of the colouring.
+    pub seed: u64,
+    /// The sine of the angle from which a turn is a corner.
+    pub threshold: f64,
+    /// The edges.
+    pub outline: Outline,
+    /// The distances of the splines, for [`Strategy::ByDistance`] only.
+    pub distances: Vec<f64>,
+}
+
+impl Job {
+    /// Reads a job file. How many splines there are, and whether the distances are as many as their pairs, is not looked at here:
+    /// [`check`] does that.
+    pub fn read(file: &[u8]) -> Result<Job, Refusal> {
+        let outline = Flat { lengths: vec![0; MAX_CONTOURS], kinds: vec![0; MAX_EDGES], points: vec![0.0; 8 * MAX_EDGES] };
+        let mut flat = FlatJob { outline, distances: vec![0.0; MAX_DISTANCES], numbers: [0; 6] };
+        answer(ffi::job_read(file, &mut flat))?;
+        let [strategy, seed, threshold, contours, _, distances] = flat.numbers;
+        let Flat { lengths, kinds, points } = flat.outline;
+        let lengths = lengths[..contours as usize].iter().map(|&length| length as usize);
+        let edges = outline::contours(lengths, &kinds, &points, |_| ());
+        let contours = edges.into_iter().map(|contour| contour.into_iter().map(|(edge, ())| edge).collect()).collect();
+        flat.distances.truncate(distances as usize);
+        Ok(Job {
+            strategy: match strategy {
+                1 => Strategy::Simple,
+                2 => Strategy::InkTrap,
+                _ => Strategy::ByDistance,
+            },
+            seed,
+            threshold: f64::from_bits(threshold),
+            outline: Outline { contours },
+            distances: flat.distances,
+        })
+    }
+
+    /// Colours the outline by the job's strategy.
+    pub fn color(&self) -> Result<Colored, Refusal> {
+        match self.strategy {
+            Strategy::Simple => edge_coloring_simple(&self.outline, self.threshold, self.seed),
+            Strategy::InkTrap => edge_coloring_ink_trap(&self.outline, self.threshold, self.seed),
+            Strategy::ByDistance => edge_coloring_by_distance(&self.outline, self.threshold, self.seed, &self.distances),
+        }
+    }
+
+    /// The job as a file. Nothing is looked at: a job that cannot be coloured gives a file that is refused. This writer is plain Rust and
+    /// not proved.
+    pub fn to_bytes(&self) -> Vec<u8> {
+        let mut file = b"JB".to_vec();
+        file.push(self.strategy as u8);
+        file.extend(self.seed.to_le_bytes());
+        file.extend(self.threshold.to_le_bytes());
+        for contour in &self.outline.contours {
+            file.extend(b"CT");
+            for edge in contour {
+                file.extend([b"LN", b"QD", b"CB"][edge.kind() as usize - 1]);
+                file.extend(edge.points().as_flattened().iter().flat_map(|x| x.to_le_bytes()));
+            }
+        }
+        if self.strategy == Strategy::ByDistance {
+            file.extend(b"DS");
+            file.extend(u16::try_from(self.distances.len()).unwrap_or(u16::MAX).to_le_bytes());
+            file.extend(self.distances.iter().flat_map(|x| x.to_le_bytes()));
+        }
+        file.extend(b"EN");
+        file
+    }
+}
+
+/// Whether a file is accepted: how many edges it has once coloured, or why it is refused.
+pub fn check(file: &[u8]) -> Result<usize, Refusal> {
+    answer(ffi::job_check(file)).map(|edges| edges as usize)
+}
+
+/// Reads and colours a file.
+pub fn color(file: &[u8]) -> Result<Colored, Refusal> {
+    let mut out = FlatResult::new(MAX_CONTOURS, MAX_RESULT_EDGES);
+    answer(ffi::job_color(file, &mut out))?;
+    Ok(colored(&out))
+}
+
+/// Reads and colours a file, and lists the result: a line for each edge with its contour, its place in it, its kind and its colour; last
+/// how many there are. A refused file gives one line, `refused` and the number.
+///
+/// ```
+/// assert_eq!(merelsplum::job::listing(b""), "refused 1\n");
+/// ```
+pub fn listing(file: &[u8]) -> String {
+    let mut out = vec![0; MAX_LISTING_BYTES];
+    let length = answer(ffi::job_listing(file, &mut out)).expect("every listing fits");
+    out.truncate(length as usize);
+    String::from_utf8(out).expect("a listing is ASCII")
+}
+
+/// The records of one contour (from 0), a part of the file; empty where the file is refused or has no such contour.
+///
+/// ```
+/// use merelsplum::job::contour_part;
+///
+/// let file = b"JB\x01\0\0\0\0\0\0\0\0\0\0\0\0\0\0\xc0\x3fCTCTEN";
+/// assert_eq!(contour_part(file, 1), b"CT");
+/// assert_eq!(contour_part(file, 2), b"");
+/// ```
+pub fn contour_part(file: &[u8], contour: usize) -> &[u8] {
+    let part = ffi::job_contour_part(file, contour);
+    let (start, length) = (part as u32 as usize, (part >> 32) as usize);
+    &file[start..start + length]
+}

@@ -1,0 +1,277 @@
+//! Random input, coloured through this crate and by the Rust of docs/src: the same, bit for bit, or the refusal that is due.
+
+use merelsplum::job::{self, Job};
+use merelsplum::{
+    Edge, Offer, Outline, Point, Refusal, SplineTable, collect_splines, edge_coloring_by_distance, edge_coloring_ink_trap,
+    edge_coloring_simple,
+};
+use oracle::geometry::{Contour, EdgeSegment, Shape};
+use oracle::given;
+use oracle::math::Vector2;
+use proptest::collection::vec;
+use proptest::prelude::*;
+
+// ---- input
+
+fn coordinate() -> impl Strategy<Value = f64> {
+    prop_oneof![
+        6 => (-3i32..=3).prop_map(f64::from),
+        3 => -1_048_576.0..=1_048_576.0,
+        1 => prop_oneof![Just(-0.0), Just(5e-324), Just(1e-180), Just(1_048_576.0)],
+    ]
+}
+
+fn point() -> impl Strategy<Value = Point> {
+    [coordinate(), coordinate()]
+}
+
+fn edge() -> impl Strategy<Value = Edge> {
+    prop_oneof![
+        [point(), point()].prop_map(Edge::Line),
+        [point(), point(), point()].prop_map(Edge::Quadratic),
+        [point(), point(), point(), point()].prop_map(Edge::Cubic),
+    ]
+}
+
+/// A walk that turns a little at most edges and far at few, so that contours of none, one and two corners come up too.
+fn walk() -> impl Strategy<Value = Vec<Edge>> {
+    let turn = prop_oneof![6 => Just(0.05f64), 1 => Just(2.0), 1 => Just(1.0)];
+    vec((turn, 1..=3u8, 1.0..9.0), 0..=7).prop_map(|steps| {
+        let (mut at, mut heading) = ([0.0, 0.0], 0.0f64);
+        let mut edges = Vec::new();
+        for (turn, kind, size) in steps {
+            heading += turn;
+            let along = |t: f64| [at[0] + t * size * heading.cos(), at[1] + t * size * heading.sin()];
+            edges.push(match kind {
+                1 => Edge::Line([at, along(1.0)]),
+                2 => Edge::Quadratic([at, along(0.5), along(1.0)]),
+                _ => Edge::Cubic([at, along(0.25), along(0.5), along(1.0)]),
+            });
+            at = along(1.0);
+        }
+        edges
+    })
+}
+
+fn outline() -> impl Strategy<Value = Outline> {
+    vec(prop_oneof![walk(), vec(edge(), 0..=5)], 0..=9).prop_map(Outline::from)
+}
+
+fn threshold() -> impl Strategy<Value = f64> {
+    prop_oneof![Just(0.125), Just(3f64.sin()), -1.0..=1.0]
+}
+
+fn distance() -> impl Strategy<Value = f64> {
+    prop_oneof![3 => Just(0.0), 3 => (1i32..4).prop_map(f64::from), 1 => Just(-0.0), 6 => 0.0..1e9]
+}
+
+/// Some of the first `n (n - 1) / 2` of these.
+fn for_pairs(n: usize, distances: &[f64]) -> Vec<f64> {
+    distances.iter().cycle().take(n * n.saturating_sub(1) / 2).copied().collect()
+}
+
+// ---- the source
+
+fn segment(edge: &Edge) -> EdgeSegment {
+    let v = |p: Point| Vector2::new(p[0], p[1]);
+    match *edge {
+        Edge::Line(p) => EdgeSegment::Line(p.map(v)),
+        Edge::Quadratic(p) => EdgeSegment::Quadratic(p.map(v)),
+        Edge::Cubic(p) => EdgeSegment::Cubic(p.map(v)),
+    }
+}
+
+fn shape(outline: &Outline) -> Shape {
+    let mut shape = Shape::new();
+    for edges in &outline.contours {
+        let mut contour = Contour::new();
+        edges.iter().for_each(|edge| contour.add_edge(segment(edge)));
+        shape.add_contour(contour);
+    }
+    shape
+}
+
+/// Edges as bits, so that a zero's sign counts, and each with its value.
+type Bits<T> = Vec<Vec<(Vec<u64>, T)>>;
+
+fn bits<T: Copy, V>(contours: &[Vec<(Edge, T)>], value: impl Fn(T) -> V) -> Bits<V> {
+    let edge = |edge: &Edge| edge.points().as_flattened().iter().map(|x| x.to_bits()).collect();
+    contours.iter().map(|c| c.iter().map(|(e, x)| (edge(e), value(*x))).collect()).collect()
+}
+
+fn source_edge(edge: &EdgeSegment) -> Vec<u64> {
+    let (points, order) = edge.control_points();
+    points[..=order].iter().flat_map(|p| [p.x.to_bits(), p.y.to_bits()]).collect()
+}
+
+fn source_bits(shape: &Shape) -> Bits<u8> {
+    let contour = |c: &Contour| c.segments.iter().map(source_edge).zip(c.colors.iter().map(|color| color.bits())).collect();
+    shape.contours.iter().map(contour).collect()
+}
+
+/// The source's collecting pass: how many splines, and each edge with its spline's number.
+fn source_splines(outline: &Outline, threshold: f64) -> (usize, Bits<Option<u8>>) {
+    let mut shape = shape(outline);
+    let (places, starts) = given::by_distance_collected::collect_splines(&mut shape, threshold);
+    let mut edges: Bits<Option<u8>> =
+        shape.contours.iter().map(|c| c.segments.iter().map(|e| (source_edge(e), None)).collect()).collect();
+    for (at, &(contour, place)) in places.iter().enumerate() {
+        let spline = starts.iter().rposition(|&start| start <= at).unwrap();
+        edges[contour][place].1 = Some(spline as u8);
+    }
+    (starts.len() - 1, edges)
+}
+
+proptest! {
+    #![proptest_config(ProptestConfig { cases: 2000, failure_persistence: None, ..ProptestConfig::default() })]
+
+    #[test]
+    fn simple(outline in outline(), threshold in threshold(), seed: u64) {
+        let mut source = shape(&outline);
+        given::edge_coloring_simple(&mut source, threshold, seed);
+        let colored = edge_coloring_simple(&outline, threshold, seed).unwrap();
+        prop_assert_eq!(bits(&colored.contours, |c| c.bits()), source_bits(&source));
+    }
+
+    #[test]
+    fn ink_trap(outline in outline(), threshold in threshold(), seed: u64) {
+        let mut source = shape(&outline);
+        given::edge_coloring_ink_trap(&mut source, threshold, seed);
+        let colored = edge_coloring_ink_trap(&outline, threshold, seed).unwrap();
+        prop_assert_eq!(bits(&colored.contours, |c| c.bits()), source_bits(&source));
+    }
+
+    #[test]
+    fn by_distance(outline in outline(), threshold in threshold(), seed: u64, distances in vec(distance(), 1..50)) {
+        let (splines, edges) = source_splines(&outline, threshold);
+        prop_assume!(splines <= 64);
+        let collected = collect_splines(&outline, threshold).unwrap();
+        prop_assert_eq!(collected.splines, splines);
+        prop_assert_eq!(bits(&collected.contours, |spline| spline), edges);
+
+        let distances = for_pairs(splines, &distances);
+        let mut source = shape(&outline);
+        given::by_distance_given::edge_coloring_by_distance_given(&mut source, threshold, seed, &distances);
+        let colored = edge_coloring_by_distance(&outline, threshold, seed, &distances).unwrap();
+        prop_assert_eq!(bits(&colored.contours, |c| c.bits()), source_bits(&source));
+    }
+
+    /// Outlines about the limits: the first refusal that applies, or a colouring.
+    #[test]
+    fn refusals(
+        lengths in vec(0usize..=9, 0..=80),
+        bad in prop_oneof![Just(None), Just(Some(f64::NAN)), Just(Some(1_048_576.0f64.next_up())), Just(Some(f64::INFINITY))],
+        threshold in prop_oneof![3 => Just(0.5), 1 => Just(1.5), 1 => Just(f64::NAN)],
+    ) {
+        let line = |i: usize| Edge::Line([[i as f64, 0.0], [0.0, 1.0]]);
+        let mut outline = Outline { contours: lengths.iter().map(|&n| (0..n).map(line).collect()).collect() };
+        let edges = outline.edge_count();
+        let mut bad_coordinate = false;
+        if let (Some(x), Some(contour)) = (bad, outline.contours.iter_mut().rfind(|c| !c.is_empty())) {
+            *contour.last_mut().unwrap() = Edge::Line([[0.0, 0.0], [0.0, x]]);
+            bad_coordinate = true;
+        }
+        let answer = edge_coloring_simple(&outline, threshold, 0);
+        if lengths.len() > 64 || edges > 256 {
+            prop_assert_eq!(answer, Err(Refusal::TooMany));
+        } else if bad_coordinate {
+            prop_assert_eq!(answer, Err(Refusal::BadCoordinate));
+        } else if threshold != 0.5 {
+            prop_assert_eq!(answer, Err(Refusal::BadThreshold));
+        } else {
+            prop_assert!(answer.unwrap().edge_count() >= edges);
+        }
+    }
+
+    #[test]
+    fn distances_refused(outline in outline(), more in 0usize..3, bad in prop_oneof![Just(-1.0), Just(f64::NAN), Just(f64::INFINITY)]) {
+        let splines = collect_splines(&outline, 0.125).map(|c| c.splines);
+        prop_assume!(splines.is_ok_and(|n| n > 1));
+        let mut distances = for_pairs(splines.unwrap(), &[1.0]);
+        let last = distances.len() - 1;
+        distances[last] = bad;
+        prop_assert_eq!(edge_coloring_by_distance(&outline, 0.125, 0, &distances), Err(Refusal::BadDistance));
+        distances.extend(vec![1.0; more + 1]);
+        let too_many = distances.len() > 2016;
+        let expected = if too_many { Refusal::TooMany } else { Refusal::LengthMismatch };
+        prop_assert_eq!(edge_coloring_by_distance(&outline, 0.125, 0, &distances), Err(expected));
+    }
+
+    /// A list of offers to one table, from pairs that are drawn.
+    #[test]
+    fn offers(colors in vec(0u8..3, 2..=24), pairs in vec((0usize..24, 0usize..24), 0..300)) {
+        let n = colors.len();
+        let mut table = SplineTable::new(&colors);
+        let mut coloring: Vec<i32> = colors.iter().map(|&c| c.into()).collect();
+        let mut matrix = vec![0i32; n * n];
+        for (a, b) in pairs {
+            let before = table.clone();
+            let answer = table.offer(a, b);
+            if a >= n || b >= n || a == b {
+                prop_assert_eq!(answer, Err(Refusal::BadTable));
+                prop_assert_eq!(&table, &before);
+                continue;
+            }
+            let steps = given::by_distance_counted::offer(&mut coloring, &mut matrix, n, a, b) as u8;
+            let kept = matrix[a * n + b] != 0;
+            prop_assert_eq!(answer, Ok(if kept { Offer::Kept { steps } } else { Offer::Declined { steps } }));
+            prop_assert_eq!(table.is_kept(b, a), kept);
+            prop_assert!(table.colors().iter().map(|&c| c as i32).eq(coloring.iter().copied()));
+            prop_assert!(table.pairs().iter().map(|&e| e as i32).eq(matrix.iter().copied()));
+        }
+    }
+
+    /// A job is read as it was written, and coloured as its outline is.
+    #[test]
+    fn jobs(outline in outline(), threshold in threshold(), seed: u64, strategy in 0..3usize, distances in vec(distance(), 1..50)) {
+        let strategy = [job::Strategy::Simple, job::Strategy::InkTrap, job::Strategy::ByDistance][strategy];
+        let by_distance = strategy == job::Strategy::ByDistance;
+        let splines = collect_splines(&outline, threshold).map_or(0, |c| c.splines);
+        let distances = if by_distance { for_pairs(splines, &distances) } else { vec![] };
+        let job = Job { strategy, seed, threshold, outline, distances };
+        let file = job.to_bytes();
+        prop_assert_eq!(&Job::read(&file).unwrap(), &job);
+
+        let colored = job.color();
+        prop_assert_eq!(&job::color(&file), &colored);
+        prop_assert_eq!(job::check(&file), colored.as_ref().map(|c| c.edge_count()).map_err(|&refusal| refusal));
+        prop_assert_eq!(job::listing(&file), listing(&colored));
+
+        let parts: Vec<u8> = (0..=job.outline.contours.len()).flat_map(|n| job::contour_part(&file, n)).copied().collect();
+        let after = 2 + if by_distance { 4 + 8 * job.distances.len() } else { 0 };
+        let expected = if colored.is_ok() { &file[19..file.len() - after] } else { &[] };
+        prop_assert_eq!(parts, expected);
+    }
+
+    /// A file that is cut short or has a byte changed is answered alike by all entries.
+    #[test]
+    fn damaged_jobs(outline in outline(), at in any::<prop::sample::Index>(), byte: Option<u8>) {
+        let job = Job { strategy: job::Strategy::Simple, seed: 0, threshold: 0.125, outline, distances: vec![] };
+        let mut file = job.to_bytes();
+        let at = at.index(file.len());
+        match byte {
+            Some(byte) => file[at] = byte,
+            None => file.truncate(at),
+        }
+        let colored = job::color(&file);
+        prop_assert!(byte.is_some() || colored.is_err());
+        prop_assert_eq!(job::check(&file), colored.as_ref().map(|c| c.edge_count()).map_err(|&refusal| refusal));
+        prop_assert_eq!(job::listing(&file), listing(&colored));
+    }
+}
+
+/// The text of docs/FORMAT.md.
+fn listing(colored: &Result<merelsplum::Colored, Refusal>) -> String {
+    let colored = match colored {
+        Ok(colored) => colored,
+        Err(refusal) => return format!("refused {}\n", refusal.number()),
+    };
+    let mut lines = String::new();
+    for (contour, edges) in colored.contours.iter().enumerate() {
+        for (place, (edge, color)) in edges.iter().enumerate() {
+            let kind = ["L", "Q", "C"][edge.points().len() - 2];
+            lines += &format!("{contour} {place} {kind} {}\n", color.bits());
+        }
+    }
+    lines + &format!("edges {}\n", colored.edge_count())
+}
