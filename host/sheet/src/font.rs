@@ -1,0 +1,200 @@
+//! A font's glyphs, their outlines read by ttf-parser.
+
+use crate::source::{Bounds, Contour, EdgeSegment, Shape, SignedDistance, Vector2};
+use std::fmt;
+use ttf_parser::{Face, GlyphId, OutlineBuilder};
+
+/// What a glyph is called: by its character, or by its place in the font.
+#[derive(Clone, Copy, Debug, PartialEq, Eq)]
+pub enum Name {
+    Character(char),
+    Index(u16),
+}
+
+impl fmt::Display for Name {
+    fn fmt(&self, f: &mut fmt::Formatter) -> fmt::Result {
+        match self {
+            Name::Character(c) => write!(f, "U+{:04X}", *c as u32),
+            Name::Index(index) => write!(f, "glyph{index:05}"),
+        }
+    }
+}
+
+/// A glyph, in units of the font.
+pub struct Glyph {
+    pub name: Name,
+    pub advance: f64,
+    pub shape: Shape,
+}
+
+/// Lengths that belong to the font as a whole, in ems.
+pub struct Metrics {
+    pub line_height: f64,
+    pub ascender: f64,
+    pub descender: f64,
+    pub underline_y: f64,
+    pub underline_thickness: f64,
+}
+
+pub struct Font<'a> {
+    face: Face<'a>,
+}
+
+impl<'a> Font<'a> {
+    pub fn new(file: &'a [u8]) -> Result<Font<'a>, String> {
+        let face = Face::from_slice(file, 0).map_err(|error| format!("not a font ({error})"))?;
+        Ok(Font { face })
+    }
+
+    pub fn units_per_em(&self) -> f64 {
+        self.face.units_per_em().into()
+    }
+
+    /// The names of all glyphs, by place.
+    pub fn all(&self) -> Vec<Name> {
+        (0..self.face.number_of_glyphs()).map(Name::Index).collect()
+    }
+
+    pub fn has(&self, name: Name) -> bool {
+        self.id(name).is_some()
+    }
+
+    fn id(&self, name: Name) -> Option<GlyphId> {
+        match name {
+            Name::Character(c) => self.face.glyph_index(c),
+            Name::Index(index) => Some(GlyphId(index)).filter(|id| id.0 < self.face.number_of_glyphs()),
+        }
+    }
+
+    /// A glyph's outline; none where it has no glyph, and empty where it has nothing to draw.
+    pub fn glyph(&self, name: Name) -> Option<Glyph> {
+        let id = self.id(name)?;
+        let mut pen = Pen::default();
+        self.face.outline_glyph(id, &mut pen);
+        let mut shape = pen.shape;
+        orient(&mut shape);
+        Some(Glyph { name, advance: self.face.glyph_hor_advance(id).unwrap_or(0).into(), shape })
+    }
+
+    pub fn metrics(&self) -> Metrics {
+        let face = &self.face;
+        let em = |units: i32| f64::from(units) / self.units_per_em();
+        let (ascender, descender, gap) = (face.ascender().into(), face.descender().into(), i32::from(face.line_gap()));
+        let underline = face.underline_metrics().map_or((0, 0), |line| (line.position.into(), line.thickness.into()));
+        Metrics {
+            line_height: em(ascender - descender + gap),
+            ascender: em(ascender),
+            descender: em(descender),
+            underline_y: em(underline.0 - underline.1 / 2),
+            underline_thickness: em(underline.1),
+        }
+    }
+
+    /// How much nearer the second glyph goes to the first, in units; 0 mostly.
+    pub fn kerning(&self, left: Name, right: Name) -> f64 {
+        let (Some(kern), Some(left), Some(right)) = (self.face.tables().kern, self.id(left), self.id(right)) else {
+            return 0.0;
+        };
+        let plain =
+            kern.subtables.into_iter().filter(|t| t.horizontal && !t.variable && !t.has_state_machine && !t.has_cross_stream);
+        plain.filter_map(|table| table.glyphs_kerning(left, right)).map(f64::from).sum()
+    }
+}
+
+/// Collects the contours that a font draws. Edges of no length are dropped, and curves that are lines become lines.
+#[derive(Default)]
+struct Pen {
+    shape: Shape,
+    start: Vector2,
+    at: Vector2,
+}
+
+impl Pen {
+    fn add(&mut self, edge: EdgeSegment, end: Vector2) {
+        if end != self.at {
+            self.shape.contours.last_mut().expect("a font moves before it draws").add_edge(edge);
+            self.at = end;
+        }
+    }
+}
+
+fn v(x: f32, y: f32) -> Vector2 {
+    Vector2::new(x.into(), y.into())
+}
+
+impl OutlineBuilder for Pen {
+    fn move_to(&mut self, x: f32, y: f32) {
+        self.shape.add_contour(Contour::new());
+        self.start = v(x, y);
+        self.at = self.start;
+    }
+
+    fn line_to(&mut self, x: f32, y: f32) {
+        self.add(EdgeSegment::line(self.at, v(x, y)), v(x, y));
+    }
+
+    fn quad_to(&mut self, x1: f32, y1: f32, x: f32, y: f32) {
+        self.add(EdgeSegment::quadratic(self.at, v(x1, y1), v(x, y)), v(x, y));
+    }
+
+    fn curve_to(&mut self, x1: f32, y1: f32, x2: f32, y2: f32, x: f32, y: f32) {
+        self.add(EdgeSegment::cubic(self.at, v(x1, y1), v(x2, y2), v(x, y)), v(x, y));
+    }
+
+    fn close(&mut self) {
+        self.add(EdgeSegment::line(self.at, self.start), self.start);
+        if self.shape.contours.last().is_some_and(Contour::is_empty) {
+            self.shape.contours.pop();
+        }
+    }
+}
+
+/// Turns every contour round where the outside would count as inside: fonts draw either way.
+fn orient(shape: &mut Shape) {
+    if shape.contours.is_empty() {
+        return;
+    }
+    let Bounds { l, b, r, t } = shape.get_bounds(0.0);
+    let outside = Vector2::new(l - (r - l) - 1.0, b - (t - b) - 1.0);
+    let mut nearest = SignedDistance::default();
+    for edge in shape.contours.iter().flat_map(|contour| &contour.segments) {
+        let (distance, _) = edge.signed_distance(outside);
+        if distance.is_closer_than(nearest) {
+            nearest = distance;
+        }
+    }
+    if nearest.distance > 0.0 {
+        shape.contours.iter_mut().for_each(Contour::reverse);
+    }
+}
+
+#[cfg(test)]
+mod tests {
+    use super::*;
+
+    #[test]
+    fn either_way_round() {
+        let mut pen = Pen::default();
+        pen.move_to(0.0, 0.0);
+        pen.line_to(0.0, 2.0);
+        pen.line_to(0.0, 2.0);
+        pen.quad_to(1.0, 2.0, 2.0, 2.0);
+        pen.line_to(2.0, 0.0);
+        pen.close();
+        pen.move_to(5.0, 5.0);
+        pen.close();
+        let clockwise = pen.shape;
+        assert_eq!(clockwise.contours.len(), 1, "empty contours are dropped");
+        assert!(
+            clockwise.contours[0].segments.iter().all(|edge| matches!(edge, EdgeSegment::Line(_))),
+            "a straight curve is a line"
+        );
+        assert_eq!(clockwise.edge_count(), 4, "an edge of no length is dropped, and the contour closed");
+        let mut other = clockwise.clone();
+        other.contours[0].reverse();
+        for mut shape in [clockwise.clone(), other] {
+            orient(&mut shape);
+            assert_eq!(shape.contours[0].segments, clockwise.contours[0].segments);
+        }
+    }
+}

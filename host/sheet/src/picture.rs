@@ -1,0 +1,183 @@
+//! Pictures: the sheet itself, its glyphs drawn back from it, and the coloured outlines.
+
+use crate::frame::Frame;
+use crate::sheet::{Image, Sheet};
+use crate::source::{EdgeSegment, Vector2, dot, median, segment};
+use merelsplum::{Colored, EdgeColor};
+use rayon::prelude::*;
+use std::io::{self, Write};
+
+/// How much larger than the sheet the other two pictures are.
+pub const ZOOM: usize = 8;
+
+pub const PAPER: [u8; 3] = [24, 24, 28];
+pub const INK: [u8; 3] = [60, 60, 68];
+
+/// Half the width of a drawn outline, in pixels.
+const PEN: f64 = 1.6;
+
+/// Writes a picture that comes in bands from the top.
+fn write_png(
+    out: impl Write,
+    (width, height): (usize, usize),
+    color: png::ColorType,
+    bands: impl Iterator<Item = Vec<u8>>,
+) -> io::Result<()> {
+    let mut encoder = png::Encoder::new(out, width as u32, height as u32);
+    encoder.set_color(color);
+    encoder.set_depth(png::BitDepth::Eight);
+    let mut writer = encoder.write_header()?;
+    let mut stream = writer.stream_writer()?;
+    for band in bands {
+        stream.write_all(&band)?;
+    }
+    Ok(stream.finish()?)
+}
+
+pub fn write_rgb(out: impl Write, size: (usize, usize), pixels: &[[u8; 3]]) -> io::Result<()> {
+    write_png(out, size, png::ColorType::Rgb, pixels.chunks(size.0).map(|row| row.concat()))
+}
+
+pub fn write_sheet(out: impl Write, image: &Image) -> io::Result<()> {
+    write_rgb(out, (image.side, image.side), &image.pixels)
+}
+
+impl Image {
+    /// The channels at a place in pixels, from 0 to 1, linear between the middles of the pixels.
+    fn sample(&self, x: f64, y: f64) -> [f64; 3] {
+        let last = (self.side - 1) as f64;
+        let (x, y) = ((x - 0.5).clamp(0.0, last), (y - 0.5).clamp(0.0, last));
+        let at = |x: f64, y: f64| self.pixels[y as usize * self.side + x as usize];
+        let [left, right, top, bottom] = [x.floor(), x.ceil(), y.floor(), y.ceil()];
+        let mix = |a: f64, b: f64, t: f64| a + (b - a) * t;
+        let across = |y: f64, i: usize| mix(at(left, y)[i].into(), at(right, y)[i].into(), x - left);
+        [0, 1, 2].map(|i| mix(across(top, i), across(bottom, i), y - top) / 255.0)
+    }
+
+    /// How much of a pixel is inside, drawn back with `zoom` pixels for one of the sheet's.
+    pub fn coverage(&self, x: f64, y: f64, pxrange: f64, zoom: f64) -> f64 {
+        let [red, green, blue] = self.sample(x, y);
+        ((median(red, green, blue) - 0.5) * pxrange * zoom + 0.5).clamp(0.0, 1.0)
+    }
+}
+
+/// The glyphs drawn back from the sheet, black on white.
+pub fn write_test_render(out: impl Write, sheet: &Sheet) -> io::Result<()> {
+    let side = ZOOM * sheet.image.side;
+    let at = |i: usize| (i as f64 + 0.5) / ZOOM as f64;
+    let row = |y: usize| (0..side).map(move |x| sheet.image.coverage(at(x), at(y), sheet.pxrange, ZOOM as f64));
+    let bands = (0..sheet.image.side).map(|y| {
+        let rows = (ZOOM * y..ZOOM * (y + 1)).into_par_iter();
+        rows.flat_map_iter(|y| row(y).map(|inside| (255.0 * (1.0 - inside)).round() as u8)).collect()
+    });
+    write_png(out, (side, side), png::ColorType::Grayscale, bands)
+}
+
+/// The coloured outlines, each where its glyph is in the test render.
+pub fn write_outlines(out: impl Write, sheet: &Sheet) -> io::Result<()> {
+    let side = sheet.image.side;
+    // cells begin at the tops of rows, so that the picture can be drawn row by row
+    let mut tops: Vec<usize> = sheet.cells.iter().map(|cell| cell.y).chain([0, side]).collect();
+    tops.sort_unstable();
+    tops.dedup();
+    let bands = tops.windows(2).map(|rows| {
+        let mut canvas = Canvas::new(ZOOM * side, ZOOM * (rows[1] - rows[0]));
+        for cell in sheet.cells.iter().filter(|cell| cell.y == rows[0]) {
+            canvas.outline(&cell.colored, &cell.frame, ZOOM as f64, (ZOOM * cell.x) as f64, 0.0);
+        }
+        canvas.pixels.concat()
+    });
+    write_png(out, (ZOOM * side, ZOOM * side), png::ColorType::Rgb, bands)
+}
+
+/// A picture to draw on, by rows from the top.
+pub struct Canvas {
+    pub width: usize,
+    pub pixels: Vec<[u8; 3]>,
+    /// How much of each pixel a line covers.
+    covered: Vec<f64>,
+}
+
+impl Canvas {
+    pub fn new(width: usize, height: usize) -> Canvas {
+        Canvas { width, pixels: vec![PAPER; width * height], covered: vec![0.0; width * height] }
+    }
+
+    pub fn height(&self) -> usize {
+        self.pixels.len() / self.width
+    }
+
+    /// Draws a glyph with `zoom` pixels for one of its frame, the frame's top left corner at (x, y): its inside, then its edges.
+    pub fn outline(&mut self, colored: &Colored, frame: &Frame, zoom: f64, x: f64, y: f64) {
+        let top = frame.height as f64;
+        let place = |point: Vector2| {
+            let Vector2 { x: along, y: up } = frame.place(point);
+            Vector2::new(x + zoom * along, y + zoom * (top - up))
+        };
+        let (edges, colors): (Vec<_>, Vec<_>) = colored.contours.iter().flatten().map(|(e, c)| (segment(e), rgb(*c))).unzip();
+        for row in y as usize..((y + zoom * top) as usize).min(self.height()) {
+            let up = top - (row as f64 + 0.5 - y) / zoom;
+            for (from, to) in inside(&edges, frame.point(0.0, up).y) {
+                let [from, to] = [from, to].map(|along| place(Vector2::new(along, 0.0)).x.round() as usize);
+                self.pixels[row * self.width..][from..to].fill(INK);
+            }
+        }
+        for (edge, color) in edges.into_iter().zip(colors) {
+            let pieces = if matches!(edge, EdgeSegment::Line(_)) { 1 } else { 24 };
+            let point = |i: usize| place(edge.point(i as f64 / pieces as f64));
+            (0..pieces).for_each(|i| self.line(point(i), point(i + 1), color));
+        }
+    }
+
+    fn line(&mut self, a: Vector2, b: Vector2, color: [u8; 3]) {
+        let reach = PEN + 1.0;
+        let pixel = |x: f64, limit: usize| (x.max(0.0) as usize).min(limit);
+        let columns = pixel(a.x.min(b.x) - reach, self.width)..pixel(a.x.max(b.x) + reach, self.width);
+        for row in pixel(a.y.min(b.y) - reach, self.height())..pixel(a.y.max(b.y) + reach, self.height()) {
+            for column in columns.clone() {
+                let way = Vector2::new(column as f64 + 0.5, row as f64 + 0.5) - a;
+                let t = (dot(way, b - a) / dot(b - a, b - a)).clamp(0.0, 1.0);
+                let covered = (PEN + 0.5 - (way - (b - a) * t).length()).clamp(0.0, 1.0);
+                self.blend(column, row, color, covered);
+            }
+        }
+    }
+
+    /// Lays a line's color over a pixel that no line covers more.
+    fn blend(&mut self, column: usize, row: usize, color: [u8; 3], covered: f64) {
+        let at = row * self.width + column;
+        if covered > self.covered[at] {
+            self.pixels[at] = mix(self.pixels[at], color, covered);
+            self.covered[at] = covered;
+        }
+    }
+}
+
+pub fn mix(a: [u8; 3], b: [u8; 3], t: f64) -> [u8; 3] {
+    [0, 1, 2].map(|i| (f64::from(a[i]) * (1.0 - t) + f64::from(b[i]) * t).round() as u8)
+}
+
+/// A colour to look at: its channels full.
+pub fn rgb(color: EdgeColor) -> [u8; 3] {
+    [0, 1, 2].map(|channel| if color.has_channel(channel) { 255 } else { 0 })
+}
+
+/// The stretches of the line at height y that are inside, by winding.
+pub fn inside(edges: &[EdgeSegment], y: f64) -> Vec<(f64, f64)> {
+    let mut crossings = Vec::new();
+    for edge in edges {
+        let mut found = [(0.0, 0); 3];
+        let count = edge.scanline_intersections(y, &mut found);
+        crossings.extend_from_slice(&found[..count]);
+    }
+    crossings.sort_by(|a, b| a.0.total_cmp(&b.0));
+    let mut winding = 0;
+    let mut stretches = Vec::new();
+    for pair in crossings.windows(2) {
+        winding += pair[0].1;
+        if winding != 0 {
+            stretches.push((pair[0].0, pair[1].0));
+        }
+    }
+    stretches
+}
