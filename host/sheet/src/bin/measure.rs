@@ -1,9 +1,10 @@
 //! Colours all glyphs of a font through the library and by the Rust of docs/src, and prints both times as a table of Markdown:
 //! `measure FONT`. Both sides colour the glyphs that the library accepts; a time is the best of some runs, by turns.
 
-use merelsplum::job::Strategy;
+use merelsplum::job::{Job, Strategy};
 use merelsplum::{Colored, EdgeColor, Refusal, collect_splines, edge_coloring_by_distance};
 use oracle::coloring;
+use oracle::given::by_distance_given::edge_coloring_by_distance_given;
 use sheet::font::{Font, Name};
 use sheet::sheet::job;
 use sheet::source::{self, Shape, spline_distances};
@@ -24,7 +25,7 @@ fn main() -> Result<(), String> {
     let edges: usize = glyphs.iter().map(|glyph| glyph.1.edge_count()).sum();
     println!("{} glyphs, {edges} edges, angle {ANGLE}, seed {SEED}, the best of {RUNS} runs\n", glyphs.len());
     println!(
-        "| Strategy | Library | docs/src | Library / docs/src | Glyphs coloured | Edges coloured | Colours that differ | Refused |"
+        "| Strategy | Library | docs/src | Library / docs/src | Glyphs coloured | Edges coloured | Edges that differ | Glyphs refused |"
     );
     println!("|---|---|---|---|---|---|---|---|");
     let mut refused = BTreeMap::new();
@@ -40,74 +41,66 @@ fn main() -> Result<(), String> {
     Ok(())
 }
 
-/// The least time of both, each over all glyphs.
-fn race(mut a: impl FnMut() -> Duration, mut b: impl FnMut() -> Duration) -> (Duration, Duration) {
-    (0..RUNS).map(|_| (a(), b())).fold((Duration::MAX, Duration::MAX), |best, run| (best.0.min(run.0), best.1.min(run.1)))
-}
-
-fn timed(work: impl FnOnce()) -> Duration {
-    let start = Instant::now();
-    work();
-    start.elapsed()
-}
-
-/// Prints a strategy's line; the glyphs that were refused.
+/// Prints a strategy's lines; the glyphs that were refused.
 fn measure(strategy: Strategy, glyphs: &[(Name, Shape)]) -> Vec<(String, String)> {
     let mut refused = Vec::new();
-    let mut shapes = Vec::new();
-    let mut jobs = Vec::new();
+    let mut accepted = Vec::new();
     for (name, shape) in glyphs {
-        match job(source::outline(shape), strategy, ANGLE.sin(), SEED).and_then(|job| job.color().map(|colored| (job, colored))) {
-            Ok(accepted) => {
-                jobs.push(accepted);
-                shapes.push(shape.clone());
-            }
+        let job = job(source::outline(shape), strategy, ANGLE.sin(), SEED);
+        match job.and_then(|job| job.color().map(|_| job)) {
+            Ok(job) => accepted.push((job, shape.clone())),
             Err(refusal) => refused.push((name.to_string(), reason(refusal, shape))),
         }
     }
-
-    let library = || {
-        timed(|| {
-            for (job, _) in &jobs {
-                black_box(match strategy {
-                    Strategy::ByDistance => {
-                        let collected = collect_splines(&job.outline, job.threshold).unwrap();
-                        edge_coloring_by_distance(&job.outline, job.threshold, job.seed, &spline_distances(&collected))
-                    }
-                    Strategy::Simple | Strategy::InkTrap => job.color(),
-                })
-                .unwrap();
-            }
-        })
-    };
-    let source = || {
-        let mut shapes = shapes.clone();
-        timed(|| shapes.iter_mut().for_each(|shape| color(strategy, black_box(shape))))
-    };
-    let (library, source) = race(library, source);
-
-    let (mut edges, mut differ) = (0, 0);
-    for (shape, (_, colored)) in shapes.iter_mut().zip(&jobs) {
-        color(strategy, shape);
-        edges += colored.edge_count();
-        differ += differences(shape, colored);
-    }
-    let (library, source) = (library.as_secs_f64() * 1e3, source.as_secs_f64() * 1e3);
-    let (accepted, refusals, ratio) = (jobs.len(), refused.len(), library / source);
-    println!("| {strategy:?} | {library:.1} ms | {source:.1} ms | {ratio:.2} | {accepted} | {edges} | {differ} | {refusals} |");
-    if strategy == Strategy::ByDistance {
-        let distances = || {
-            let collected: Vec<_> = jobs.iter().map(|(job, _)| collect_splines(&job.outline, job.threshold).unwrap()).collect();
-            timed(|| collected.iter().for_each(|collected| drop(black_box(spline_distances(collected)))))
-        };
-        let rest = || timed(|| jobs.iter().for_each(|(job, _)| drop(black_box(job.color()))));
-        let (distances, rest) = race(distances, rest);
-        let (distances, rest) = (distances.as_secs_f64() * 1e3, rest.as_secs_f64() * 1e3);
-        println!(
-            "\nBy distance, measuring the distances takes {distances:.1} ms, by the code of docs/src on both sides; the colouring {rest:.1} ms."
-        );
+    let colored = |job: &Job| job.color().expect("it was accepted");
+    let refusals = refused.len();
+    match strategy {
+        Strategy::Simple => {
+            race("simple", &accepted, refusals, colored, |shape, _| coloring::edge_coloring_simple(shape, ANGLE, SEED));
+        }
+        Strategy::InkTrap => {
+            race("ink trap", &accepted, refusals, colored, |shape, _| coloring::edge_coloring_ink_trap(shape, ANGLE, SEED));
+        }
+        Strategy::ByDistance => {
+            let measured = |job: &Job| {
+                let distances = spline_distances(&collect_splines(&job.outline, job.threshold).expect("it was accepted"));
+                edge_coloring_by_distance(&job.outline, job.threshold, job.seed, &distances).expect("it was accepted")
+            };
+            race("by distance", &accepted, refusals, measured, |shape, _| {
+                coloring::edge_coloring_by_distance(shape, ANGLE, SEED)
+            });
+            race("by distance, the distances given", &accepted, refusals, colored, |shape, job| {
+                edge_coloring_by_distance_given(shape, job.threshold, job.seed, &job.distances);
+            });
+        }
     }
     refused
+}
+
+/// Times both sides over all jobs, compares what they give, and prints the line.
+fn race(
+    name: &str,
+    accepted: &[(Job, Shape)],
+    refusals: usize,
+    library: impl Fn(&Job) -> Colored,
+    source: impl Fn(&mut Shape, &Job),
+) {
+    let mut best = [Duration::MAX; 2];
+    let (mut edges, mut differ) = (0, 0);
+    for _ in 0..RUNS {
+        let start = Instant::now();
+        let colored: Vec<Colored> = accepted.iter().map(|(job, _)| black_box(library(job))).collect();
+        best[0] = best[0].min(start.elapsed());
+        let mut shapes: Vec<Shape> = accepted.iter().map(|accepted| accepted.1.clone()).collect();
+        let start = Instant::now();
+        shapes.iter_mut().zip(accepted).for_each(|(shape, (job, _))| source(black_box(shape), job));
+        best[1] = best[1].min(start.elapsed());
+        edges = colored.iter().map(Colored::edge_count).sum();
+        differ = shapes.iter().zip(&colored).map(|(shape, colored)| differences(shape, colored)).sum::<usize>();
+    }
+    let [library, source] = best.map(|time| time.as_secs_f64() * 1e3);
+    let (glyphs, ratio) = (accepted.len(), library / source);
+    println!("| {name} | {library:.1} ms | {source:.1} ms | {ratio:.2} | {glyphs} | {edges} | {differ} | {refusals} |");
 }
 
 fn reason(refusal: Refusal, shape: &Shape) -> String {
@@ -117,15 +110,6 @@ fn reason(refusal: Refusal, shape: &Shape) -> String {
         Refusal::TooMany if edges > 256 => format!("{edges} edges"),
         Refusal::TooMany => "more than 64 splines".to_owned(),
         _ => refusal.to_string(),
-    }
-}
-
-/// The colouring of docs/src, as it is.
-fn color(strategy: Strategy, shape: &mut Shape) {
-    match strategy {
-        Strategy::Simple => coloring::edge_coloring_simple(shape, ANGLE, SEED),
-        Strategy::InkTrap => coloring::edge_coloring_ink_trap(shape, ANGLE, SEED),
-        Strategy::ByDistance => coloring::edge_coloring_by_distance(shape, ANGLE, SEED),
     }
 }
 
