@@ -38,7 +38,7 @@ Near start k m = (start + k < m) × ((start + k) % m ≡ start + k)
 abbrev Around : ℕ → ℕ → ℕ → Type 0
 Around start k m = (m ≤ start + k) × ((start + k) % m ≡ start + k - m)
 
-pub place-cases : (start k m : ℕ) → start ≤ m → k < m → Near start k m ⊎ Around start k m
+place-cases : (start k m : ℕ) → start ≤ m → k < m → Near start k m ⊎ Around start k m
 place-cases start k m s h =
     elim (decLt (start + k) m) [
       | yes p ↦ inl (p, mod-eq-of-lt p)
@@ -48,13 +48,13 @@ place-cases start k m s h =
     ]
 
 -- different steps lead to different places
-pub place-other : (start k i m : ℕ) → start ≤ m → k < i → i < m → (start + k) % m ≡ (start + i) % m → ⊥
+place-other : (start k i m : ℕ) → start ≤ m → k < i → i < m → (start + k) % m ≡ (start + i) % m → ⊥
 place-other start k i m s h l e =
     ⊎-elim (λ a. ⊎-elim (λ b. omega arith) (λ b. omega arith) (place-cases start i m s l)) (λ a. ⊎-elim (λ b. omega arith) (λ b. omega arith) (place-cases start i m s l))
     (place-cases start k m s (omega arith))
 
 -- each place is reached
-pub place-reached : (start j m : ℕ) → start ≤ m → j < m → (k : ℕ) × (k < m) × ((start + k) % m ≡ j)
+place-reached : (start j m : ℕ) → start ≤ m → j < m → (k : ℕ) × (k < m) × ((start + k) % m ≡ j)
 place-reached start j m s h =
     elim (decLt j start) [
       | yes p ↦ (j + m - start, omega arith, ⊎-elim (λ a. omega arith) (λ a. omega arith) (place-cases start (j + m - start) m s (omega arith)))
@@ -62,7 +62,7 @@ place-reached start j m s h =
     ]
 
 -- back from a place that was reached
-pub place-back : (start k m : ℕ) → start ≤ m → k < m → (m - start + (start + k) % m) % m ≡ k
+place-back : (start k m : ℕ) → start ≤ m → k < m → (m - start + (start + k) % m) % m ≡ k
 place-back start k m s h =
     let back = place-cases (m - start) ((start + k) % m) m (omega arith) (mod-lt (start + k) (omega arith)) in
     ⊎-elim (λ a. ⊎-elim (λ b. omega arith) (λ b. omega arith) back) (λ a. ⊎-elim (λ b. omega arith) (λ b. omega arith) back) (place-cases start k m s h)
@@ -95,7 +95,7 @@ module _ {A : Type 0} where
   unfolding byPlace
   length-byPlace start xs = length-rotate (length xs - start) xs
 
-  pub getD-byPlace : (start : ℕ) (xs : List A) (k : ℕ) (d : A) → start ≤ length xs → k < length xs → getD (byPlace start xs) ((start + k) % length xs) d ≡ getD xs k d
+  getD-byPlace : (start : ℕ) (xs : List A) (k : ℕ) (d : A) → start ≤ length xs → k < length xs → getD (byPlace start xs) ((start + k) % length xs) d ≡ getD xs k d
   unfolding byPlace
   getD-byPlace start xs k d s h =
       getD-rotate (length xs - start) xs ((start + k) % length xs) d (omega arith) (mod-lt (start + k) (omega arith))

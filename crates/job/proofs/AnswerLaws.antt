@@ -23,8 +23,8 @@ use Rattle.job.specs.Color.{foundIn, checkJob, colored, colorJob, colorR
 use Rattle.job.specs.declared.listing.Listed.the-variants as listed
 use Rattle.job.specs.Listing as list
 use Rattle.job.specs.Listing.{listing, refusalLine, checkedText, readingText, fileText, listFile, contourCount}
-use Rattle.job.proofs.ListingLaws.{listing-few, refusal-few}
-use Rattle.job.proofs.ShapeLaws.{ShapeOf, shape-of}
+use Rattle.job.proofs.listing.ListingLaws.{listing-few, refusal-few}
+use Rattle.job.proofs.color.ShapeLaws.{ShapeOf, shape-of}
 
 -- ---- the text is at most 5,598 bytes long
 

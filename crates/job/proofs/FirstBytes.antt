@@ -28,10 +28,10 @@ use Rattle.job.specs.Color.{colorReading, colorFile, acceptedReading, ac
 use Rattle.job.specs.Part.{contourPart}
 use Rattle.job.specs.Listing.{readingText, fileText}
 use Rattle.job.specs.Progress.{begin, advanced}
-use Rattle.job.proofs.RecordLaws.{controls-few}
-use Rattle.job.proofs.ReadingLaws.{taken, end-size, records-next, records-fault}
-use Rattle.job.proofs.ProgressLaws.{besides, among-contours, and-true, at-start, in-contour, Reached, reached-begin, reached-next, further, place-after, state-after, bytes-few}
-use Rattle.job.proofs.PartLaws.{part-refused}
+use Rattle.job.proofs.records.RecordLaws.{controls-few}
+use Rattle.job.proofs.records.ReadingLaws.{taken, end-size, records-next, records-fault}
+use Rattle.job.proofs.progress.ProgressLaws.{besides, among-contours, and-true, at-start, in-contour, Reached, reached-begin, reached-next, further, place-after, state-after, bytes-few}
+use Rattle.job.proofs.part.PartLaws.{part-refused}
 
 -- a step with more bytes after it
 abbrev extend : List ℕ → Step → Step

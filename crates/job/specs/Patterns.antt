@@ -1,5 +1,5 @@
 -- Numbers in a file, lowest byte first, and the tests of the floats' bit patterns. A pattern is tested as a whole number before it becomes
--- a float, so that nothing turns on the bits of a NaN; proofs/PatternMeaning.antt says what each test means of the float.
+-- a float, so that nothing turns on the bits of a NaN; proofs/patterns/PatternMeaning.antt says what each test means of the float.
 use Prim.Native.Nat.{ℕ, zero, suc, _+_, _*_, _%_}
 use mathlib.Core.Bool.{Bool, true, _&&_, _||_}
 use mathlib.Core.List.{List, [], _∷_, map}

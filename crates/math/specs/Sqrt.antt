@@ -1,6 +1,6 @@
 -- The square root of a double, correctly rounded, over whole numbers. `sqrtBits` goes from bit pattern to bit pattern: the sign (place 63), the
 -- exponent's field (places 52 to 62), the fraction (places 0 to 51). `sqrtOf` is the same on the logic's values.
--- That the result is the double nearest to the true root is shown in `proofs/SqrtNearest.antt`, and on values in `proofs/SqrtValues.antt`.
+-- That the result is the double nearest to the true root is shown in `proofs/sqrt/SqrtNearest.antt`, and on values in `proofs/sqrt/SqrtValues.antt`.
 use Prim.Native.Nat.{ℕ, zero, suc, _+_, _-_, _*_, _/_, _%_, _^_}
 use mathlib.Core.Bool.{cond, _||_}
 use lib.Dec.{leb, ltb, eqb}

@@ -31,19 +31,19 @@ unfolding closeFirst
 close-first s [] = refl
 close-first s (k ∷ cs) = refl
 
-pub close-first-take : (n : ℕ) (s : Float) (cs : List InkTrapCorner) → 0 < n → take n (closeFirst s cs) ≡ closeFirst s (take n cs)
+close-first-take : (n : ℕ) (s : Float) (cs : List InkTrapCorner) → 0 < n → take n (closeFirst s cs) ≡ closeFirst s (take n cs)
 unfolding closeFirst
 close-first-take zero s cs h = absurd (omega arith)
 close-first-take (suc n) s [] h = refl
 close-first-take (suc n) s (k ∷ cs) h = refl
 
-pub close-first-length : (s : Float) (cs : List InkTrapCorner) → length (closeFirst s cs) ≡ length cs
+close-first-length : (s : Float) (cs : List InkTrapCorner) → length (closeFirst s cs) ≡ length cs
 unfolding closeFirst
 close-first-length s [] = refl
 close-first-length s (k ∷ cs) = refl
 
 -- a corner of the first n, counted around
-pub around-take : (n i : ℕ) (cs : List InkTrapCorner) → 0 < n → n ≤ length cs → around (take n cs) i ≡ getD cs (i % n) noCorner
+around-take : (n i : ℕ) (cs : List InkTrapCorner) → 0 < n → n ≤ length cs → around (take n cs) i ≡ getD cs (i % n) noCorner
 unfolding around
 around-take n i cs pos fits = rw (length-take-le n cs fits, getD-take n cs (i % n) noCorner (mod-lt i pos))
 
@@ -55,19 +55,19 @@ markedAt cs i = withMinor (isMinor cs i) (around cs i)
 unfoldable pub marking : ℕ → List InkTrapCorner → List InkTrapCorner
 marking i cs = map (markedAt cs) (range 0 i) ++ drop i cs
 
-pub around-here : (i : ℕ) (cs : List InkTrapCorner) → i < length cs → around cs i ≡ getD cs i noCorner
+around-here : (i : ℕ) (cs : List InkTrapCorner) → i < length cs → around cs i ≡ getD cs i noCorner
 unfolding around
 around-here i cs h = rw (mod-eq-of-lt h)
 
 marking-length : (i : ℕ) (cs : List InkTrapCorner) → length (map (markedAt cs) (range 0 i)) ≡ i
 marking-length i cs = length-map (range 0 i) (markedAt cs) ∙ length-range 0 i
 
-pub marking-next : (i : ℕ) (cs : List InkTrapCorner) → i < length cs → getD (marking i cs) i noCorner ≡ getD cs i noCorner
+marking-next : (i : ℕ) (cs : List InkTrapCorner) → i < length cs → getD (marking i cs) i noCorner ≡ getD cs i noCorner
 unfolding marking
 marking-next i cs h =
     rw (drop-cons cs i noCorner h, getD-at (map (markedAt cs) (range 0 i)) (getD cs i noCorner) (drop (suc i) cs) noCorner i (marking-length i cs))
 
-pub marking-turn : (i : ℕ) (cs : List InkTrapCorner) → i < length cs → set (marking i cs) i (markedAt cs i) ≡ marking (i + 1) cs
+marking-turn : (i : ℕ) (cs : List InkTrapCorner) → i < length cs → set (marking i cs) i (markedAt cs i) ≡ marking (i + 1) cs
 unfolding marking
 marking-turn i cs h =
     rw (
@@ -89,7 +89,7 @@ marking-none cs = refl
 
 -- whatever the flag does not touch stays while the corners are marked
 module _ {B : Type 0} (f : InkTrapCorner → B) (stays : (b : Bool) (k : InkTrapCorner) → f (withMinor b k) ≡ f k) where
-  pub marking-keeps : (i : ℕ) (cs : List InkTrapCorner) → i ≤ length cs → map f (marking i cs) ≡ map f cs
+  marking-keeps : (i : ℕ) (cs : List InkTrapCorner) → i ≤ length cs → map f (marking i cs) ≡ map f cs
   marking-keeps zero cs h = ap (map f) (marking-none cs)
   marking-keeps (suc i) cs h =
       rw (← add-one i, ← marking-turn i cs h)
@@ -139,7 +139,7 @@ module _ (i n : ℕ) (old cs : List InkTrapCorner) (h : i < n) (fits : n ≤ len
 
 -- with more than three corners the marks are the definition's; with fewer there are none
 module _ (s : Float) (cs : List InkTrapCorner) where
-  pub mark-many : 3 < length cs → markMinors (record { corners = cs; splineLength = s }) ≡ marking (length cs) (closeFirst s cs)
+  mark-many : 3 < length cs → markMinors (record { corners = cs; splineLength = s }) ≡ marking (length cs) (closeFirst s cs)
   unfolding marking markMinors
   mark-many h =
       branch-true (ltb 3 (length cs)) _ _ (lt-ltb 3 (length cs) h)
@@ -148,7 +148,7 @@ module _ (s : Float) (cs : List InkTrapCorner) where
       ∙ ap (λ (l : List InkTrapCorner). map (markedAt (closeFirst s cs)) (range 0 (length cs)) ++ l)
       (sym (drop-of-length-le (closeFirst s cs) {i = length cs} (omega (arith, close-first-length s cs))))
 
-  pub mark-few : length cs ≤ 3 → markMinors (record { corners = cs; splineLength = s }) ≡ cs
+  mark-few : length cs ≤ 3 → markMinors (record { corners = cs; splineLength = s }) ≡ cs
   unfolding markMinors
   mark-few h = branch-false (ltb 3 (length cs)) _ _ (le-ltb 3 (length cs) h)
 
@@ -168,7 +168,7 @@ unfolding majorCount
 majors-snoc [] k = omega arith
 majors-snoc (x ∷ cs) k = rw (majors-snoc cs k) (omega arith)
 
-pub majors-most : (cs : List InkTrapCorner) → majorCount cs ≤ length cs
+majors-most : (cs : List InkTrapCorner) → majorCount cs ≤ length cs
 unfolding majorCount
 majors-most [] = omega arith
 majors-most (x ∷ cs) = at (x .minor) (majors-most cs)
@@ -186,13 +186,13 @@ module _ (i : ℕ) (cs : List InkTrapCorner) (k : InkTrapCorner) (h : i < length
 
 -- ---- the colours of minor corners
 
-pub minor-here : (i k : ℕ) (color : EdgeColor) (cs : List InkTrapCorner) → around cs i .minor ≡ true
+minor-here : (i k : ℕ) (color : EdgeColor) (cs : List InkTrapCorner) → around cs i .minor ≡ true
     → colorMinors i (suc k) color cs
     ≡ colorMinors (suc i) k color (set cs i (withColor (fromBits (7 - shared color (around cs (i + 1) .color))) (around cs i)))
 unfolding colorMinors
 minor-here i k color cs e = branch-true (around cs i .minor) _ _ e
 
-pub major-here : (i k : ℕ) (color : EdgeColor) (cs : List InkTrapCorner) → around cs i .minor ≡ false
+major-here : (i k : ℕ) (color : EdgeColor) (cs : List InkTrapCorner) → around cs i .minor ≡ false
     → colorMinors i (suc k) color cs ≡ colorMinors (suc i) k (around cs i .color) cs
 unfolding colorMinors
 major-here i k color cs e = branch-false (around cs i .minor) _ _ e
@@ -226,7 +226,7 @@ minors-done i n color cs h = rw (sub-eq-zero-of-le h)
 -- ---- the colours of major corners
 
 -- the first n corners from place i on
-pub ahead-cons : (i n : ℕ) (cs : List InkTrapCorner) → i < n → n ≤ length cs → drop i (take n cs) ≡ getD cs i noCorner ∷ drop (i + 1) (take n cs)
+ahead-cons : (i n : ℕ) (cs : List InkTrapCorner) → i < n → n ≤ length cs → drop i (take n cs) ≡ getD cs i noCorner ∷ drop (i + 1) (take n cs)
 ahead-cons i n cs h fits =
     drop-cons (take n cs) i noCorner (omega (arith, length-take-le n cs fits))
     ∙ rw (getD-take n cs i noCorner h, add-one i)
@@ -240,7 +240,7 @@ going i n initial left pen cs =
     let rest = colorMajors initial left pen (drop i (take n cs)) in
     record { corners = take i cs ++ rest .corners; pen = rest .pen }
 
-pub majors-minor : (initial : EdgeColor) (left : ℕ) (pen : Pen) (k : InkTrapCorner) (cs : List InkTrapCorner) → k .minor ≡ true
+majors-minor : (initial : EdgeColor) (left : ℕ) (pen : Pen) (k : InkTrapCorner) (cs : List InkTrapCorner) → k .minor ≡ true
     → colorMajors initial left pen (k ∷ cs)
     ≡ record { corners = k ∷ colorMajors initial left pen cs .corners; pen = colorMajors initial left pen cs .pen }
 unfolding colorMajors
@@ -254,7 +254,7 @@ module _ (initial : EdgeColor) (left : ℕ) (pen : Pen) where
   abbrev pub nextInitial : EdgeColor
   nextInitial = cond (isBlack initial) (nextPen .color) initial
 
-  pub majors-major : (k : InkTrapCorner) (cs : List InkTrapCorner) → k .minor ≡ false
+  majors-major : (k : InkTrapCorner) (cs : List InkTrapCorner) → k .minor ≡ false
       → colorMajors initial left pen (k ∷ cs)
       ≡ record {
         corners = withColor (nextPen .color) k ∷ colorMajors nextInitial (left - 1) nextPen cs .corners;

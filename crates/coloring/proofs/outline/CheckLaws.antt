@@ -38,7 +38,7 @@ module _ {A : Type 0} (test : A → Bool) (d : A) where
   scan-end xs i e h = rw (e, drop-of-length-le xs h)
 
   -- what passes as a whole passes at each place
-  pub all-at : (xs : List A) (i : ℕ) → all test xs ≡ true → i < length xs → test (getD xs i d) ≡ true
+  all-at : (xs : List A) (i : ℕ) → all test xs ≡ true → i < length xs → test (getD xs i d) ≡ true
   unfolding all
   all-at [] i e h = absurd (omega arith)
   all-at (x ∷ xs) zero e h = and-left (test x) (all test xs) e

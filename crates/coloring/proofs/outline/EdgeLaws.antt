@@ -19,7 +19,7 @@ unfolding edgesOf
 edges-length [] points = refl
 edges-length (k ∷ kinds) points = ap suc (edges-length kinds (drop 8 points))
 
-pub edges-drop : (i : ℕ) (kinds : List ℕ) (points : List Float) → drop i (edgesOf kinds points) ≡ edgesOf (drop i kinds) (drop (8 * i) points)
+edges-drop : (i : ℕ) (kinds : List ℕ) (points : List Float) → drop i (edgesOf kinds points) ≡ edgesOf (drop i kinds) (drop (8 * i) points)
 unfolding edgesOf
 edges-drop zero kinds points = refl
 edges-drop (suc i) [] points = refl
@@ -27,7 +27,7 @@ edges-drop (suc i) (k ∷ kinds) points =
     let e : 8 + 8 * i ≡ 8 * suc i = omega arith in
     rw (edges-drop i kinds (drop 8 points), drop-drop (8 * i) 8 points, e)
 
-pub edges-take : (m : ℕ) (kinds : List ℕ) (points : List Float) → take m (edgesOf kinds points) ≡ edgesOf (take m kinds) (take (8 * m) points)
+edges-take : (m : ℕ) (kinds : List ℕ) (points : List Float) → take m (edgesOf kinds points) ≡ edgesOf (take m kinds) (take (8 * m) points)
 unfolding edgesOf
 edges-take zero kinds points = refl
 edges-take (suc m) [] points = refl

@@ -88,7 +88,7 @@ module _ {A B : Type 0} (f : A → B) where
 
 -- ---- splines
 
-pub splines-some : (flags : List Bool) → 0 < length flags → splineCount flags ≡ cond (ltb (cornerCount flags) 2) (suc (cornerCount flags)) (cornerCount flags)
+splines-some : (flags : List Bool) → 0 < length flags → splineCount flags ≡ cond (ltb (cornerCount flags) 2) (suc (cornerCount flags)) (cornerCount flags)
 unfolding splineCount
 splines-some [] h = absurd (omega arith)
 splines-some (flag ∷ flags) h = refl

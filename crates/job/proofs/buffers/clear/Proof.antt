@@ -5,7 +5,7 @@ use native.Mathlib.Omega.{arith}
 use lib.ListN.{length, replicate, length-replicate, length-set}
 use Rattle.math.specs.Scalar.{f0}
 use Rattle.coloring.specs.Outline.{over}
-use Rattle.job.proofs.BufferLaws.{over-repeat, over-all}
+use Rattle.job.proofs.buffers.BufferLaws.{over-repeat, over-all}
 use Rattle.job.proofs.buffers.clear.Statement.{statement}
 use Rattle.job.proofs.buffers.clear.Tie as tie
 

@@ -10,8 +10,8 @@ use lib.Ieee.{Float, nan, binary64, ofBits}
 use borrow.Author.Needs.{needs}
 use Rattle.coloring.specs.Outline.{over}
 use Rattle.job.specs.Patterns.{words, floats}
-use Rattle.job.proofs.PatternLaws.{floats-at, floats-length}
-use Rattle.job.proofs.BufferLaws.{over-next}
+use Rattle.job.proofs.patterns.PatternLaws.{floats-at, floats-length}
+use Rattle.job.proofs.buffers.BufferLaws.{over-next}
 use Rattle.job.proofs.buffers.write_floats.Statement.{statement}
 use Rattle.job.proofs.buffers.write_floats.Tie as tie
 

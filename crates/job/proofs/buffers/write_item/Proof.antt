@@ -8,8 +8,8 @@ use Rattle.job.specs.declared.records.Item.the-variants.{Contour, Edge, 
 use Rattle.job.specs.declared.records.Kind.{Kind}
 use Rattle.job.specs.Records.{controls}
 use Rattle.job.specs.Buffers.{buffers, written, Room}
-use Rattle.job.proofs.RecordLaws.{part-after}
-use Rattle.job.proofs.RecordLaws.{controls-few}
+use Rattle.job.proofs.records.RecordLaws.{part-after}
+use Rattle.job.proofs.records.RecordLaws.{controls-few}
 use borrow.Author.Needs.{needs}
 use Rattle.job.proofs.buffers.write_item.Statement.{statement}
 use Rattle.job.proofs.buffers.write_item.Tie as tie

@@ -2,8 +2,8 @@
 use mathlib.Core.Path.{_∙_}
 use native.Mathlib.Omega.{arith}
 use lib.ListN.{length-replicate}
-use Rattle.job.proofs.BufferLaws.{places-from}
-use Rattle.job.proofs.RecordLaws.{controls-few}
+use Rattle.job.proofs.buffers.BufferLaws.{places-from}
+use Rattle.job.proofs.records.RecordLaws.{controls-few}
 use borrow.Author.Needs.{needs}
 use Rattle.job.proofs.buffers.write_points.Statement.{statement}
 use Rattle.job.proofs.buffers.write_points.Tie as tie

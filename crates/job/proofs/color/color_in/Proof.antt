@@ -7,7 +7,7 @@ use lib.Seq.{length-take-le}
 use Rattle.coloring.specs.Outline.{Result, result}
 use Rattle.job.specs.declared.progress.Numbers.{Numbers}
 use Rattle.job.specs.Buffers.{Buffers, buffers}
-use Rattle.job.proofs.ColorLaws.{Holding, read-job, read-refused, held-colored, edges-most, contours-within, kinds-within, places-within, distances-within}
+use Rattle.job.proofs.color.ColorLaws.{Holding, read-job, read-refused, held-colored, edges-most, contours-within, kinds-within, places-within, distances-within}
 use borrow.Author.Needs.{needs}
 use Rattle.job.proofs.color.color_in.Statement.{statement}
 use Rattle.job.proofs.color.color_in.Tie as tie

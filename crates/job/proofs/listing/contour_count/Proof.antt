@@ -3,7 +3,7 @@ use mathlib.Core.Path.{sym, ap, _∙_}
 use Rattle.job.specs.declared.progress.Numbers.{Numbers}
 use Rattle.job.specs.Job.{readJob}
 use Rattle.job.specs.Listing.{contourCount}
-use Rattle.job.proofs.DeliverLaws.{answer-job, answer-refused}
+use Rattle.job.proofs.reader.DeliverLaws.{answer-job, answer-refused}
 use borrow.Author.Needs.{needs}
 use Rattle.job.proofs.listing.contour_count.Statement.{statement}
 use Rattle.job.proofs.listing.contour_count.Tie as tie

@@ -7,7 +7,7 @@ use lib.ListN.{length}
 use lib.Seq.{length-take-le}
 use Rattle.coloring.specs.Outline.{over}
 use Rattle.job.specs.Listing.{fileText}
-use Rattle.job.proofs.PasteLaws.{pasted-front, pasted-over}
+use Rattle.job.proofs.listing.PasteLaws.{pasted-front, pasted-over}
 use Rattle.job.proofs.AnswerLaws.{text-few, list-short, list-fits}
 use borrow.Author.Needs.{needs}
 use Rattle.job.proofs.listing.listing.Statement.{statement}

@@ -1,5 +1,5 @@
 -- `job::listing::put` meets its contract.
-use Rattle.job.proofs.PasteLaws.{paste-one}
+use Rattle.job.proofs.listing.PasteLaws.{paste-one}
 use borrow.Author.Needs.{needs}
 use Rattle.job.proofs.listing.put.Statement.{statement}
 use Rattle.job.proofs.listing.put.Tie as tie

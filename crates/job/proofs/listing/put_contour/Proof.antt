@@ -5,8 +5,8 @@ use Prim.Native.Nat.{ℕ, _+_, _-_, _≤_}
 use native.Mathlib.Omega.{arith}
 use lib.ListN.{length, drop, getD, drop-of-length-le}
 use Rattle.job.specs.Listing.{line, contourLines}
-use Rattle.job.proofs.ListingLaws.{contour-step}
-use Rattle.job.proofs.PasteLaws.{Listed, listed-begin, listed-room, listed-next, listed-end}
+use Rattle.job.proofs.listing.ListingLaws.{contour-step}
+use Rattle.job.proofs.listing.PasteLaws.{Listed, listed-begin, listed-room, listed-next, listed-end}
 use Rattle.job.proofs.listing.put_contour.Statement.{statement}
 use Rattle.job.proofs.listing.put_contour.Tie as tie
 

@@ -5,8 +5,8 @@ use Prim.Native.Nat.{ℕ, _/_, _%_}
 use native.Mathlib.Omega.{arith}
 use lib.ListN.{length}
 use Rattle.job.specs.Listing.{digit, decimal, Pasted}
-use Rattle.job.proofs.ListingLaws.{decimal-one, decimal-two, decimal-three}
-use Rattle.job.proofs.PasteLaws.{pasted-then}
+use Rattle.job.proofs.listing.ListingLaws.{decimal-one, decimal-two, decimal-three}
+use Rattle.job.proofs.listing.PasteLaws.{pasted-then}
 use borrow.Author.Needs.{needs}
 use Rattle.job.proofs.listing.put_decimal.Statement.{statement}
 use Rattle.job.proofs.listing.put_decimal.Tie as tie

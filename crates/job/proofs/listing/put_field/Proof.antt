@@ -1,7 +1,7 @@
 -- `job::listing::put_field` meets its contract.
 use native.Mathlib.Omega.{arith}
-use Rattle.job.proofs.ListingLaws.{field-length}
-use Rattle.job.proofs.PasteLaws.{pasted-then}
+use Rattle.job.proofs.listing.ListingLaws.{field-length}
+use Rattle.job.proofs.listing.PasteLaws.{pasted-then}
 use borrow.Author.Needs.{needs}
 use Rattle.job.proofs.listing.put_field.Statement.{statement}
 use Rattle.job.proofs.listing.put_field.Tie as tie

@@ -5,8 +5,8 @@ use Prim.Native.Nat.{ℕ, _+_, _≤_}
 use native.Mathlib.Omega.{arith}
 use lib.ListN.{length, length-append}
 use Rattle.job.specs.Listing.{decimal, letter, space, newline, field, Pasted}
-use Rattle.job.proofs.ListingLaws.{line-length, line-fields, field-length}
-use Rattle.job.proofs.PasteLaws.{pasted-then}
+use Rattle.job.proofs.listing.ListingLaws.{line-length, line-fields, field-length}
+use Rattle.job.proofs.listing.PasteLaws.{pasted-then}
 use borrow.Author.Needs.{needs}
 use Rattle.job.proofs.listing.put_line.Statement.{statement}
 use Rattle.job.proofs.listing.put_line.Tie as tie

@@ -6,8 +6,8 @@ use native.Mathlib.Omega.{arith}
 use lib.ListN.{length, take, drop, getD, length-take, length-drop, drop-of-length-le}
 use Rattle.coloring.specs.Places.{total}
 use Rattle.job.specs.Listing.{contourLines, shapeLines}
-use Rattle.job.proofs.ListingLaws.{shape-step, total-step}
-use Rattle.job.proofs.PasteLaws.{Listed, listed-begin, listed-room, listed-next, listed-end}
+use Rattle.job.proofs.listing.ListingLaws.{shape-step, total-step}
+use Rattle.job.proofs.listing.PasteLaws.{Listed, listed-begin, listed-room, listed-next, listed-end}
 use Rattle.job.proofs.listing.put_shape.Statement.{statement}
 use Rattle.job.proofs.listing.put_shape.Tie as tie
 

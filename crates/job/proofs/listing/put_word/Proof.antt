@@ -6,7 +6,7 @@ use native.Mathlib.Omega.{arith}
 use native.Mathlib.Numerals.{add-one}
 use lib.ListN.{length, drop, getD, drop-of-length-le}
 use lib.Seq.{drop-cons}
-use Rattle.job.proofs.PasteLaws.{Listed, listed-begin, listed-room, listed-next, listed-end}
+use Rattle.job.proofs.listing.PasteLaws.{Listed, listed-begin, listed-room, listed-next, listed-end}
 use Rattle.job.proofs.listing.put_word.Statement.{statement}
 use Rattle.job.proofs.listing.put_word.Tie as tie
 

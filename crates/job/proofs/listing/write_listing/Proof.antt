@@ -5,8 +5,8 @@ use Prim.Native.Nat.{ℕ, _+_, _≤_}
 use native.Mathlib.Omega.{arith}
 use lib.ListN.{length, length-append}
 use Rattle.job.specs.Listing.{edgesWord, newline, field, shapeLines, Pasted}
-use Rattle.job.proofs.ListingLaws.{listing-parts, listing-length}
-use Rattle.job.proofs.PasteLaws.{pasted-then}
+use Rattle.job.proofs.listing.ListingLaws.{listing-parts, listing-length}
+use Rattle.job.proofs.listing.PasteLaws.{pasted-then}
 use borrow.Author.Needs.{needs}
 use Rattle.job.proofs.listing.write_listing.Statement.{statement}
 use Rattle.job.proofs.listing.write_listing.Tie as tie

@@ -5,8 +5,8 @@ use Prim.Native.Nat.{ℕ}
 use native.Mathlib.Omega.{arith}
 use lib.ListN.{length}
 use Rattle.job.specs.Listing.{refusedWord, newline, field, Pasted}
-use Rattle.job.proofs.ListingLaws.{refusal-parts, refusal-length}
-use Rattle.job.proofs.PasteLaws.{pasted-then}
+use Rattle.job.proofs.listing.ListingLaws.{refusal-parts, refusal-length}
+use Rattle.job.proofs.listing.PasteLaws.{pasted-then}
 use borrow.Author.Needs.{needs}
 use Rattle.job.proofs.listing.write_refusal.Statement.{statement}
 use Rattle.job.proofs.listing.write_refusal.Tie as tie

@@ -2,8 +2,8 @@
 use mathlib.Core.Path.{sym, _∙_}
 use Rattle.job.specs.Job.{readJob}
 use Rattle.job.specs.Color.{acceptedReading, accepted}
-use Rattle.job.proofs.DeliverLaws.{answer-job, answer-refused}
-use Rattle.job.proofs.ColorLaws.{accepted-job}
+use Rattle.job.proofs.reader.DeliverLaws.{answer-job, answer-refused}
+use Rattle.job.proofs.color.ColorLaws.{accepted-job}
 use borrow.Author.Needs.{needs}
 use Rattle.job.proofs.part.accepted.Statement.{statement}
 use Rattle.job.proofs.part.accepted.Tie as tie

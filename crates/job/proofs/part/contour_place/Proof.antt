@@ -2,7 +2,7 @@
 use mathlib.Core.Path.{sym, _∙_}
 use native.Mathlib.Omega.{arith}
 use borrow.Author.Tests.{not-true, not-false}
-use Rattle.job.proofs.PartLaws.{place-refused, place-accepted}
+use Rattle.job.proofs.part.PartLaws.{place-refused, place-accepted}
 use borrow.Author.Needs.{needs}
 use Rattle.job.proofs.part.contour_place.Statement.{statement}
 use Rattle.job.proofs.part.contour_place.Tie as tie

@@ -8,10 +8,10 @@ use borrow.Author.Needs.{needs}
 use Rattle.job.specs.declared.progress.Progress.{Progress}
 use Rattle.job.specs.Records.{itemOf, foundOf, readRecord}
 use Rattle.job.specs.Progress.{advanced}
-use Rattle.job.proofs.RecordLaws.{part-after}
-use Rattle.job.proofs.ReadingLaws.{Read-as, found-item, found-end, found-fails}
-use Rattle.job.proofs.ProgressLaws.{counts, further, reached-next}
-use Rattle.job.proofs.PartLaws.{Seeking, seeking-begin, seeking-next, seeking-end, seeking-fault, seeking-inside}
+use Rattle.job.proofs.records.RecordLaws.{part-after}
+use Rattle.job.proofs.records.ReadingLaws.{Read-as, found-item, found-end, found-fails}
+use Rattle.job.proofs.progress.ProgressLaws.{counts, further, reached-next}
+use Rattle.job.proofs.part.PartLaws.{Seeking, seeking-begin, seeking-next, seeking-end, seeking-fault, seeking-inside}
 use Rattle.job.proofs.part.contour_span.Statement.{statement}
 use Rattle.job.proofs.part.contour_span.Tie as tie
 

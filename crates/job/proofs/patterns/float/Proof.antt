@@ -2,7 +2,7 @@
 use mathlib.Core.Path.{sym, subst, _∙_}
 use mathlib.Core.Bool.{Bool, not}
 use lib.Dec.{T}
-use Rattle.job.proofs.PatternLaws.{zero-by-zero, nan-pattern, no-nan-pattern}
+use Rattle.job.proofs.patterns.PatternLaws.{zero-by-zero, nan-pattern, no-nan-pattern}
 use borrow.Author.Needs.{needs}
 use Rattle.job.proofs.patterns.float.Statement.{statement}
 use Rattle.job.proofs.patterns.float.Tie as tie

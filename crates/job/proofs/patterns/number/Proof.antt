@@ -6,7 +6,7 @@ use mathlib.Core.List.{List}
 use lib.ListN.{length, drop, getD}
 use lib.Seq.{drop-length}
 use Rattle.job.specs.Patterns.{number}
-use Rattle.job.proofs.PatternLaws.{number-at, number-fits}
+use Rattle.job.proofs.patterns.PatternLaws.{number-at, number-fits}
 use Rattle.job.proofs.patterns.number.Statement.{statement}
 use Rattle.job.proofs.patterns.number.Tie as tie
 

@@ -9,9 +9,9 @@ use Rattle.job.specs.declared.progress.Progress.{Progress}
 use Rattle.job.specs.Records.{itemOf, foundOf, readRecord}
 use Rattle.job.specs.declared.progress.Read.the-variants.{Job}
 use Rattle.job.specs.Progress.{advanced, answerOf}
-use Rattle.job.proofs.RecordLaws.{part-after}
-use Rattle.job.proofs.ReadingLaws.{Read-as, found-item, found-end, found-fails}
-use Rattle.job.proofs.ProgressLaws.{Reached, reached-begin, counts, further, reached-next, reached-end, reached-fault, numbers-are}
+use Rattle.job.proofs.records.RecordLaws.{part-after}
+use Rattle.job.proofs.records.ReadingLaws.{Read-as, found-item, found-end, found-fails}
+use Rattle.job.proofs.progress.ProgressLaws.{Reached, reached-begin, counts, further, reached-next, reached-end, reached-fault, numbers-are}
 use Rattle.job.proofs.progress.scan.Statement.{statement}
 use Rattle.job.proofs.progress.scan.Tie as tie
 

@@ -9,10 +9,10 @@ use Rattle.job.specs.declared.progress.Progress.{Progress}
 use Rattle.job.specs.Records.{itemOf, foundOf, readRecord}
 use Rattle.job.specs.Buffers.{Buffers, buffers, written, Hold, Room}
 use Rattle.job.specs.Progress.{advanced}
-use Rattle.job.proofs.RecordLaws.{part-after}
-use Rattle.job.proofs.ReadingLaws.{Read-as, found-item, found-end, found-fails}
-use Rattle.job.proofs.ProgressLaws.{counts, further, reached-next}
-use Rattle.job.proofs.FillLaws.{Filling, filling-begin, filling-room, filling-next, filling-end, filling-fault}
+use Rattle.job.proofs.records.RecordLaws.{part-after}
+use Rattle.job.proofs.records.ReadingLaws.{Read-as, found-item, found-end, found-fails}
+use Rattle.job.proofs.progress.ProgressLaws.{counts, further, reached-next}
+use Rattle.job.proofs.reader.FillLaws.{Filling, filling-begin, filling-room, filling-next, filling-end, filling-fault}
 use Rattle.job.proofs.reader.fill.Statement.{statement}
 use Rattle.job.proofs.reader.fill.Tie as tie
 

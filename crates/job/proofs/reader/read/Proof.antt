@@ -7,7 +7,7 @@ use borrow.Author.Tests.{not-true, not-false}
 use Rattle.job.specs.declared.progress.Numbers.{Numbers}
 use Rattle.job.specs.Job.{readJob}
 use Rattle.job.specs.Buffers.{Buffers, buffers, hasRoom}
-use Rattle.job.proofs.DeliverLaws.{As-job, answer-job, answer-refused, answer-few, delivers-refused, delivers-short, fits-buffers, delivers-job}
+use Rattle.job.proofs.reader.DeliverLaws.{As-job, answer-job, answer-refused, answer-few, delivers-refused, delivers-short, fits-buffers, delivers-job}
 use borrow.Author.Needs.{needs}
 use Rattle.job.proofs.reader.read.Statement.{statement}
 use Rattle.job.proofs.reader.read.Tie as tie

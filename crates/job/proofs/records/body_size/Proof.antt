@@ -1,6 +1,6 @@
 -- `job::records::body_size` meets its contract.
 use native.Mathlib.Omega.{arith}
-use Rattle.job.proofs.RecordLaws.{controls-few}
+use Rattle.job.proofs.records.RecordLaws.{controls-few}
 use borrow.Author.Needs.{needs}
 use Rattle.job.proofs.records.body_size.Statement.{statement}
 use Rattle.job.proofs.records.body_size.Tie as tie

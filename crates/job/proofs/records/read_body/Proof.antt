@@ -1,7 +1,7 @@
 -- `job::records::read_body` meets its contract, mark by mark.
 use mathlib.Core.Path.{sym, ap, _∙_}
 use Rattle.job.specs.Records.{readBody, bodySize}
-use Rattle.job.proofs.RecordLaws.{header-rest, edge-rest}
+use Rattle.job.proofs.records.RecordLaws.{header-rest, edge-rest}
 use borrow.Author.Needs.{needs}
 use Rattle.job.proofs.records.read_body.Statement.{statement}
 use Rattle.job.proofs.records.read_body.Tie as tie

@@ -1,7 +1,7 @@
 -- `job::records::read_distances` meets its contract: the count, the bytes that it asks for, then the distances.
 use Rattle.job.specs.Records.{readDistances}
 use borrow.Author.Tests.{le-leb, lt-leb}
-use Rattle.job.proofs.PatternLaws.{floats-length}
+use Rattle.job.proofs.patterns.PatternLaws.{floats-length}
 use borrow.Author.Needs.{needs}
 use Rattle.job.proofs.records.read_distances.Statement.{statement}
 use Rattle.job.proofs.records.read_distances.Tie as tie

@@ -3,7 +3,7 @@ use mathlib.Core.Path.{_≡_, ap, _∙_}
 use Prim.Native.Nat.{ℕ, _*_}
 use Rattle.job.specs.Patterns.{words, all, isCoordinate}
 use Rattle.job.specs.Records.{readEdge, controls}
-use Rattle.job.proofs.RecordLaws.{kind-of-edge}
+use Rattle.job.proofs.records.RecordLaws.{kind-of-edge}
 use borrow.Author.Needs.{needs}
 use Rattle.job.proofs.records.read_edge.Statement.{statement}
 use Rattle.job.proofs.records.read_edge.Tie as tie

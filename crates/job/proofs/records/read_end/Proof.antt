@@ -1,6 +1,6 @@
 -- `job::records::read_end` meets its contract: nothing may follow.
 use mathlib.Core.Path.{sym}
-use Rattle.job.proofs.RecordLaws.{end-empty, end-more}
+use Rattle.job.proofs.records.RecordLaws.{end-empty, end-more}
 use Rattle.job.proofs.records.read_end.Statement.{statement}
 use Rattle.job.proofs.records.read_end.Tie as tie
 

@@ -9,7 +9,7 @@ use lib.ListN.{getD, take, drop}
 use borrow.Author.Tests.{le-leb, lt-leb, not-true, not-false}
 use Rattle.job.specs.Patterns.{number, isThreshold}
 use Rattle.job.specs.Records.{readHeader}
-use Rattle.job.proofs.RecordLaws.{header-found}
+use Rattle.job.proofs.records.RecordLaws.{header-found}
 use borrow.Author.Needs.{needs}
 use Rattle.job.proofs.records.read_header.Statement.{statement}
 use Rattle.job.proofs.records.read_header.Tie as tie

@@ -5,7 +5,7 @@ use native.Mathlib.Omega.{arith}
 use lib.ListN.{take, length-take}
 use borrow.Author.Tests.{lt-leb, not-true, not-false}
 use Rattle.job.specs.Records.{allowed, fits, foundOf, readBody, readMarked}
-use Rattle.job.proofs.RecordLaws.{marked-body, part-after}
+use Rattle.job.proofs.records.RecordLaws.{marked-body, part-after}
 use borrow.Author.Needs.{needs}
 use Rattle.job.proofs.records.read_marked.Statement.{statement}
 use Rattle.job.proofs.records.read_marked.Tie as tie

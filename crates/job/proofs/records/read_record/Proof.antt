@@ -4,7 +4,7 @@ use native.Mathlib.Omega.{arith}
 use lib.ListN.{drop}
 use Rattle.job.specs.declared.records.Marked.the-variants.{Known}
 use Rattle.job.specs.Records.{foundOf, readMarked}
-use Rattle.job.proofs.RecordLaws.{no-letters, two-letters, part-after}
+use Rattle.job.proofs.records.RecordLaws.{no-letters, two-letters, part-after}
 use borrow.Author.Needs.{needs}
 use Rattle.job.proofs.records.read_record.Statement.{statement}
 use Rattle.job.proofs.records.read_record.Tie as tie

@@ -2,8 +2,8 @@
 use mathlib.Core.Path.{sym}
 use borrow.Author.Needs.{needs}
 use native.Mathlib.Omega.{arith}
-use Rattle.math.proofs.SqrtOpen.{exponent-low, exponent-high}
-use Rattle.math.proofs.SqrtScale.{shift-most}
+use Rattle.math.proofs.sqrt.SqrtOpen.{exponent-low, exponent-high}
+use Rattle.math.proofs.sqrt.SqrtScale.{shift-most}
 use Rattle.math.proofs.sqrt.exponent.Statement.{statement}
 use Rattle.math.proofs.sqrt.exponent.Tie as tie
 

@@ -3,7 +3,7 @@ use mathlib.Core.Path.{_≡_}
 use Prim.Native.Nat.{_+_, _*_, _^_}
 use native.Mathlib.Omega.{arith}
 use borrow.Author.Needs.{needs}
-use Rattle.math.proofs.RootFloor.{root-floor, floor-low, floor-high, floor-unique, floor-of-remainder}
+use Rattle.math.proofs.sqrt.RootFloor.{root-floor, floor-low, floor-high, floor-unique, floor-of-remainder}
 use Rattle.math.proofs.sqrt.floor_root.Statement.{statement}
 use Rattle.math.proofs.sqrt.floor_root.Tie as tie
 

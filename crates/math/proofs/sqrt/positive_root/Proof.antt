@@ -6,9 +6,9 @@ use native.Mathlib.Omega.{arith}
 use borrow.Author.Needs.{needs}
 use lib.Dec.{lit≤}
 use Rattle.math.specs.Sqrt as spec
-use Rattle.math.proofs.SqrtOpen.{positiveRoot-is}
-use Rattle.math.proofs.SqrtScale.{normalised, scaled-bounds, word-bounds, word-scaled}
-use Rattle.math.proofs.SqrtRounded.{rounded-within}
+use Rattle.math.proofs.sqrt.SqrtOpen.{positiveRoot-is}
+use Rattle.math.proofs.sqrt.SqrtScale.{normalised, scaled-bounds, word-bounds, word-scaled}
+use Rattle.math.proofs.sqrt.SqrtRounded.{rounded-within}
 use Rattle.math.proofs.sqrt.positive_root.Statement.{statement}
 use Rattle.math.proofs.sqrt.positive_root.Tie as tie
 

@@ -5,7 +5,7 @@ use native.Mathlib.Omega.{arith}
 use borrow.Author.Needs.{needs}
 use borrow.Author.Tests.{lt-ltb, le-ltb}
 use Rattle.math.specs.Sqrt as spec
-use Rattle.math.proofs.SqrtOpen.{rounded-is}
+use Rattle.math.proofs.sqrt.SqrtOpen.{rounded-is}
 use Rattle.math.proofs.sqrt.rounded.Statement.{statement}
 use Rattle.math.proofs.sqrt.rounded.Tie as tie
 

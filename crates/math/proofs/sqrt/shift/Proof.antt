@@ -1,8 +1,8 @@
 -- `math::sqrt::shift` meets its contract: a number below 2 ^ 52 has more than 11 leading zeros among 64 digits.
 use native.Mathlib.Omega.{arith}
 use mathlib.Core.Path.{sym}
-use Rattle.math.proofs.SqrtOpen.{shift-is}
-use Rattle.math.proofs.SqrtScale.{zeros-are, shift-most}
+use Rattle.math.proofs.sqrt.SqrtOpen.{shift-is}
+use Rattle.math.proofs.sqrt.SqrtScale.{zeros-are, shift-most}
 use Rattle.math.proofs.sqrt.shift.Statement.{statement}
 use Rattle.math.proofs.sqrt.shift.Tie as tie
 

@@ -4,8 +4,8 @@ use borrow.Author.Needs.{needs}
 use native.Mathlib.Nat.{mod-eq-of-lt, lt-of-lt-of-le}
 use native.Mathlib.Omega.{arith}
 use lib.Dec.{lit≤}
-use Rattle.math.proofs.SqrtOpen.{significand-low, significand-high}
-use Rattle.math.proofs.SqrtScale.{shift-most, moved-high}
+use Rattle.math.proofs.sqrt.SqrtOpen.{significand-low, significand-high}
+use Rattle.math.proofs.sqrt.SqrtScale.{shift-most, moved-high}
 use Rattle.math.proofs.sqrt.significand.Statement.{statement}
 use Rattle.math.proofs.sqrt.significand.Tie as tie
 

@@ -16,9 +16,9 @@ use lib.Ieee.Compare.{differs-from-itself}
 use denote.Floats.{passes}
 use Rattle.math.specs.Sqrt as spec
 use Rattle.math.specs.SqrtExamples.{sqrt-examples}
-use Rattle.math.proofs.SqrtNearest.{sqrt-nearest}
-use Rattle.math.proofs.SqrtOpen.{sqrtOf-is, sqrtBits-zero, sqrtBits-infinity, sqrtBits-above, nan-read}
-use Rattle.math.proofs.SqrtUnits.{le-or-lt}
+use Rattle.math.proofs.sqrt.SqrtNearest.{sqrt-nearest}
+use Rattle.math.proofs.sqrt.SqrtOpen.{sqrtOf-is, sqrtBits-zero, sqrtBits-infinity, sqrtBits-above, nan-read}
+use Rattle.math.proofs.sqrt.SqrtUnits.{le-or-lt}
 use Rattle.math.proofs.sqrt.sqrt.Statement.{statement}
 use Rattle.math.proofs.sqrt.sqrt.Tie as tie
 

@@ -4,7 +4,7 @@ use Prim.Native.Nat.{_<_}
 use native.Mathlib.Omega.{arith}
 use borrow.Author.Needs.{needs}
 use Rattle.math.specs.Sqrt as spec
-use Rattle.math.proofs.SqrtOpen.{sqrtBits-zero, sqrtBits-infinity, sqrtBits-above, sqrtBits-positive}
+use Rattle.math.proofs.sqrt.SqrtOpen.{sqrtBits-zero, sqrtBits-infinity, sqrtBits-above, sqrtBits-positive}
 use Rattle.math.proofs.sqrt.sqrt_bits.Statement.{statement}
 use Rattle.math.proofs.sqrt.sqrt_bits.Tie as tie
 

@@ -34,10 +34,10 @@ use Rattle.job.specs.Job.{Job, reads, readJob}
 use Rattle.job.specs.Progress.{edgeCount}
 use Rattle.job.specs.Buffers.{kindsOf, placesOf}
 use Rattle.job.specs.Color.{foundIn, colored}
-use Rattle.job.proofs.ProgressLaws.{contours-few, edges-few}
-use Rattle.job.proofs.StoredLaws.{lengthsOf, kinds-length, places-length}
-use Rattle.job.proofs.ColorLaws.{total-lengths}
-use Rattle.job.proofs.ListingLaws.{AreColors}
+use Rattle.job.proofs.progress.ProgressLaws.{contours-few, edges-few}
+use Rattle.job.proofs.buffers.StoredLaws.{lengthsOf, kinds-length, places-length}
+use Rattle.job.proofs.color.ColorLaws.{total-lengths}
+use Rattle.job.proofs.listing.ListingLaws.{AreColors}
 
 -- ---- lengths
 
@@ -93,7 +93,7 @@ flags-length threshold prev (e ∷ edges) = ap suc (flags-length threshold _ edg
 abbrev pub Flagged : Cornered → Type 0
 Flagged contour = length (contour .corners) ≡ length (contour .edges)
 
-pub search-flagged : (threshold : Float) (edges : List EdgeSegment) → Flagged (searchCorners threshold edges)
+search-flagged : (threshold : Float) (edges : List EdgeSegment) → Flagged (searchCorners threshold edges)
 unfolding searchCorners cornerFlags
 search-flagged threshold [] = refl
 search-flagged threshold (e ∷ edges) = flags-length threshold (direction (lastEdge e edges) f1) (e ∷ edges)
@@ -142,7 +142,7 @@ module _ (strategy : Strategy) (pen : Pen) (contour : Cornered) where
       ap (λ (x : ContourColors). length (x .colors)) (left-out (eqb (length (contour .corners)) 0) _ _ h)
       ∙ paint-length White (splineColors strategy pen contour .colors) (contour .corners)
 
-  pub contour-colored : length (colorContour strategy pen contour .colors) ≡ resultEdges (contour .corners)
+  contour-colored : length (colorContour strategy pen contour .colors) ≡ resultEdges (contour .corners)
   contour-colored = colored-by (eqb (length (contour .corners)) 0) refl
 
 -- ---- at most 508 edges: two thirds more for each of at most two edges of a split contour
@@ -187,7 +187,7 @@ edges-most contours edges out (one-not h) c e = omega arith
 
 -- ---- the whole shape
 
-pub all-colored : (strategy : Strategy) (pen : Pen) (found : List Cornered) → length (concat (map (map bitsOf) (colorContours strategy pen found))) ≡ edgesOut found
+all-colored : (strategy : Strategy) (pen : Pen) (found : List Cornered) → length (concat (map (map bitsOf) (colorContours strategy pen found))) ≡ edgesOut found
 unfolding concat colorContours total
 all-colored strategy pen [] = refl
 all-colored strategy pen (c ∷ found) =
@@ -195,7 +195,7 @@ all-colored strategy pen (c ∷ found) =
     length-append (map bitsOf (one .colors)) (concat (map (map bitsOf) (colorContours strategy (one .pen) found)))
     ∙ omega (arith, length-map (one .colors) bitsOf, contour-colored strategy pen c, all-colored strategy (one .pen) found)
 
-pub all-numbered : (first : ℕ) (found : List Cornered) → length (concat (numberContours first found)) ≡ edgesOut found
+all-numbered : (first : ℕ) (found : List Cornered) → length (concat (numberContours first found)) ≡ edgesOut found
 unfolding concat numberContours total
 all-numbered first [] = refl
 all-numbered first (c ∷ found) =
@@ -204,14 +204,14 @@ all-numbered first (c ∷ found) =
     ∙ omega (arith, paint-length noSpline (range first count) (c .corners), all-numbered (first + count) found)
 
 module _ (threshold : Float) where
-  pub all-laid-out : (contours : List (List EdgeSegment)) → length (concat (map layout (map (searchCorners threshold) contours))) ≡ edgesOut (map (searchCorners threshold) contours)
+  all-laid-out : (contours : List (List EdgeSegment)) → length (concat (map layout (map (searchCorners threshold) contours))) ≡ edgesOut (map (searchCorners threshold) contours)
   unfolding concat total
   all-laid-out [] = refl
   all-laid-out (c ∷ contours) =
       length-append (layout (searchCorners threshold c)) (concat (map layout (map (searchCorners threshold) contours)))
       ∙ omega (arith, layout-length (searchCorners threshold c) (search-flagged threshold c), all-laid-out contours)
 
-  pub all-in : (contours : List (List EdgeSegment)) → edgesIn (map (searchCorners threshold) contours) ≡ edgeCount contours
+  all-in : (contours : List (List EdgeSegment)) → edgesIn (map (searchCorners threshold) contours) ≡ edgeCount contours
   unfolding concat total
   all-in [] = refl
   all-in (c ∷ contours) = omega (arith, edges-here, search-flagged threshold c, all-in contours, length-append c (concat contours))
@@ -231,7 +231,7 @@ bits-below Magenta = omega arith
 bits-below Cyan = omega arith
 bits-below White = omega arith
 
-pub colors-map : {A : Type 0} (color : A → EdgeColor) (xs : List A) → AreColors (map (λ (x : A). bitsOf (color x)) xs)
+colors-map : {A : Type 0} (color : A → EdgeColor) (xs : List A) → AreColors (map (λ (x : A). bitsOf (color x)) xs)
 colors-map color [] i = omega arith
 colors-map color (x ∷ xs) zero = bits-below (color x)
 colors-map color (x ∷ xs) (suc i) = colors-map color xs i
@@ -241,7 +241,7 @@ colors-append [] ys h k i = k i
 colors-append (x ∷ xs) ys h k zero = h 0
 colors-append (x ∷ xs) ys h k (suc i) = colors-append xs ys (λ (j : ℕ). h (suc j)) k i
 
-pub colors-concat : (contours : List (List EdgeColor)) → AreColors (concat (map (map bitsOf) contours))
+colors-concat : (contours : List (List EdgeColor)) → AreColors (concat (map (map bitsOf) contours))
 unfolding concat
 colors-concat [] i = omega arith
 colors-concat (c ∷ contours) i = colors-append (map bitsOf c) (concat (map (map bitsOf) contours)) (colors-map (λ (x : EdgeColor). x) c) (colors-concat contours) i

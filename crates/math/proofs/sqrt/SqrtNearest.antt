@@ -7,10 +7,10 @@ use native.Mathlib.Nat.{mul-le-mul, mul-le-mul-right, mul-pos, le-antisymm, lt-o
 use native.Mathlib.Omega.{arith}
 use lib.Pow.{pow-pos}
 use Rattle.math.specs.Sqrt.{scaled, rounded, infinityPattern, nanPattern, sqrtBits}
-use Rattle.math.proofs.SqrtOpen.{positiveRoot-is, sqrtBits-above, sqrtBits-positive}
-use Rattle.math.proofs.SqrtRounded.{Within, rounded-within}
-use Rattle.math.proofs.SqrtScale.{scaled-bounds, half, square-is, normalised}
-use Rattle.math.proofs.SqrtUnits.{units, units-at, units-suc, units-mono, units-strict, ulp, le-or-lt}
+use Rattle.math.proofs.sqrt.SqrtOpen.{positiveRoot-is, sqrtBits-above, sqrtBits-positive}
+use Rattle.math.proofs.sqrt.SqrtRounded.{Within, rounded-within}
+use Rattle.math.proofs.sqrt.SqrtScale.{scaled-bounds, half, square-is, normalised}
+use Rattle.math.proofs.sqrt.SqrtUnits.{units, units-at, units-suc, units-mono, units-strict, ulp, le-or-lt}
 
 -- y is the double nearest to the square root of the double b. `units` is a pattern's value in units of 2 ^ −1074 (`units-value`), so in these
 -- units the true root is the root of units b · 2 ^ 1074, and (units y + units z) / 2 is the midpoint between y and z. Of every other z, from +0
@@ -143,7 +143,7 @@ sqrt-nearest b p h = rw (result-is b p h) (result-nearest b p h)
 -- Every other pattern of 64 digits: the two zeros and +infinity stay, and a NaN or a negative number gives the one NaN.
 pub record Special : Type 0 where
   pub zero-stays : sqrtBits 0 ≡ 0
-  pub negative-zero-stays : sqrtBits (2 ^ 63) ≡ 2 ^ 63
+  negative-zero-stays : sqrtBits (2 ^ 63) ≡ 2 ^ 63
   pub infinity-stays : sqrtBits infinityPattern ≡ infinityPattern
   pub of-nan : (b : ℕ) → infinityPattern < b → b < 2 ^ 63 → sqrtBits b ≡ nanPattern
   pub of-negative : (b : ℕ) → 2 ^ 63 < b → b < 2 ^ 64 → sqrtBits b ≡ nanPattern

@@ -158,7 +158,7 @@ fields-within k x t h = go (leb (x * 2 ^ 52 + t) ((1023 + k) * 2 ^ 52)) refl
     go true e = e ∙ sym (le-leb (unitsOf x t) (2 ^ k * 2 ^ 1074) (units-below x t k h (leb-true (x * 2 ^ 52 + t) ((1023 + k) * 2 ^ 52) e)))
     go false e = e ∙ sym (lt-leb (unitsOf x t) (2 ^ k * 2 ^ 1074) (units-above x t k h (leb-false (x * 2 ^ 52 + t) ((1023 + k) * 2 ^ 52) e)))
 
-pub pattern-within : (k b : ℕ) → k ≤ 1000 → leb (b % 9223372036854775808) ((1023 + k) * 2 ^ 52) ≡ Within k (ofBits binary64 b)
+pattern-within : (k b : ℕ) → k ≤ 1000 → leb (b % 9223372036854775808) ((1023 + k) * 2 ^ 52) ≡ Within k (ofBits binary64 b)
 unfolding ofBits
 pattern-within k b few = go (leb 2047 x) refl
   where

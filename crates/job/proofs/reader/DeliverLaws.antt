@@ -13,7 +13,7 @@ use Rattle.job.specs.Job.{Job, Reading, reads, refuses, readJob}
 use Rattle.job.specs.Progress.{numbersOf, answerOf}
 use Rattle.job.specs.Buffers.{Buffers, hasRoom, Hold}
 use Rattle.job.specs.Reader.{readInto, Delivers, Fits, filled}
-use Rattle.job.proofs.ProgressLaws.{edges-few}
+use Rattle.job.proofs.progress.ProgressLaws.{edges-few}
 
 pub record As-job (reading : Reading) (n : Numbers) : Type 0 where
   pub job : Job

@@ -7,9 +7,9 @@ use native.Mathlib.Omega.{arith}
 use lib.Dec.{ltb}
 use borrow.Author.Tests.{ltb-true, ltb-false}
 use Rattle.math.specs.Sqrt.{root, rounded}
-use Rattle.math.proofs.SqrtOpen.{rounded-is}
-use Rattle.math.proofs.RootFloor.{Floor, root-floor, floor-low, floor-high}
-use Rattle.math.proofs.SqrtScale.{Scaled}
+use Rattle.math.proofs.sqrt.SqrtOpen.{rounded-is}
+use Rattle.math.proofs.sqrt.RootFloor.{Floor, root-floor, floor-low, floor-high}
+use Rattle.math.proofs.sqrt.SqrtScale.{Scaled}
 
 pub record Within (n s : ℕ) : Type 0 where
   pub low : 2 ^ 52 ≤ s

@@ -22,10 +22,10 @@ use Rattle.job.specs.Job.{Job, withEdge, enter, Reading, reads, refuses,
 use Rattle.job.specs.Progress.{edgeCount, numbersOf, begin, advanced}
 use Rattle.job.specs.Reader.{Fits, filled}
 use Rattle.job.specs.Buffers.{Buffers, buffers, kindsOf, placesOf, kindNumber, placesFrom, stored, overEach, written, roomFor, hasRoom, Hold, Room}
-use Rattle.job.proofs.ReadingLaws.{recordMark, Taken, taken, Read-as, records-end, records-fault}
-use Rattle.job.proofs.ProgressLaws.{Reached, reached-begin, begin-job, reached-next, next-job, reached-end, reached-fault, Ready, with-edge-length, with-edge-concat, more-concat, not-closing, record-taken, is-ready, contours-are, edges-are, ahead}
-use Rattle.job.proofs.BufferLaws.{over-more, over-length, over-set, over-getD, over-part}
-use Rattle.job.proofs.StoredLaws.{lengthsOf, map-snoc, lengths-edge, last-few, kind-number, places-eight, kinds-edge, places-edge, kinds-length, places-length}
+use Rattle.job.proofs.records.ReadingLaws.{recordMark, Taken, taken, Read-as, records-end, records-fault}
+use Rattle.job.proofs.progress.ProgressLaws.{Reached, reached-begin, begin-job, reached-next, next-job, reached-end, reached-fault, Ready, with-edge-length, with-edge-concat, more-concat, not-closing, record-taken, is-ready, contours-are, edges-are, ahead}
+use Rattle.job.proofs.buffers.BufferLaws.{over-more, over-length, over-set, over-getD, over-part}
+use Rattle.job.proofs.buffers.StoredLaws.{lengthsOf, map-snoc, lengths-edge, last-few, kind-number, places-eight, kinds-edge, places-edge, kinds-length, places-length}
 
 -- ---- a job so far is a part of the whole
 
@@ -83,7 +83,7 @@ pub record Roomy (contours edges distances : ℕ) (old : Buffers) : Type 0 where
   pub places-fit : 8 * edges ≤ length (old .points)
   pub distances-fit : distances ≤ length (old .distances)
 
-pub roomy : (job : Job) (old : Buffers) → hasRoom (numbersOf job) old ≡ true → Roomy (length (job .contours)) (edgeCount (job .contours)) (length (job .distances)) old
+roomy : (job : Job) (old : Buffers) → hasRoom (numbersOf job) old ≡ true → Roomy (length (job .contours)) (edgeCount (job .contours)) (length (job .distances)) old
 unfolding roomFor
 roomy job old h =
     let l = leb (length (job .contours)) (length (old .lengths)) in
@@ -239,12 +239,12 @@ module _ (file : List ℕ) (p : Progress) (at : Reached file p) (r : Record) (re
         distances-fit = omega (arith, space .distances-fit, distances-so-far (at .job) whole (p .state) file (drop (p .at + recordSize r) file) r (t .may) (at .none-yet) still);
       })
 
-  pub room-here : Room (itemOf r) (p .state) (drop (p .at) file) (overEach (stored (at .job)) old)
+  room-here : Room (itemOf r) (p .state) (drop (p .at) file) (overEach (stored (at .job)) old)
   room-here =
       room-next (at .job) old (p .state) (drop (p .at) file) (contours-are file p at r rest e) (edges-are file p at r rest e) r rest
       (record-taken file p at r rest e) (is-ready file p at r rest e) (at .none-yet) (at .edges-fit) fitting-next
 
-  pub written-here : written (itemOf r) (p .state) (drop (p .at) file) (overEach (stored (at .job)) old) ≡ overEach (stored (enter (at .job) r)) old
+  written-here : written (itemOf r) (p .state) (drop (p .at) file) (overEach (stored (at .job)) old) ≡ overEach (stored (enter (at .job) r)) old
   written-here =
       written-next (at .job) old (p .state) (drop (p .at) file) (contours-are file p at r rest e) (edges-are file p at r rest e) r rest
       (record-taken file p at r rest e) (is-ready file p at r rest e) (at .none-yet) fitting-next

@@ -9,8 +9,8 @@ use native.Mathlib.Omega.{arith}
 use lib.Pow.{pow-add, pow-pos, pow-mono}
 use lib.Count.{leadingZeros, leading-top}
 use Rattle.math.specs.Sqrt.{shift, significand, exponent, scaled, infinityPattern}
-use Rattle.math.proofs.SqrtOpen.{shift-is, significand-low, significand-high, exponent-low, exponent-high, scaled-is}
-use Rattle.math.proofs.SqrtUnits.{units, units-low, units-high, le-or-lt}
+use Rattle.math.proofs.sqrt.SqrtOpen.{shift-is, significand-low, significand-high, exponent-low, exponent-high, scaled-is}
+use Rattle.math.proofs.sqrt.SqrtUnits.{units, units-low, units-high, le-or-lt}
 
 -- b stands for m · 2 ^ (e − 1126): in units of the smallest double, m · 2 ^ e / 2 ^ 52
 pub record Normalised (b m e : ℕ) : Type 0 where

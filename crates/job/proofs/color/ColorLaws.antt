@@ -40,9 +40,9 @@ use Rattle.job.specs.Progress.{edgeCount, numbersOf}
 use Rattle.job.specs.Buffers.{Buffers, buffers, kindsOf, placesOf, stored, overEach, roomFor, hasRoom, Hold}
 use Rattle.job.specs.Reader.{readInto, Delivers}
 use Rattle.job.specs.Color.{foundIn, checkJob, colored, colorJob, colorReading, colorFile, isPassed, acceptedReading, accepted, noOther, outlineOf, colorStored, HoldsJobs}
-use Rattle.job.proofs.ReadingLaws.{edgeFits}
-use Rattle.job.proofs.ProgressLaws.{Sound, job-sound, contours-few, edges-few}
-use Rattle.job.proofs.StoredLaws.{lengthsOf, kinds-length, places-length}
+use Rattle.job.proofs.records.ReadingLaws.{edgeFits}
+use Rattle.job.proofs.progress.ProgressLaws.{Sound, job-sound, contours-few, edges-few}
+use Rattle.job.proofs.buffers.StoredLaws.{lengthsOf, kinds-length, places-length}
 
 -- ---- the buffers hold the contours
 
@@ -129,7 +129,7 @@ module _ (job : Job) (so : Sound job) (contours-fit : length (job .contours) ≤
     unfolding stored
     stored-is = refl
 
-    pub stored-colored : colorStored (job .strategy) (job .seed) (job .threshold) (stored job) old ≡ colorJob job old
+    stored-colored : colorStored (job .strategy) (job .seed) (job .threshold) (stored job) old ≡ colorJob job old
     unfolding colorStored colorJob checkJob colored
     stored-colored = rw (stored-is, by-colors Simple, by-colors InkTrap, by-numbers) (go (eqb (job .strategy) 1) (eqb (job .strategy) 2) _ _ _ _)
       where

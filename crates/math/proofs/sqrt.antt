@@ -1,4 +1,4 @@
--- The laws behind the proofs.
+-- Laws on the square root, and the theorems that it is the nearest double: on patterns and on values.
 pub mod RootFloor
 pub mod SqrtNearest
 mod SqrtOpen

@@ -22,8 +22,8 @@ use Rattle.job.specs.declared.progress.Progress.{Progress}
 use Rattle.job.specs.Records.{Record, header, contour, edge, distances, Step, next, ends, fails, atStart, kindOf, inside, among, closing, byDistance, allowed, fits, start, recordSize, itemOf, readRecord, after, _then_, recordsFrom}
 use Rattle.job.specs.Job.{Job, noJob, withEdge, enter, reads, refuses, jobFrom, readJob}
 use Rattle.job.specs.Progress.{edgeCount, begin, itemSize, advanced, numbersAt, numbersOf, Counts}
-use Rattle.job.proofs.RecordLaws.{controls-few}
-use Rattle.job.proofs.ReadingLaws.{recordMark, Held, edgeFits, InRange, end-size, Taken, taken, size-some, records-next, records-end, records-fault}
+use Rattle.job.proofs.records.RecordLaws.{controls-few}
+use Rattle.job.proofs.records.ReadingLaws.{recordMark, Held, edgeFits, InRange, end-size, Taken, taken, size-some, records-next, records-end, records-fault}
 
 -- ---- an edge more in the last contour
 
@@ -371,7 +371,7 @@ ends-within (suc n) file job p at h e =
     (λ r rest f. ends-within n file job (advanced p (itemOf r)) (reached-next file p at r rest f) (omega (arith, further file p at r rest f, reached-next file p at r rest f .within)) e)
     (readRecord (p .state) (drop (p .at) file)) refl
 
-pub ends-at : (file : List ℕ) (job : Job) → readJob file ≡ reads job → Ends-at file job
+ends-at : (file : List ℕ) (job : Job) → readJob file ≡ reads job → Ends-at file job
 ends-at file job e = ends-within (length file) file job begin (reached-begin file) (omega arith) e
 
 -- a job that is read keeps to the maxima

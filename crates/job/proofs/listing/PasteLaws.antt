@@ -24,7 +24,7 @@ pasted-twice at a b out h =
     rw (← append-assoc (take at out) a rest, take-at (take at out ++ a) rest (at + length a) front, ← drop-drop (length b) (at + length a) ((take at out ++ a) ++ rest), drop-at (take at out ++ a) rest (at + length a) front, drop-drop (length b) (at + length a) out, sum)
     (append-assoc (take at out) a (b ++ drop (at + length a + length b) out) ∙ ap (λ (x : List ℕ). take at out ++ x) (sym (append-assoc a b (drop (at + length a + length b) out))))
 
-pub pasted-kept : {text old new : List ℕ} {at next : ℕ} → Pasted text at old next new → at + length text ≤ length old → length new ≡ length old
+pasted-kept : {text old new : List ℕ} {at next : ℕ} → Pasted text at old next new → at + length text ≤ length old → length new ≡ length old
 pasted-kept {text = text} {old = old} {at = at} p h = ap length (p .holds) ∙ pasted-length at text old h
 
 -- a text at the start of a buffer

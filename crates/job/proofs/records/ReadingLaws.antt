@@ -29,8 +29,8 @@ use Rattle.job.specs.declared.records.Item.{Item}
 use Rattle.job.specs.declared.records.Found.the-variants as found
 use Rattle.job.specs.Patterns.{number, words, floats, all, isThreshold, isCoordinate, isDistance}
 use Rattle.job.specs.Records.{Record, header, contour, edge, distances, Step, next, ends, fails, require, knownStrategy, controls, bodySize, allowed, fits, kindOf, edgeOf, recordSize, itemOf, foundOf, markOf, readHeader, readEdge, readDistances, readEnd, readBody, readMarked, readRecord, after, Records, complete, fault, _then_, recordsWithin, recordsFrom}
-use Rattle.job.proofs.PatternLaws.{floats-length}
-use Rattle.job.proofs.PatternMeaning.{threshold-means, coordinate-means}
+use Rattle.job.proofs.patterns.PatternLaws.{floats-length}
+use Rattle.job.proofs.patterns.PatternMeaning.{threshold-means, coordinate-means}
 
 -- ---- a record that was read
 

@@ -17,9 +17,9 @@ use borrow.Author.Tests.{ltb-true, leb-false, eqb-false}
 use Rattle.math.specs.Scalar.{f0}
 use Rattle.math.specs.Sqrt.{infinityPattern, nanPattern, sqrtBits, sqrtOf}
 use Rattle.math.specs.SqrtExamples.{sqrt-examples}
-use Rattle.math.proofs.SqrtNearest.{Nearest, sqrt-nearest}
-use Rattle.math.proofs.SqrtOpen.{sqrtOf-is, sqrtBits-above, nan-read}
-use Rattle.math.proofs.SqrtUnits.{units, units-low, units-mono, units-strict, units-value}
+use Rattle.math.proofs.sqrt.SqrtNearest.{Nearest, sqrt-nearest}
+use Rattle.math.proofs.sqrt.SqrtOpen.{sqrtOf-is, sqrtBits-above, nan-read}
+use Rattle.math.proofs.sqrt.SqrtUnits.{units, units-low, units-mono, units-strict, units-value}
 
 -- ---- the claims
 

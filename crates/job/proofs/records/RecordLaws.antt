@@ -20,7 +20,7 @@ use borrow.Author.Tests.{le-leb}
 use Rattle.job.specs.declared.records.Item.the-variants as item
 use Rattle.job.specs.Patterns.{number, words, floats, all, isThreshold, isCoordinate}
 use Rattle.job.specs.Records.{Record, header, edge, next, fails, require, knownStrategy, controls, allowed, fits, bodySize, markOf, readBody, readMarked, readRecord, foundOf, readHeader, readEdge, readEnd, kindOf, edgeOf}
-use Rattle.job.proofs.PatternLaws.{threshold-back}
+use Rattle.job.proofs.patterns.PatternLaws.{threshold-back}
 
 -- ---- what is found does not turn on the bytes after a record
 

@@ -16,8 +16,8 @@ use Rattle.job.specs.Records.{ends, fails, itemOf, readRecord, recordsFr
 use Rattle.job.specs.Progress.{begin, advanced}
 use Rattle.job.specs.Color.{accepted}
 use Rattle.job.specs.Part.{sought, spanOf, seek, contourSpan, contourPlace, contourPart, Inside}
-use Rattle.job.proofs.ReadingLaws.{Read-as, records-end, records-fault}
-use Rattle.job.proofs.ProgressLaws.{Reached, reached-begin, reached-next, records-ahead, place-after, further}
+use Rattle.job.proofs.records.ReadingLaws.{Read-as, records-end, records-fault}
+use Rattle.job.proofs.progress.ProgressLaws.{Reached, reached-begin, reached-next, records-ahead, place-after, further}
 
 -- what was found lies before a place
 abbrev Before : Seek → ℕ → Type 0
@@ -38,7 +38,7 @@ before-next (Open from) at next Contour h b = (b, h)
 before-next (Open from) at next (Distances count) h b = (b, h)
 before-next (Done span) at next item h b = (b .0, omega (arith, b .1))
 
-pub before-inside : (q : Seek) (at size : ℕ) → at ≤ size → Before q at → Inside (spanOf q at) size
+before-inside : (q : Seek) (at size : ℕ) → at ≤ size → Before q at → Inside (spanOf q at) size
 before-inside (Passing left) at size h b = record { ordered = omega arith; within = omega arith }
 before-inside (Open from) at size h b = record { ordered = b; within = h }
 before-inside (Done span) at size h b = record { ordered = b .0; within = omega (arith, b .1) }

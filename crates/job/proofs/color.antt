@@ -1,0 +1,3 @@
+-- Laws on the colouring of a job that was read, and the sizes of its coloured shape.
+pub mod ColorLaws
+pub mod ShapeLaws

@@ -1,0 +1,2 @@
+-- Laws on the search for a contour.
+pub mod PartLaws

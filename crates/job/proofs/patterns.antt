@@ -1,0 +1,3 @@
+-- Laws on numbers and bit patterns, and what the tests of patterns mean of the floats.
+pub mod PatternLaws
+pub mod PatternMeaning

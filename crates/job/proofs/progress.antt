@@ -1,0 +1,2 @@
+-- Laws on how far a file is read.
+pub mod ProgressLaws
