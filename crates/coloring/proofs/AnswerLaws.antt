@@ -2,7 +2,7 @@
 -- the values.
 use Prim.Native.Nat.{ℕ, _*_}
 use mathlib.Core.Path.{_≡_, refl}
-use mathlib.Core.Bool.{Bool, true, false, not, _&&_}
+use mathlib.Core.Bool.{not, _&&_}
 use mathlib.Core.List.{List, [], _∷_, _++_, map}
 use lib.ListN.{length}
 use lib.Dec.{leb, ltb, eqb}
@@ -18,7 +18,7 @@ use Rattle.coloring.specs.declared.outline.Checked.the-variants.{Passed,
 use Rattle.coloring.specs.Refusal.{refusalNumber}
 use Rattle.coloring.specs.Answers.{Answer, values, refusal, Check, unless, firstOf, offerAnswer, coloredAnswer, checkedAnswer, distanceChecks, told-require, told-distances, told-after, told-refused, told-passed}
 use Rattle.coloring.specs.Places.{total}
-use Rattle.coloring.specs.Outline.{Outline, Result, contours, all, knownKind, between, coordinatesFit, maxContours, maxEdges, require, andThen, check, fits}
+use Rattle.coloring.specs.Outline.{Outline, Result, contours, all, knownKind, between, coordinatesFit, maxContours, maxEdges, andThen, check, fits}
 use Rattle.coloring.specs.Shape.{painted, countsOf}
 use Rattle.coloring.specs.Corners.{Cornered, searchCorners}
 use Rattle.coloring.specs.Splines.{splineTotal}
@@ -26,7 +26,7 @@ use Rattle.coloring.specs.EdgeColoring.{edgeColoring}
 use Rattle.coloring.specs.SplineColors.{colorSplines}
 use Rattle.coloring.specs.ByDistance.{maxSplines, maxDistances, checkSplines, checkDistances, splineByte, withBytes, collectSplines, edgeColoringByDistance}
 use Rattle.coloring.specs.SplineTable.{Table, sound, tryAddEdge, offer}
-use Rattle.coloring.proofs.Bools.{split}
+use Rattle.coloring.specs.Bools.{split}
 
 -- ---- an offer: 4, 8, 10
 

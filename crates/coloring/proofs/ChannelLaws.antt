@@ -5,7 +5,7 @@ use mathlib.Core.Bool.{Bool, _&&_}
 use mathlib.Core.Path.{_≡_}
 use native.Mathlib.Omega.{arith}
 use lib.Bits.{bitAnd, bitXor, and-mask, xor-add-and}
-use lib.Dec.{T, eqb, ltb, eqb→eq, ltb→lt}
+use lib.Dec.{T, eqb, eqb→eq}
 use lib.Ieee.Fits.{and-l, and-r}
 use Rattle.geometry.specs.EdgeColor.{bitsOf}
 use Rattle.geometry.specs.declared.edge_color.EdgeColor.{EdgeColor}
@@ -33,9 +33,6 @@ at-color test p c =
       | Cyan ↦ and-l (test Cyan) _ p6
       | White ↦ and-r (test Cyan) _ p6
     ]
-
-pub bits-below : (c : EdgeColor) → bitsOf c < 8
-bits-below c = ltb→lt (bitsOf c) 8 (at-color (λ c. ltb (bitsOf c) 8) tt c)
 
 abbrev sameShared : EdgeColor → EdgeColor → Bool
 unfolding shared

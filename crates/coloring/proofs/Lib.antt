@@ -1,5 +1,4 @@
 -- Laws that the proofs of several modules share, and a theorem about the definitions.
-pub mod Bools
 pub mod Lists
 pub mod Places
 pub mod Writing

@@ -5,9 +5,9 @@ use Prim.Native.Nat.{ℕ, zero, suc, _+_, _≤_, _<_}
 use native.Mathlib.Nat.{zero-add}
 use native.Mathlib.Numerals.{add-one}
 use native.Mathlib.Omega.{arith}
-use lib.ListN.{length, take, drop, getD, length-append, length-map, drop-of-length-le, List·getD-map}
+use lib.ListN.{length, take, drop, getD, length-map, drop-of-length-le, List·getD-map}
 use lib.Seq.{take-nil, take-length, drop-cons}
-use Rattle.coloring.specs.Places.{concat, total}
+use Rattle.coloring.specs.Places.{concat}
 
 module _ {A : Type 0} where
   -- below the length the default does not matter
@@ -53,11 +53,6 @@ module _ {A : Type 0} where
   unfolding concat
   concat-append [] ys = refl
   concat-append (x ∷ xs) ys = rw (concat-append xs ys, append-assoc)
-
-  pub concat-length : (xss : List (List A)) → length (concat xss) ≡ total (map (λ (xs : List A). length xs) xss)
-  unfolding concat total
-  concat-length [] = refl
-  concat-length (xs ∷ xss) = length-append xs (concat xss) ∙ ap (λ n. length xs + n) (concat-length xss)
 
 module _ {A B : Type 0} (f : A → B) where
   pub getD-mapped : (xs : List A) (i : ℕ) (d : A) (e : B) → i < length xs → getD (map f xs) i e ≡ f (getD xs i d)

@@ -1,22 +1,18 @@
 -- Places of a contour in walking order, from a start and around: ranges, rotated lists, and a list that is written place by place in that order.
 use Prim.Native.Nat.{ℕ, zero, suc, _+_, _-_, _%_, _≤_, _<_}
-use mathlib.Core.Path.{_≡_, refl, sym, ap, _∙_}
+use mathlib.Core.Path.{_≡_, sym, ap, _∙_}
 use mathlib.Core.Logic.{_⊎_, inl, inr, ⊎-elim}
 use mathlib.Core.List.{List, [], _∷_, _++_, map, map-append}
 use native.Mathlib.Nat.{mod-lt, mod-eq-of-lt, mod-eq-sub-mod, add-zero, add-suc, suc-add}
 use native.Mathlib.Decide.{decLt}
 use native.Mathlib.Omega.{arith}
-use lib.ListN.{length, getD, take, drop, set, length-append, length-take, length-drop, length-map, length-set, List·getD-append}
+use lib.ListN.{length, getD, take, drop, set, length-drop, length-map, length-set, List·getD-append}
 use lib.Seq.{getD-take, getD-drop, getD-append-add, getD-set-same, getD-set-other, ext-getD}
 use Rattle.coloring.specs.Places.{range, rotate, byPlace}
+use Rattle.coloring.specs.Sizes.{length-byPlace}
 use Rattle.coloring.proofs.Lists.{map-take, map-drop}
 
 -- ---- ranges
-
-pub length-range : (i k : ℕ) → length (range i k) ≡ k
-unfolding range
-length-range i zero = refl
-length-range i (suc k) = ap suc (length-range (suc i) k)
 
 pub getD-range : (i k j d : ℕ) → j < k → getD (range i k) j d ≡ i + j
 unfolding range
@@ -70,10 +66,6 @@ place-back start k m s h =
 -- ---- rotated lists
 
 module _ {A : Type 0} where
-  pub length-rotate : (k : ℕ) (xs : List A) → length (rotate k xs) ≡ length xs
-  unfolding rotate
-  length-rotate k xs = simp (length-append, length-drop, length-take) (omega arith)
-
   pub getD-rotate : (start : ℕ) (xs : List A) (k : ℕ) (d : A) → start ≤ length xs → k < length xs → getD (rotate start xs) k d ≡ getD xs ((start + k) % length xs) d
   unfolding rotate
   getD-rotate start xs k d s h = ⊎-elim near around (place-cases start k (length xs) s h)
@@ -90,10 +82,6 @@ module _ {A : Type 0} where
           ∙ getD-append-add (drop start xs) (take start xs) (start + k - length xs) d
           ∙ getD-take start xs (start + k - length xs) d (omega arith)
           ∙ ap (λ (p : ℕ). getD xs p d) (sym (a .1))
-
-  pub length-byPlace : (start : ℕ) (xs : List A) → length (byPlace start xs) ≡ length xs
-  unfolding byPlace
-  length-byPlace start xs = length-rotate (length xs - start) xs
 
   getD-byPlace : (start : ℕ) (xs : List A) (k : ℕ) (d : A) → start ≤ length xs → k < length xs → getD (byPlace start xs) ((start + k) % length xs) d ≡ getD xs k d
   unfolding byPlace

@@ -31,7 +31,7 @@ square-edges = (refl, refl)
 
 -- refutes one that numbers each contour from 0, or gives the White edge of a teardrop a spline: a teardrop of three edges and then a smooth contour
 pub numbers-go-on :
-    numberContours 0 (record { edges = []; corners = true ∷ false ∷ false ∷ [] } ∷ record { edges = []; corners = false ∷ false ∷ [] } ∷ [])
+    numberContours 0 ((true ∷ false ∷ false ∷ []) ∷ (false ∷ false ∷ []) ∷ [])
     ≡ ((0 ∷ 255 ∷ 1 ∷ []) ∷ (2 ∷ 2 ∷ []) ∷ [])
 unfolding numberContours cornerCount firstCorner
 numbers-go-on = refl

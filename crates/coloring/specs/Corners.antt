@@ -2,7 +2,7 @@
 use Prim.Native.Nat.{ℕ, suc}
 use mathlib.Core.Path.{_≡_, refl}
 use mathlib.Core.Bool.{Bool, true, false, _||_}
-use mathlib.Core.List.{List, [], _∷_}
+use mathlib.Core.List.{List, [], _∷_, map}
 use lib.ListN.{length, getD, take, drop}
 use lib.IntN.{negsuc}
 use lib.Ieee as Ieee
@@ -98,6 +98,10 @@ pub record Cornered : Type 0 where
 unfoldable pub searchCorners : Float → List EdgeSegment → Cornered
 unfolding cornerFlags
 searchCorners threshold edges = record { edges = edges; corners = cornerFlags threshold edges }
+
+-- the flags of several contours
+abbrev pub flagsOf : List Cornered → List (List Bool)
+flagsOf found = map (λ (contour : Cornered). contour .corners) found
 
 -- edges and flags of several contours, cut into pieces of the given lengths
 unfoldable pub cornered : List ℕ → List EdgeSegment → List Bool → List Cornered

@@ -26,6 +26,9 @@ pub mod Outline
 pub mod Shape
 pub mod EdgeColoring
 pub mod ByDistance
+-- laws that crates above cite too: truth values, and how long the parts of a result are
+pub mod Bools
+pub mod Sizes
 -- the answers in document 01's numbers
 pub mod Answers
 -- worked examples

@@ -13,7 +13,7 @@ use Rattle.coloring.specs.declared.outline.Counts.{Counts}
 use Rattle.coloring.specs.declared.outline.Checked.{Checked}
 use Rattle.coloring.specs.Places.{range, total}
 use Rattle.coloring.specs.Switching.{initColor}
-use Rattle.coloring.specs.Corners.{Cornered}
+use Rattle.coloring.specs.Corners.{Cornered, flagsOf}
 use Rattle.coloring.specs.Layout.{layout}
 use Rattle.coloring.specs.Splines.{splineCount, splineTotal, paint}
 use Rattle.coloring.specs.Contour.{colorContour}
@@ -31,18 +31,18 @@ colorContours strategy pen (contour ∷ rest) =
 unfoldable pub noSpline : ℕ
 noSpline = 255
 
--- the numbers: those of each contour's splines follow those of the one before
-unfoldable pub numberContours : ℕ → List Cornered → List (List ℕ)
+-- the numbers, by the flags of the contours: those of each contour's splines follow those of the one before
+unfoldable pub numberContours : ℕ → List (List Bool) → List (List ℕ)
 unfolding range splineCount paint noSpline
 numberContours first [] = []
-numberContours first (contour ∷ rest) =
-    let count = splineCount (contour .corners) in
-    paint noSpline (range first count) (contour .corners) ∷ numberContours (first + count) rest
+numberContours first (flags ∷ rest) =
+    let count = splineCount flags in
+    paint noSpline (range first count) flags ∷ numberContours (first + count) rest
 
 unfoldable pub markContours : Marking → List Cornered → List (List ℕ)
 unfolding initColor colorContours numberContours
 markContours (Colors strategy seed) found = map (map bitsOf) (colorContours strategy (initColor seed) found)
-markContours Numbers found = numberContours 0 found
+markContours Numbers found = numberContours 0 (flagsOf found)
 
 -- the result of contours with their corners
 unfoldable pub painted : Marking → List Cornered → Result
@@ -60,14 +60,6 @@ deliverFound checked marking found old =
     deliver checked (countsOf found written) written old
 
 -- ---- what the functions behind it ask of each other
-
--- the numbers by the flags of contours alone
-unfoldable pub numberFlags : ℕ → List (List Bool) → List (List ℕ)
-unfolding range splineCount paint noSpline
-numberFlags first [] = []
-numberFlags first (flags ∷ rest) =
-    let count = splineCount flags in
-    paint noSpline (range first count) flags ∷ numberFlags (first + count) rest
 
 -- numbers are given to at most 64 splines
 abbrev pub Markable : Marking → List ℕ → List Bool → Type 0

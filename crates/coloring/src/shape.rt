@@ -27,7 +27,7 @@ ghost use Rattle.coloring.specs.Layout.{resultEdges};
 ghost use Rattle.coloring.specs.Splines.{splineCount, paint};
 ghost use Rattle.coloring.specs.Contour.{colorContour, PaintedFrom};
 ghost use Rattle.coloring.specs.Outline.{edgesOf, cut, result, outcome, over, overFrom, Matching, Part, part};
-ghost use Rattle.coloring.specs.Shape.{colorContours, noSpline, numberFlags, markContours, deliverFound, Markable};
+ghost use Rattle.coloring.specs.Shape.{colorContours, noSpline, numberContours, markContours, deliverFound, Markable};
 
 // ---- colours
 
@@ -153,7 +153,7 @@ fn number_part(
 fn number_contours(lengths: &[u16], flags: &[bool], out: &mut [u8])
     requires { ⌜ (total (now lengths) ≡ length (now flags)) × (length (now flags) ≤ 256) × (total (map splineCount (cut (now lengths) (now flags))) ≤ 64) ⌝ }
     requires { ⌜ total (map resultEdges (cut (now lengths) (now flags))) ≤ length (now out) ⌝ }
-    ensures { λ _. ⌜ now (out .exit) ≡ over (concat (numberFlags 0 (cut (now (lengths .entry)) (now (flags .entry))))) (now (out .entry)) ⌝ }
+    ensures { λ _. ⌜ now (out .exit) ≡ over (concat (numberContours 0 (cut (now (lengths .entry)) (now (flags .entry))))) (now (out .entry)) ⌝ }
 {
     let mut first: usize = 0;
     let mut at: usize = 0;

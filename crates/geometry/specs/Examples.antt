@@ -4,7 +4,6 @@ use mathlib.Core.Bool.{true, false}
 use lib.IntN.{pos, negsuc}
 use lib.Ieee as Ieee
 use lib.Ieee.{Float, fin}
-use Rattle.math.specs.declared.vector2.Vector2.{Vector2}
 use Rattle.math.specs.Sqrt.{sqrtOf}
 use Rattle.math.specs.Vector2.{new, add, mulScalar, divScalar, squaredLength, lengthOf, normalize}
 use Rattle.geometry.specs.declared.edge_segment.EdgeSegment.the-variants.{Line}

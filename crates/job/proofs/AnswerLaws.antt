@@ -1,13 +1,14 @@
 -- What reading and colouring a file give where every result has room: the answer, and the text.
 use mathlib.Core.Path.{_≡_, refl, sym, ap, _∙_}
 use mathlib.Core.Bool.{Bool, true, false, cond}
-use mathlib.Core.List.{List}
+use mathlib.Core.List.{List, map}
 use Prim.Native.Nat.{ℕ, _≤_, _<_}
 use native.Mathlib.Omega.{arith}
 use lib.Dec.{leb}
-use lib.ListN.{length, take, drop, length-append}
+use lib.ListN.{length, take, drop, length-append, length-map}
 use lib.Seq.{take-at}
 use borrow.Author.Tests.{le-leb, lt-leb}
+use Rattle.geometry.specs.declared.edge_segment.EdgeSegment.{EdgeSegment}
 use Rattle.coloring.specs.declared.outline.Checked.{Checked}
 use Rattle.coloring.specs.declared.outline.Checked.the-variants.{Passed, Failed}
 use Rattle.coloring.specs.declared.outline.Counts.{Counts}
@@ -15,15 +16,17 @@ use Rattle.coloring.specs.declared.outline.Colored.the-variants.{Edges, Refused
 use Rattle.coloring.specs.declared.refusal.Refusal.{Refusal}
 use Rattle.coloring.specs.declared.refusal.Refusal.the-variants.{Truncated, UnknownMark, MisplacedMark, TooMany, UnknownKind, BadThreshold, BadCoordinate, LengthMismatch, BadDistance, BadTable, ResultTooShort}
 use Rattle.coloring.specs.Refusal.{refusalNumber}
-use Rattle.coloring.specs.Places.{total}
-use Rattle.coloring.specs.Outline.{Result, Outcome, outcome, over, fits, delivered, deliver}
+use Rattle.coloring.specs.Places.{concat, total}
+use Rattle.coloring.specs.Sizes.{sizes, sizes-map, concat-length}
+use Rattle.coloring.specs.Outline.{kindOf, cut, encode, Result, Outcome, outcome, over, fits, delivered, deliver}
 use Rattle.coloring.specs.Shape.{countsOf}
 use Rattle.job.specs.Job.{Job, Reading, reads, refuses, readJob}
-use Rattle.job.specs.Color.{foundIn, checkJob, colored, colorJob, colorReading, colorFile, answered, checkReading, checkFile, HoldsResults}
+use Rattle.job.specs.Color.{foundIn, checkJob, edgesOf, colorsOf, colored, colorJob, colorReading, colorFile, answered, checkReading, checkFile, HoldsResults}
 use Rattle.job.specs.declared.listing.Listed.the-variants as listed
 use Rattle.job.specs.Listing as list
 use Rattle.job.specs.Listing.{listing, refusalLine, checkedText, readingText, fileText, listFile, contourCount}
 use Rattle.job.proofs.listing.ListingLaws.{listing-few, refusal-few}
+use Rattle.job.proofs.color.ColorLaws.{cut-again, map-concat}
 use Rattle.job.proofs.color.ShapeLaws.{ShapeOf, shape-of}
 
 -- ---- the text is at most 5,598 bytes long
@@ -51,8 +54,13 @@ text-few file = go (readJob file) refl
     go : (reading : Reading) → readJob file ≡ reading → length (readingText reading) ≤ 5598
     go (reads job) e = of (checkJob job)
       where
-        of : (k : Checked) → length (checkedText k (colored job)) ≤ 5598
-        of Passed = let s = shape-of file job e in listing-few (colored job .lengths) (colored job .kinds) (colored job .colors) (s .contours-fit) (s .edges-fit) (s .are-colors)
+        s : ShapeOf job
+        s = shape-of job file e
+
+        of : (k : Checked) → length (checkedText k (edgesOf job) (colorsOf job)) ≤ 5598
+        of Passed =
+            listing-few (map (map kindOf) (edgesOf job)) (colorsOf job) (omega (arith, length-map (edgesOf job) (map kindOf), s .contours-fit))
+            (omega (arith, ap length (map-concat kindOf (edgesOf job)), length-map (concat (edgesOf job)) kindOf, s .edges-fit)) (s .are-colors)
         of (Failed refusal) = refusal-short refusal
     go (refuses refusal) e = refusal-short refusal
 
@@ -65,7 +73,8 @@ pub record Front (file : List ℕ) (contours edges : ℕ) (new : Result) : Type 
   pub colors-within : edges ≤ length (new .colors)
   pub listable : (length (take contours (new .lengths)) < 1000) × (length (take edges (new .kinds)) < 1000)
       × (total (take contours (new .lengths)) ≡ length (take edges (new .kinds))) × (length (take edges (new .colors)) ≡ length (take edges (new .kinds)))
-  pub text : fileText file ≡ listing (take contours (new .lengths)) (take edges (new .kinds)) (take edges (new .colors))
+  pub text : fileText file
+      ≡ listing (cut (take contours (new .lengths)) (take edges (new .kinds))) (cut (take contours (new .lengths)) (take edges (new .colors)))
 
 take-over : {A : Type 0} {n : ℕ} {new : List A} (xs ys : List A) → new ≡ over xs ys → n ≡ length xs → take n new ≡ xs
 unfolding over
@@ -75,33 +84,48 @@ within-over : {A : Type 0} {n : ℕ} {new : List A} (xs ys : List A) → new ≡
 unfolding over
 within-over xs ys e h = rw e (omega (arith, h, length-append xs (drop (length xs) ys)))
 
-front-of : (file : List ℕ) (contours edges : ℕ) (job : Job) (shape old new : Result) → ShapeOf job shape → contours ≡ length (shape .lengths) → edges ≡ length (shape .kinds)
-    → new .lengths ≡ over (shape .lengths) (old .lengths) → new .kinds ≡ over (shape .kinds) (old .kinds) → new .colors ≡ over (shape .colors) (old .colors)
-    → fileText file ≡ listing (shape .lengths) (shape .kinds) (shape .colors) → Front file contours edges new
-front-of file contours edges job shape old new s c e l k m text =
-    let colors : edges ≡ length (shape .colors) = e ∙ sym (s .marked) in
-    let l-is = take-over (shape .lengths) (old .lengths) l c in
-    let k-is = take-over (shape .kinds) (old .kinds) k e in
+-- what is stored of a shape is cut into its contours again
+stored-listing : (edges : List (List EdgeSegment)) (colors : List (List ℕ)) → sizes colors ≡ sizes edges
+    → listing (map (map kindOf) edges) colors ≡ listing (cut (sizes edges) (map kindOf (concat edges))) (cut (sizes edges) (concat colors))
+stored-listing edges colors e =
+    let kinds : cut (sizes edges) (map kindOf (concat edges)) ≡ map (map kindOf) edges =
+    rw (map-concat kindOf edges, ← sizes-map kindOf edges) (cut-again (map (map kindOf) edges)) in
+    let bytes : cut (sizes edges) (concat colors) ≡ colors = rw (← e) (cut-again colors) in
+    rw (kinds, bytes)
+
+front-of : (file : List ℕ) (contours edges : ℕ) (job : Job) (old new : Result) → ShapeOf job → contours ≡ length (edgesOf job) → edges ≡ length (concat (edgesOf job))
+    → new .lengths ≡ over (colored job .lengths) (old .lengths) → new .kinds ≡ over (colored job .kinds) (old .kinds) → new .colors ≡ over (colored job .colors) (old .colors)
+    → fileText file ≡ listing (map (map kindOf) (edgesOf job)) (colorsOf job) → Front file contours edges new
+unfolding colored encode
+front-of file contours edges job old new s c e l k m text =
+    let shape = colored job in
+    let kinds : edges ≡ length (shape .kinds) = e ∙ sym (s .sized .kinds-long) in
+    let colors : edges ≡ length (shape .colors) = e ∙ sym (s .sized .colors-long) in
+    let lengths : contours ≡ length (shape .lengths) = c ∙ sym (s .sized .lengths-long) in
+    let l-is = take-over (shape .lengths) (old .lengths) l lengths in
+    let k-is = take-over (shape .kinds) (old .kinds) k kinds in
     let m-is = take-over (shape .colors) (old .colors) m colors in
+    let sum : total (shape .lengths) ≡ length (shape .kinds) = sym (concat-length (edgesOf job)) ∙ sym (s .sized .kinds-long) in
     record {
-      lengths-within = within-over (shape .lengths) (old .lengths) l c;
-      kinds-within = within-over (shape .kinds) (old .kinds) k e;
+      lengths-within = within-over (shape .lengths) (old .lengths) l lengths;
+      kinds-within = within-over (shape .kinds) (old .kinds) k kinds;
       colors-within = within-over (shape .colors) (old .colors) m colors;
-      listable = rw (l-is, k-is, m-is) (omega (arith, s .contours-fit), omega (arith, s .edges-fit), s .edges-add, s .marked);
-      text = rw (l-is, k-is, m-is) text;
+      listable = rw (l-is, k-is, m-is) (omega (arith, s .sized .lengths-long, s .contours-fit), omega (arith, s .sized .kinds-long, s .edges-fit), sum, s .sized .colors-long ∙ sym (s .sized .kinds-long));
+      text = rw (l-is, k-is, m-is) (text ∙ stored-listing (edgesOf job) (colorsOf job) (s .marked));
     }
 
 module _ (file : List ℕ) (old : Result) (room : HoldsResults old) where
   fits-all : (job : Job) → readJob file ≡ reads job → fits (colored job) old ≡ true
   unfolding fits
   fits-all job e =
-      let s = shape-of file job e in
+      let s = shape-of job file e in
+      let long = s .sized in
       let shape = colored job in
       rw (
-        le-leb (length (shape .lengths)) (length (old .lengths)) (omega (arith, s .contours-fit, room .lengths-fit)),
-        le-leb (length (shape .kinds)) (length (old .kinds)) (omega (arith, s .edges-fit, room .kinds-fit)),
-        le-leb (length (shape .points)) (length (old .points)) (omega (arith, s .places, s .edges-fit, room .points-fit)),
-        le-leb (length (shape .colors)) (length (old .colors)) (omega (arith, s .marked, s .edges-fit, room .colors-fit)),
+        le-leb (length (shape .lengths)) (length (old .lengths)) (omega (arith, long .lengths-long, s .contours-fit, room .lengths-fit)),
+        le-leb (length (shape .kinds)) (length (old .kinds)) (omega (arith, long .kinds-long, s .edges-fit, room .kinds-fit)),
+        le-leb (length (shape .points)) (length (old .points)) (omega (arith, long .points-long, s .edges-fit, room .points-fit)),
+        le-leb (length (shape .colors)) (length (old .colors)) (omega (arith, long .colors-long, s .edges-fit, room .colors-fit)),
       )
 
   pub color-answer : colorFile file old .answer ≡ checkFile file
@@ -128,11 +152,11 @@ module _ (file : List ℕ) (old : Result) (room : HoldsResults old) where
           of : (k : Checked) → checkJob job ≡ k → outcome (Edges counts) new ≡ deliver k (countsOf (foundIn job) (colored job)) (colored job) old
               → Front file contours (counts .edges) new
           of Passed p same =
-              let s = shape-of file job e in
+              let s = shape-of job file e in
               let given = rw (fits-all job e) at same in
               let answer = ap (λ (o : Outcome). o .answer) given in
               let edges : counts .edges ≡ length (colored job .kinds) = cc in
-              front-of file contours (counts .edges) job (colored job) old new s (c ∙ sym (s .contours-are)) edges
+              front-of file contours (counts .edges) job old new s (c ∙ sym (s .contours-are)) (edges ∙ s .sized .kinds-long)
               (ap (λ (o : Outcome). o .buffers .lengths) given) (ap (λ (o : Outcome). o .buffers .kinds) given) (ap (λ (o : Outcome). o .buffers .colors) given) (rw (e, p))
           of (Failed refusal) p same = let no = ap (λ (o : Outcome). o .answer) same in let z : _≡_ {A = ℕ} 0 1 = cc in absurd (omega arith)
       go (refuses refusal) e c same = let no = ap (λ (o : Outcome). o .answer) same in let z : _≡_ {A = ℕ} 0 1 = cc in absurd (omega arith)
@@ -144,7 +168,7 @@ module _ (file : List ℕ) (old : Result) (room : HoldsResults old) where
       go : (reading : Reading) → readJob file ≡ reading → outcome (Refused refusal) new ≡ colorReading reading old → readingText reading ≡ refusalLine refusal
       go (reads job) e same = of (checkJob job) same
         where
-          of : (k : Checked) → outcome (Refused refusal) new ≡ deliver k (countsOf (foundIn job) (colored job)) (colored job) old → checkedText k (colored job) ≡ refusalLine refusal
+          of : (k : Checked) → outcome (Refused refusal) new ≡ deliver k (countsOf (foundIn job) (colored job)) (colored job) old → checkedText k (edgesOf job) (colorsOf job) ≡ refusalLine refusal
           of Passed same = let given = rw (fits-all job e) at same in let no = ap (λ (o : Outcome). o .answer) given in let z : _≡_ {A = ℕ} 0 1 = cc in absurd (omega arith)
           of (Failed other) same = let is : other ≡ refusal = (let a = ap (λ (o : Outcome). o .answer) same in cc) in ap refusalLine is
       go (refuses other) e same = let is : other ≡ refusal = (let a = ap (λ (o : Outcome). o .answer) same in cc) in ap refusalLine is

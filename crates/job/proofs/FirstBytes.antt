@@ -11,6 +11,7 @@ use lib.Ieee.{binary64, ofBits}
 use borrow.Author.Tests.{le-leb, leb-true, leb-false}
 use Rattle.coloring.specs.declared.refusal.Refusal.{Refusal}
 use Rattle.coloring.specs.declared.refusal.Refusal.the-variants.{Truncated, MisplacedMark, TooMany, UnknownKind, BadThreshold, BadCoordinate, BadDistance}
+use Rattle.coloring.specs.Bools.{and-left}
 use Rattle.job.specs.declared.records.Kind.{Kind}
 use Rattle.job.specs.declared.records.Mark.{Mark}
 use Rattle.job.specs.declared.records.Mark.the-variants.{Header, Contour, Edge, Distances, End}
@@ -20,9 +21,9 @@ use Rattle.job.specs.declared.records.Phase.{Phase}
 use Rattle.job.specs.declared.records.Phase.the-variants.{Start, Outside, Inside, Closing}
 use Rattle.job.specs.declared.records.State.{State}
 use Rattle.job.specs.declared.progress.Progress.{Progress}
-use Rattle.job.specs.Patterns.{number, words, floats, all, isThreshold, isCoordinate, isDistance}
+use Rattle.job.specs.Patterns.{number, words, floats, isThreshold, isCoordinate, isDistance}
 use Rattle.job.specs.Records.{Record, header, edge, distances, Step, next, ends, fails, require, knownStrategy, controls, bodySize, allowed, fits, closing, among, byDistance, edgeOf, itemOf, recordSize, markOf, readHeader, readEdge, readDistances, readEnd, readBody, readMarked, readRecord, after, Records, _then_, recordsFrom}
-use Rattle.coloring.specs.Outline.{Result}
+use Rattle.coloring.specs.Outline.{all, Result}
 use Rattle.job.specs.Job.{noJob, jobFrom, Reading, reads, refuses, readJob}
 use Rattle.job.specs.Color.{colorReading, colorFile, acceptedReading, accepted}
 use Rattle.job.specs.Part.{contourPart}
@@ -30,7 +31,7 @@ use Rattle.job.specs.Listing.{readingText, fileText}
 use Rattle.job.specs.Progress.{begin, advanced}
 use Rattle.job.proofs.records.RecordLaws.{controls-few}
 use Rattle.job.proofs.records.ReadingLaws.{taken, end-size, records-next, records-fault}
-use Rattle.job.proofs.progress.ProgressLaws.{besides, among-contours, and-true, at-start, in-contour, Reached, reached-begin, reached-next, further, place-after, state-after, bytes-few}
+use Rattle.job.proofs.progress.ProgressLaws.{besides, among-contours, at-start, in-contour, Reached, reached-begin, reached-next, further, place-after, state-after, bytes-few}
 use Rattle.job.proofs.part.PartLaws.{part-refused}
 
 -- a step with more bytes after it
@@ -119,7 +120,7 @@ module _ (more : List ℕ) where
       (λ may. distances-more (take 2 bytes) (drop 2 bytes) (rw length-drop (omega (arith, many (due may)))))
     where
       due : allowed s Distances ≡ true → closing (s .phase) ≡ false
-      due may = among-contours (s .phase) (and-true (among (s .phase)) (byDistance (s .strategy)) may)
+      due may = among-contours (s .phase) (and-left (among (s .phase)) (byDistance (s .strategy)) may)
   marked-more s (Known End) bytes some many = unfold readBody in known-more s End bytes (λ may. omega arith) (λ may. end-more bytes some)
 
   record-more : (s : State) (bytes : List ℕ) → 3 ≤ length bytes → (closing (s .phase) ≡ false → 16134 ≤ length bytes)

@@ -5,6 +5,7 @@ use mathlib.Core.List.{List, map}
 use lib.Dec.{eqb}
 use lib.Ieee.{Float}
 use lib.ListN.{length}
+use Rattle.geometry.specs.declared.edge_segment.EdgeSegment.{EdgeSegment}
 use Rattle.coloring.specs.declared.outline.Checked.{Checked}
 use Rattle.coloring.specs.declared.outline.Checked.the-variants.{Passed, Failed}
 use Rattle.coloring.specs.declared.outline.Counts.{Counts}
@@ -16,10 +17,11 @@ use Rattle.coloring.specs.declared.settings.Marking.the-variants.{Colors, Numbe
 use Rattle.coloring.specs.Corners.{Cornered, searchCorners}
 use Rattle.coloring.specs.Splines.{splineTotal}
 use Rattle.coloring.specs.SplineColors.{colorSplines}
-use Rattle.coloring.specs.Outline.{Outline, Result, Outcome, deliver}
-use Rattle.coloring.specs.Shape.{painted, countsOf}
+use Rattle.coloring.specs.Layout.{layout}
+use Rattle.coloring.specs.Outline.{Outline, Result, Outcome, encode, deliver}
+use Rattle.coloring.specs.Shape.{markContours, countsOf}
 use Rattle.coloring.specs.EdgeColoring.{edgeColoringSimple, edgeColoringInkTrap}
-use Rattle.coloring.specs.ByDistance.{maxSplines, checkSplines, checkDistances, splineColor, splineByte, withBytes, edgeColoringByDistance}
+use Rattle.coloring.specs.ByDistance.{maxSplines, checkSplines, checkDistances, splineColor, splineByte, edgeColoringByDistance}
 use Rattle.job.specs.Job.{Job, Reading, reads, refuses, readJob}
 use Rattle.job.specs.Buffers.{Buffers}
 
@@ -41,16 +43,26 @@ checkJob job =
     let splines = splineTotal (foundIn job) in
     byStrategy (job .strategy) Passed Passed (checkSplines splines (checkDistances splines (job .distances)))
 
--- its coloured shape
-unfoldable pub colored : Job → Result
-unfolding foundIn splineTotal painted splineColor
-colored job =
+-- the edges of its coloured shape, contour by contour
+unfoldable pub edgesOf : Job → List (List EdgeSegment)
+unfolding foundIn layout
+edgesOf job = map layout (foundIn job)
+
+-- the colour of each of them, as a byte
+unfoldable pub colorsOf : Job → List (List ℕ)
+unfolding foundIn splineTotal markContours splineColor
+colorsOf job =
     let found = foundIn job in
     let coloring = colorSplines (splineTotal found) (job .distances) (job .seed) in
     byStrategy (job .strategy)
-    (painted (Colors Simple (job .seed)) found)
-    (painted (Colors InkTrap (job .seed)) found)
-    (withBytes (splineByte coloring) (painted Numbers found))
+    (markContours (Colors Simple (job .seed)) found)
+    (markContours (Colors InkTrap (job .seed)) found)
+    (map (map (splineByte coloring)) (markContours Numbers found))
+
+-- the coloured shape as it is stored
+unfoldable pub colored : Job → Result
+unfolding edgesOf colorsOf encode
+colored job = encode (edgesOf job) (colorsOf job)
 
 -- answer and buffers: a refusal of the checks; 11 where the result would not fit; or the coloured shape
 unfoldable pub colorJob : Job → Result → Outcome

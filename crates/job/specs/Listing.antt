@@ -3,19 +3,21 @@
 use Prim.Native.Nat.{ℕ, zero, suc, _+_, _/_, _%_}
 use mathlib.Core.Path.{_≡_}
 use mathlib.Core.Bool.{true, false, cond}
-use mathlib.Core.List.{List, [], _∷_, _++_}
-use lib.ListN.{length, take, drop, getD}
+use mathlib.Core.List.{List, [], _∷_, _++_, map}
+use lib.ListN.{length, take, drop}
 use lib.Dec.{leb, ltb}
+use Rattle.geometry.specs.declared.edge_segment.EdgeSegment.{EdgeSegment}
 use Rattle.coloring.specs.Refusal.{refusalNumber}
 use Rattle.coloring.specs.declared.refusal.Refusal.{Refusal}
 use Rattle.coloring.specs.declared.refusal.Refusal.the-variants.{ResultTooShort}
 use Rattle.coloring.specs.declared.outline.Checked.{Checked}
 use Rattle.coloring.specs.declared.outline.Checked.the-variants.{Passed, Failed}
-use Rattle.coloring.specs.Outline.{Result, over}
+use Rattle.coloring.specs.Places.{concat}
+use Rattle.coloring.specs.Outline.{kindOf, over}
 use Rattle.job.specs.declared.listing.Listed.{Listed}
 use Rattle.job.specs.declared.listing.Listed.the-variants.{Bytes, Refused}
 use Rattle.job.specs.Job.{Reading, reads, refuses, readJob}
-use Rattle.job.specs.Color.{checkJob, colored}
+use Rattle.job.specs.Color.{checkJob, edgesOf, colorsOf}
 
 -- ---- numbers and letters
 
@@ -59,26 +61,28 @@ unfoldable pub line : ℕ → ℕ → ℕ → ℕ → List ℕ
 unfolding decimal
 line contour place kind color = decimal contour ++ (space ∷ (decimal place ++ (space ∷ (letter kind ∷ (space ∷ (decimal color ++ (newline ∷ [])))))))
 
--- the edges of a contour from a place on
+-- the edges of a contour from a place on, each with its colour
 unfoldable pub contourLines : ℕ → ℕ → List ℕ → List ℕ → List ℕ
 unfolding line
 contourLines contour place [] colors = []
-contourLines contour place (kind ∷ kinds) colors = line contour place kind (getD colors 0 0) ++ contourLines contour (suc place) kinds (drop 1 colors)
+contourLines contour place (kind ∷ kinds) [] = []
+contourLines contour place (kind ∷ kinds) (color ∷ colors) = line contour place kind color ++ contourLines contour (suc place) kinds colors
 
 -- the contours from a number on
-unfoldable pub shapeLines : ℕ → List ℕ → List ℕ → List ℕ → List ℕ
+unfoldable pub shapeLines : ℕ → List (List ℕ) → List (List ℕ) → List ℕ
 unfolding contourLines
-shapeLines contour [] kinds colors = []
-shapeLines contour (n ∷ lengths) kinds colors = contourLines contour 0 (take n kinds) (take n colors) ++ shapeLines (suc contour) lengths (drop n kinds) (drop n colors)
+shapeLines contour [] colors = []
+shapeLines contour (kinds ∷ shape) [] = []
+shapeLines contour (kinds ∷ shape) (here ∷ colors) = contourLines contour 0 kinds here ++ shapeLines (suc contour) shape colors
 
 unfoldable pub countLine : ℕ → List ℕ
 unfolding decimal
 countLine edges = edgesWord ++ (decimal edges ++ (newline ∷ []))
 
--- a coloured shape: contour lengths, and the kind and the colour of each edge
-unfoldable pub listing : List ℕ → List ℕ → List ℕ → List ℕ
-unfolding shapeLines countLine
-listing lengths kinds colors = shapeLines 0 lengths kinds colors ++ countLine (length kinds)
+-- a coloured shape: the kinds of its edges, contour by contour, and their colours
+unfoldable pub listing : List (List ℕ) → List (List ℕ) → List ℕ
+unfolding concat shapeLines countLine
+listing kinds colors = shapeLines 0 kinds colors ++ countLine (length (concat kinds))
 
 unfoldable pub refusalLine : Refusal → List ℕ
 unfolding decimal
@@ -87,13 +91,13 @@ refusalLine refusal = refusedWord ++ (decimal (refusalNumber refusal) ++ (newlin
 -- ---- a file
 
 -- the coloured shape where the checks are passed
-abbrev pub checkedText : Checked → Result → List ℕ
-checkedText Passed shape = listing (shape .lengths) (shape .kinds) (shape .colors)
-checkedText (Failed refusal) shape = refusalLine refusal
+abbrev pub checkedText : Checked → List (List EdgeSegment) → List (List ℕ) → List ℕ
+checkedText Passed edges colors = listing (map (map kindOf) edges) colors
+checkedText (Failed refusal) edges colors = refusalLine refusal
 
 unfoldable pub readingText : Reading → List ℕ
-unfolding checkJob colored listing refusalLine
-readingText (reads job) = checkedText (checkJob job) (colored job)
+unfolding checkJob edgesOf colorsOf listing refusalLine
+readingText (reads job) = checkedText (checkJob job) (edgesOf job) (colorsOf job)
 readingText (refuses refusal) = refusalLine refusal
 
 -- what `channels` prints

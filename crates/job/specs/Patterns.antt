@@ -1,7 +1,7 @@
 -- Numbers in a file, lowest byte first, and the tests of the floats' bit patterns. A pattern is tested as a whole number before it becomes
 -- a float, so that nothing turns on the bits of a NaN; proofs/patterns/PatternMeaning.antt says what each test means of the float.
 use Prim.Native.Nat.{ℕ, zero, suc, _+_, _*_, _%_}
-use mathlib.Core.Bool.{Bool, true, _&&_, _||_}
+use mathlib.Core.Bool.{Bool, _||_}
 use mathlib.Core.List.{List, [], _∷_, map}
 use lib.ListN.{take, drop}
 use lib.Dec.{leb, ltb, eqb}
@@ -23,10 +23,6 @@ words (suc n) bytes = number (take 8 bytes) ∷ words n (drop 8 bytes)
 -- the floats of some patterns
 unfoldable pub floats : List ℕ → List Float
 floats patterns = map (ofBits binary64) patterns
-
-unfoldable pub all : {A : Type 0} → (A → Bool) → List A → Bool
-all test [] = true
-all test (x ∷ xs) = test x && all test xs
 
 -- the sign's bit alone, which is the pattern of −0; what is left of a pattern without it
 abbrev pub signBit : ℕ

@@ -23,7 +23,8 @@ use Rattle.job.specs.declared.records.Item.{Item}
 use Rattle.job.specs.declared.records.Item.the-variants as item
 use Rattle.job.specs.declared.records.Found.{Found}
 use Rattle.job.specs.declared.records.Found.the-variants as found
-use Rattle.job.specs.Patterns.{number, words, floats, all, isThreshold, isCoordinate, isDistance}
+use Rattle.coloring.specs.Outline.{all}
+use Rattle.job.specs.Patterns.{number, words, floats, isThreshold, isCoordinate, isDistance}
 
 -- ---- marks
 

@@ -4,6 +4,7 @@ use crate::records;
 use crate::records::Item;
 use crate::records::Kind;
 use crate::records::State;
+use math::bits::float;
 ghost use mathlib.Core.Path.{_≡_};
 ghost use Prim.Native.Nat.{_*_, _≤_};
 ghost use lib.ListN.{length, replicate};
@@ -33,7 +34,7 @@ fn write_floats(n: usize, bytes: &[u8], to: &mut [f64])
     while i < n {
         let at = 8 * i;
         let end = at + 8;
-        to[i] = patterns::float(patterns::number(&bytes[at..end]));
+        to[i] = float(patterns::number(&bytes[at..end]));
         i += 1;
     }
 }

@@ -1,11 +1,11 @@
 // Reading and colouring in one: a file, and four buffers that its coloured shape goes to.
-use crate::patterns;
 use crate::progress::Read;
 use crate::reader;
 use coloring::by_distance::edge_coloring_by_distance;
 use coloring::edge_coloring::edge_coloring_ink_trap;
 use coloring::edge_coloring::edge_coloring_simple;
 use coloring::outline::Colored;
+use math::bits::float;
 ghost use mathlib.Core.Path.{_≡_};
 ghost use Rattle.coloring.specs.Outline.{result, outcome};
 ghost use Rattle.job.specs.Buffers.{buffers};
@@ -92,7 +92,7 @@ fn color_in(
             let edges = n.edges;
             let places = 8 * edges;
             let count = n.distances;
-            let threshold = patterns::float(n.threshold);
+            let threshold = float(n.threshold);
             color_stored(
                 n.strategy,
                 n.seed,

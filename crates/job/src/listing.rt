@@ -9,7 +9,7 @@ ghost use mathlib.Core.List.{[], _∷_};
 ghost use Prim.Native.Nat.{_+_, _≤_, _<_};
 ghost use lib.ListN.{length};
 ghost use Rattle.coloring.specs.Places.{total};
-ghost use Rattle.coloring.specs.Outline.{result};
+ghost use Rattle.coloring.specs.Outline.{cut, result};
 ghost use Rattle.job.specs.Job.{readJob};
 ghost use Rattle.job.specs.Color.{HoldsResults};
 ghost use Rattle.job.specs.Listing.{digit, decimal, letter, field, line, contourLines, shapeLines, listing, refusalLine, fileText, listFile, outcome, contourCount, Pasted};
@@ -103,8 +103,10 @@ fn put_contour(out: &mut [u8], at: usize, contour: usize, kinds: &[u8], colors: 
 fn put_shape(out: &mut [u8], at: usize, lengths: &[u16], kinds: &[u8], colors: &[u8]) -> usize
     requires { ⌜ (length (now lengths) < 1000) × (length (now kinds) < 1000)
         × (total (now lengths) ≡ length (now kinds)) × (length (now colors) ≡ length (now kinds)) ⌝ }
-    requires { ⌜ at + length (shapeLines 0 (now lengths) (now kinds) (now colors)) ≤ length (now out) ⌝ }
-    ensures { λ r. ⌜ Pasted (shapeLines 0 (now (lengths .entry)) (now (kinds .entry)) (now (colors .entry))) at (now (out .entry)) r (now (out .exit)) ⌝ }
+    requires { ⌜ at + length (shapeLines 0 (cut (now lengths) (now kinds)) (cut (now lengths) (now colors))) ≤ length (now out) ⌝ }
+    ensures { λ r. ⌜ Pasted
+        (shapeLines 0 (cut (now (lengths .entry)) (now (kinds .entry))) (cut (now (lengths .entry)) (now (colors .entry))))
+        at (now (out .entry)) r (now (out .exit)) ⌝ }
 {
     let mut next = at;
     let mut from = 0;
@@ -135,8 +137,10 @@ fn put_word(out: &mut [u8], at: usize, word: &[u8]) -> usize
 fn write_listing(lengths: &[u16], kinds: &[u8], colors: &[u8], out: &mut [u8]) -> usize
     requires { ⌜ (length (now lengths) < 1000) × (length (now kinds) < 1000)
         × (total (now lengths) ≡ length (now kinds)) × (length (now colors) ≡ length (now kinds)) ⌝ }
-    requires { ⌜ length (listing (now lengths) (now kinds) (now colors)) ≤ length (now out) ⌝ }
-    ensures { λ r. ⌜ Pasted (listing (now (lengths .entry)) (now (kinds .entry)) (now (colors .entry))) 0 (now (out .entry)) r (now (out .exit)) ⌝ }
+    requires { ⌜ length (listing (cut (now lengths) (now kinds)) (cut (now lengths) (now colors))) ≤ length (now out) ⌝ }
+    ensures { λ r. ⌜ Pasted
+        (listing (cut (now (lengths .entry)) (now (kinds .entry))) (cut (now (lengths .entry)) (now (colors .entry))))
+        0 (now (out .entry)) r (now (out .exit)) ⌝ }
 {
     let lines = put_shape(out, 0, lengths, kinds, colors);
     let word = put_word(out, lines, b"edges ");

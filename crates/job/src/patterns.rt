@@ -2,8 +2,8 @@
 ghost use mathlib.Core.Path.{_≡_};
 ghost use Prim.Native.Nat.{_≤_, _*_};
 ghost use lib.ListN.{length};
-ghost use lib.Ieee.{binary64, ofBits};
-ghost use Rattle.job.specs.Patterns.{number, words, all, isThreshold, isCoordinate, isDistance, within};
+ghost use Rattle.coloring.specs.Outline.{all};
+ghost use Rattle.job.specs.Patterns.{number, words, isThreshold, isCoordinate, isDistance, within};
 
 // The number of at most eight bytes.
 pub(crate) fn number(bytes: &[u8]) -> u64
@@ -67,14 +67,4 @@ pub(crate) fn words_within(range: Range, n: usize, bytes: &[u8]) -> bool
         i += 1;
     }
     true
-}
-
-// The float of a pattern, a NaN's too.
-pub(crate) fn float(pattern: u64) -> f64
-    ensures { λ r. ⌜ r ≡ ofBits binary64 pattern ⌝ }
-{
-    if 0x7FF0_0000_0000_0000 < pattern % 0x8000_0000_0000_0000 {
-        return 0.0 / 0.0;
-    }
-    f64::from_bits(pattern)
 }

@@ -1,4 +1,5 @@
 -- The definitions that the contracts of the number leaves cite.
+pub mod Nan
 pub mod Scalar
 pub mod Sqrt
 pub mod SqrtExamples

@@ -1,7 +1,7 @@
 -- What the scalar helpers of math/scalar.rs give, in IEEE 754's binary64, each operation rounded once and in the source's order.
 -- Each definition has its function's name.
 use mathlib.Core.Path.{_≡_, refl}
-use mathlib.Core.Bool.{true, false, cond}
+use mathlib.Core.Bool.{false, cond}
 use lib.Ieee as Ieee
 use lib.Ieee.{Float, fin, binary64, ofBits}
 use lib.IntN.{ℤ, pos, negsuc}

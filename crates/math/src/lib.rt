@@ -1,4 +1,5 @@
-// The number leaves: the correctly rounded square root, scalar helpers and the plane vector.
+// The number leaves: floats by their bit patterns, the correctly rounded square root, scalar helpers and the plane vector.
+pub mod bits;
 pub mod scalar;
 pub mod sqrt;
 pub mod vector2;

@@ -1,4 +1,5 @@
 // The square root of a double, correctly rounded, by whole numbers alone.
+use crate::bits::float;
 ghost use mathlib.Core.Path.{_≡_};
 ghost use mathlib.Core.Logic.{_⊎_};
 ghost use Prim.Native.Nat.{_+_, _*_, _^_, _≤_, _<_};
@@ -167,9 +168,5 @@ pub fn sqrt(x: f64) -> f64
     if x != x {
         return 0.0 / 0.0;
     }
-    let r = sqrt_bits(f64::to_bits(x));
-    if r == NAN {
-        return 0.0 / 0.0;
-    }
-    f64::from_bits(r)
+    float(sqrt_bits(f64::to_bits(x)))
 }

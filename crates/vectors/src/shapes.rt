@@ -2,7 +2,6 @@
 // the record's bytes, threshold, seed, how many lengths, kinds and point places go in, how many of these and of colours the result
 // buffers have, the answer, where the result begins); what goes in: lengths, kinds, point places, distances; and the result:
 // lengths, kinds, colours, point places. A length is a word.
-use crate::words::float;
 use crate::words::load;
 use crate::words::number;
 use crate::words::part;
@@ -13,6 +12,7 @@ use capi::by_distance::merelsplum_collect_splines;
 use capi::by_distance::merelsplum_edge_coloring_by_distance;
 use capi::edge_coloring::merelsplum_edge_coloring_ink_trap;
 use capi::edge_coloring::merelsplum_edge_coloring_simple;
+use math::bits::float;
 ghost use Prim.Native.Nat.{_≤_, _<_, _*_};
 ghost use lib.ListN.{length};
 

@@ -1,9 +1,9 @@
 // Words, floats and parts out of bytes, and the comparison of a float with a recorded pattern. The records of one part follow a
 // heading: a word of ones and the part's name, 16 bytes.
+use math::bits::float;
 ghost use mathlib.Core.Path.{_≡_};
 ghost use Prim.Native.Nat.{_+_, _≤_, _<_};
 ghost use lib.ListN.{length};
-ghost use lib.Ieee.{binary64, ofBits};
 ghost use Rattle.vectors.specs.Words.{halfAt, wordAt, headed, matches};
 
 fn wide(x: u8) -> u64
@@ -31,16 +31,6 @@ pub(crate) fn word(s: &[u8], at: usize) -> u64
         return 0;
     }
     half(s, at) + 4294967296 * half(s, at + 4)
-}
-
-// The float of a pattern: of a NaN's too, where from_bits is not defined.
-pub(crate) fn float(bits: u64) -> f64
-    ensures { λ r. ⌜ r ≡ ofBits binary64 bits ⌝ }
-{
-    if 0x7FF0_0000_0000_0000 < bits % 0x8000_0000_0000_0000 {
-        return 0.0 / 0.0;
-    }
-    f64::from_bits(bits)
 }
 
 // The float whose pattern is recorded at the place at of s.

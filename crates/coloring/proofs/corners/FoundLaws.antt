@@ -11,8 +11,8 @@ use Rattle.geometry.specs.declared.edge_segment.EdgeSegment.{EdgeSegment}
 use Rattle.coloring.specs.Places.{concat, total}
 use Rattle.coloring.specs.Corners.{cornerFlags, searchCorners, cornered}
 use Rattle.coloring.specs.Outline.{cut}
+use Rattle.coloring.specs.Sizes.{flags-length}
 use Rattle.coloring.proofs.outline.CutLaws.{cut-step, cut-end}
-use Rattle.coloring.proofs.corners.SearchLaws.{flags-length}
 
 module _ (threshold : Float) where
   abbrev pub allFlags : List ℕ → List EdgeSegment → List Bool

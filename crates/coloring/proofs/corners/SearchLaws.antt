@@ -1,7 +1,7 @@
 -- The search for corners, edge by edge: the edge before the first is the last.
-use mathlib.Core.Path.{_≡_, refl, ap}
+use mathlib.Core.Path.{_≡_, refl}
 use mathlib.Core.List.{List, [], _∷_}
-use Prim.Native.Nat.{ℕ, suc, _+_, _-_, _≤_, _<_}
+use Prim.Native.Nat.{ℕ, _+_, _-_, _≤_, _<_}
 use native.Mathlib.Numerals.{add-one}
 use native.Mathlib.Omega.{arith}
 use lib.Ieee.{Float}
@@ -31,16 +31,6 @@ module _ (threshold : Float) where
   unfolding cornerFlags
   no-flags [] l = refl
   no-flags (e ∷ edges) l = absurd (omega arith)
-
-  from-length : (prev : Vector2) (edges : List EdgeSegment) → length (flagsFrom threshold prev edges) ≡ length edges
-  unfolding flagsFrom
-  from-length prev [] = refl
-  from-length prev (e ∷ edges) = ap suc (from-length (direction e f1) edges)
-
-  pub flags-length : (edges : List EdgeSegment) → length (cornerFlags threshold edges) ≡ length edges
-  unfolding cornerFlags
-  flags-length [] = refl
-  flags-length (e ∷ edges) = from-length (direction (lastEdge e edges) f1) (e ∷ edges)
 
   module _ (prev : Vector2) (edges : List EdgeSegment) (i : ℕ) where
     pub flags-next : (d : EdgeSegment) → i < length edges

@@ -12,11 +12,10 @@ use Rattle.coloring.specs.Places.{concat}
 use Rattle.coloring.specs.Corners.{Cornered, cornered}
 use Rattle.coloring.specs.Layout.{layout, resultEdges}
 use Rattle.coloring.specs.Outline.{Result, kindOf, placesOf, encode, overFrom}
+use Rattle.coloring.specs.Sizes.{layout-length, points-length}
 use Rattle.coloring.proofs.Writing.{over-nothing, over-more, over-next}
-use Rattle.coloring.proofs.outline.EdgeLaws.{points-length}
 use Rattle.coloring.proofs.outline.StoreLaws.{points-append}
 use Rattle.coloring.proofs.outline.CutLaws.{Along, along-room, along-next, cornered-step, cornered-end, left, left-step}
-use Rattle.coloring.proofs.layout.CountLaws.{layout-length}
 
 -- the buffers of laid out contours
 abbrev pub laid : List Cornered → Result

@@ -12,7 +12,7 @@ use lib.ListN.{length, take, drop, getD, drop-of-length-le}
 use lib.Seq.{drop-cons, drop-drop}
 use Rattle.coloring.specs.Places.{total}
 use Rattle.coloring.specs.Outline.{all, knownKind, inRange, usedPlaces, coordinatesFit}
-use Rattle.coloring.proofs.Bools.{and-left, and-right}
+use Rattle.coloring.specs.Bools.{and-left, and-right}
 
 pub total-step : (lengths : List ℕ) (i : ℕ) → i < length lengths → total (drop i lengths) ≡ getD lengths i 0 + total (drop (i + 1) lengths)
 unfolding total

@@ -1,17 +1,14 @@
 -- The edges of outline buffers: as many as kinds, each from its own eight places, and those of a part of the buffers.
-use mathlib.Core.Path.{_≡_, refl, ap, _∙_}
-use mathlib.Core.List.{List, [], _∷_, map}
+use mathlib.Core.Path.{_≡_, refl, ap}
+use mathlib.Core.List.{List, [], _∷_}
 use mathlib.Core.Bool.{Bool}
 use Prim.Native.Nat.{ℕ, zero, suc, _+_, _-_, _*_, _≤_, _<_}
 use native.Mathlib.Omega.{arith}
 use lib.Ieee.{Float}
-use lib.ListN.{length, take, drop, getD, length-append, length-take, length-drop}
+use lib.ListN.{length, take, drop, getD, length-take, length-drop}
 use lib.Seq.{drop-drop, take-take}
 use Rattle.geometry.specs.declared.edge_segment.EdgeSegment.{EdgeSegment}
-use Rattle.geometry.specs.declared.edge_segment.EdgeSegment.the-variants.{Line, Quadratic, Cubic}
-use Rattle.geometry.specs.EdgeSegment.{toStored}
-use Rattle.coloring.specs.Places.{concat}
-use Rattle.coloring.specs.Outline.{edgeOf, edgesOf, placesOf, Matching, Part}
+use Rattle.coloring.specs.Outline.{edgeOf, edgesOf, Matching, Part}
 use Rattle.coloring.proofs.Lists.{drop-take}
 
 pub edges-length : (kinds : List ℕ) (points : List Float) → length (edgesOf kinds points) ≡ length kinds
@@ -48,17 +45,6 @@ edges-at (k ∷ kinds) points zero d h = refl
 edges-at (k ∷ kinds) points (suc i) d h =
     let e : 8 + 8 * i ≡ 8 * suc i = omega arith in
     rw (edges-at kinds (drop 8 points) i d (omega arith), drop-drop (8 * i) 8 points, e)
-
-pub places-length : (e : EdgeSegment) → length (placesOf e) ≡ 8
-unfolding toStored
-places-length (Line p0 p1) = refl
-places-length (Quadratic p0 p1 p2) = refl
-places-length (Cubic p0 p1 p2 p3) = refl
-
-pub points-length : (edges : List EdgeSegment) → length (concat (map placesOf edges)) ≡ 8 * length edges
-unfolding concat
-points-length [] = refl
-points-length (e ∷ edges) = length-append (placesOf e) (concat (map placesOf edges)) ∙ omega (arith, places-length e, points-length edges)
 
 -- the same for the parts from `at` up to `end`
 pub edges-between : (at end : ℕ) (kinds : List ℕ) (points : List Float) → at ≤ end

@@ -8,9 +8,9 @@ use lib.ListN.{length, set, length-append, length-set, length-map}
 use Rattle.geometry.specs.declared.edge_segment.EdgeSegment.{EdgeSegment}
 use Rattle.coloring.specs.Places.{concat}
 use Rattle.coloring.specs.Outline.{kindOf, placesOf, overFrom}
+use Rattle.coloring.specs.Sizes.{places-length, points-length}
 use Rattle.coloring.proofs.Lists.{concat-append}
 use Rattle.coloring.proofs.Writing.{over-length, over-nothing, over-more, over-next, over-all}
-use Rattle.coloring.proofs.outline.EdgeLaws.{places-length, points-length}
 
 -- the places of some edges and then others
 pub points-append : (xs ys : List EdgeSegment) → concat (map placesOf (xs ++ ys)) ≡ concat (map placesOf xs) ++ concat (map placesOf ys)

@@ -16,7 +16,7 @@ use Rattle.math.specs.Scalar.{f0}
 use Rattle.coloring.specs.Outline.{all}
 use Rattle.coloring.specs.PairOrder.{validDistance, distancesValid}
 use Rattle.coloring.specs.PairNumbers.{distanceOf}
-use Rattle.coloring.proofs.Bools.{and-left, and-right}
+use Rattle.coloring.specs.Bools.{and-left, and-right}
 
 -- ---- one distance
 

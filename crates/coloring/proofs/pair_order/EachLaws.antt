@@ -6,7 +6,7 @@ use lib.Ieee.{Float, lt}
 use lib.ListN.{length, getD, take, drop}
 use Rattle.coloring.specs.PairOrder.{insertBy, sortBy}
 use Rattle.coloring.specs.PairNumbers.{Each}
-use Rattle.coloring.proofs.Bools.{split}
+use Rattle.coloring.specs.Bools.{split}
 use Rattle.coloring.proofs.pair_order.MergeLaws.{insert-here, insert-later}
 
 module _ {A : Type 0} (P : A → Type 0) where

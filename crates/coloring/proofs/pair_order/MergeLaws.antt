@@ -11,7 +11,7 @@ use lib.Seq.{drop-cons, drop-length, take-suc-set, take-all}
 use lib.Ieee.{Float, lt}
 use Rattle.coloring.specs.PairOrder.{validDistance, insertBy, sortBy}
 use Rattle.coloring.specs.PairNumbers.{takesSecond, mergeFirst, mergeBy}
-use Rattle.coloring.proofs.Bools.{split}
+use Rattle.coloring.specs.Bools.{split}
 use Rattle.coloring.proofs.Lists.{drop-next}
 use Rattle.coloring.proofs.pair_order.DistanceLaws.{lt-asym, not-lt-trans}
 

@@ -11,7 +11,7 @@ use lib.Ieee.{Float, lt}
 use Rattle.coloring.specs.Outline.{all}
 use Rattle.coloring.specs.Sequence.{Pair}
 use Rattle.coloring.specs.PairOrder.{validDistance, distancesValid, Distances, pairsWith, pairsFrom, SplinePair, withDistances, insertBy, sortBy, pairOrder}
-use Rattle.coloring.proofs.Bools.{and-left, and-right, split}
+use Rattle.coloring.specs.Bools.{and-left, and-right, split}
 use Rattle.coloring.proofs.pair_order.DistanceLaws.{lt-asym, not-lt-trans}
 use Rattle.coloring.proofs.pair_order.MergeLaws.{insert-here, insert-later}
 

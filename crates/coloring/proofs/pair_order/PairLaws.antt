@@ -14,7 +14,7 @@ use Rattle.coloring.specs.Outline.{overFrom}
 use Rattle.coloring.specs.Sequence.{Pair}
 use Rattle.coloring.specs.PairOrder.{pairsWith, pairsFrom, withDistances, insertBy, sortBy, pairOrder, Distances}
 use Rattle.coloring.specs.PairNumbers.{Each, Below, distanceOf, Two, code, decode, splinePairAt, InOrder}
-use Rattle.coloring.proofs.Bools.{split}
+use Rattle.coloring.specs.Bools.{split}
 use Rattle.coloring.proofs.Writing.{over-next, over-nothing, over-all}
 use Rattle.coloring.proofs.pair_order.MergeLaws.{insert-here, insert-later}
 use Rattle.coloring.proofs.pair_order.EachLaws.{each-append, each-sort}

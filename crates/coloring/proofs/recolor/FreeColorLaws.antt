@@ -12,7 +12,7 @@ use lib.ListN.{length, drop, getD, drop-of-length-le}
 use lib.Seq.{drop-cons}
 use borrow.Author.Tests.{eq-eqb, ne-eqb, eqb-true}
 use Rattle.coloring.specs.Recolor.{uses, vertexPossibleColors, firstPossibleColor, joined, forcedStep}
-use Rattle.coloring.proofs.Bools.{neither}
+use Rattle.coloring.specs.Bools.{neither}
 
 pub uses-step : (c : ℕ) (xs ys : List ℕ) (i : ℕ) → i < length xs → i < length ys
     → uses c (drop i xs) (drop i ys) ≡ (not (eqb (getD ys i 0) 0) && eqb (getD xs i 0) c || uses c (drop (i + 1) xs) (drop (i + 1) ys))

@@ -2,37 +2,24 @@
 use mathlib.Core.Path.{_≡_, refl, sym, ap, _∙_}
 use mathlib.Core.Bool.{Bool, true, false, _&&_, cond}
 use mathlib.Core.List.{List, [], _∷_, map}
-use Prim.Native.Nat.{ℕ, suc, _+_, _*_, _≤_}
+use Prim.Native.Nat.{ℕ, suc, _*_, _≤_}
 use lib.Dec.{leb, eqb}
 use lib.Ieee.{Float}
-use lib.ListN.{length, take, drop, length-map, length-take, length-drop}
+use lib.ListN.{length, take, drop, length-take, length-drop}
 use borrow.Author.Tests.{leb-true, eqb-true}
-use Rattle.geometry.specs.EdgeColor.{bitsOf}
 use Rattle.geometry.specs.declared.edge_segment.EdgeSegment.{EdgeSegment}
-use Rattle.coloring.specs.declared.switching.Pen.{Pen}
-use Rattle.coloring.specs.declared.settings.Strategy.{Strategy}
-use Rattle.coloring.specs.declared.settings.Marking.{Marking}
-use Rattle.coloring.specs.declared.settings.Marking.the-variants.{Colors, Numbers}
 use Rattle.coloring.specs.declared.outline.Counts.{Counts}
 use Rattle.coloring.specs.declared.refusal.Refusal.{Refusal}
 use Rattle.coloring.specs.declared.refusal.Refusal.the-variants.{ResultTooShort}
 use Rattle.coloring.specs.declared.outline.Colored.the-variants.{Refused}
 use Rattle.coloring.specs.declared.outline.Checked.{Checked}
 use Rattle.coloring.specs.declared.outline.Checked.the-variants.{Passed}
-use Rattle.coloring.specs.Switching.{initColor}
-use Rattle.coloring.specs.Places.{range, concat, total}
-use Rattle.coloring.specs.Corners.{Cornered, cornered}
-use Rattle.coloring.specs.Layout.{layout, resultEdges}
-use Rattle.coloring.specs.Contour.{colorContour}
-use Rattle.coloring.specs.Outline.{Outline, Result, cut, maxContours, maxEdges, require, check, encode, kindOf, fits, delivered, deliver, outcome, Agrees}
-use Rattle.coloring.specs.Splines.{splineCount, splineTotal, paint}
-use Rattle.coloring.specs.Shape.{colorContours, noSpline, numberContours, numberFlags, markContours, painted}
-use Rattle.coloring.proofs.Bools.{and-left, and-right}
-use Rattle.coloring.proofs.Lists.{concat-length}
-use Rattle.coloring.proofs.outline.EdgeLaws.{points-length}
-use Rattle.coloring.proofs.layout.CountLaws.{layout-length}
-use Rattle.coloring.proofs.splines.PaintLaws.{paint-length}
-use Rattle.coloring.proofs.contour.ColorLaws.{contour-length}
+use Rattle.coloring.specs.Places.{total}
+use Rattle.coloring.specs.Corners.{flagsOf, cornered}
+use Rattle.coloring.specs.Outline.{Outline, Result, cut, maxContours, maxEdges, require, check, fits, delivered, deliver, outcome, Agrees}
+use Rattle.coloring.specs.Splines.{splineCount, splineTotal}
+use Rattle.coloring.specs.Sizes.{Flagged, counted, Sized}
+use Rattle.coloring.specs.Bools.{and-left, and-right}
 
 -- ---- an outline that passed
 
@@ -54,26 +41,17 @@ passed-agrees o threshold e =
 
 -- ---- contours with their corners
 
--- each has a flag for each of its edges
-unfoldable pub Flagged : List Cornered → Type 0
-Flagged [] = Unit {0}
-Flagged (contour ∷ found) = (length (contour .corners) ≡ length (contour .edges)) × Flagged found
-
 pub cut-flagged : (lengths : List ℕ) (xs : List EdgeSegment) (flags : List Bool) → length flags ≡ length xs → Flagged (cornered lengths xs flags)
 unfolding cornered Flagged
 cut-flagged [] xs flags l = tt
 cut-flagged (n ∷ lengths) xs flags l =
     (length-take n flags ∙ rw l (sym (length-take n xs)), cut-flagged lengths (drop n xs) (drop n flags) (length-drop n flags ∙ rw l (sym (length-drop n xs))))
 
--- what their flags count to
-module _ (count : List Bool → ℕ) where
-  abbrev pub counted : List Cornered → List ℕ
-  counted found = map (λ (contour : Cornered). count (contour .corners)) found
-
-  pub counted-cut : (lengths : List ℕ) (xs : List EdgeSegment) (flags : List Bool) → counted (cornered lengths xs flags) ≡ map count (cut lengths flags)
-  unfolding cornered cut
-  counted-cut [] xs flags = refl
-  counted-cut (n ∷ lengths) xs flags = ap (λ l. count (take n flags) ∷ l) (counted-cut lengths (drop n xs) (drop n flags))
+pub counted-cut : (count : List Bool → ℕ) (lengths : List ℕ) (xs : List EdgeSegment) (flags : List Bool)
+    → counted count (cornered lengths xs flags) ≡ map count (cut lengths flags)
+unfolding cornered cut
+counted-cut count [] xs flags = refl
+counted-cut count (n ∷ lengths) xs flags = ap (λ l. count (take n flags) ∷ l) (counted-cut count lengths (drop n xs) (drop n flags))
 
 pub splines-cut : (lengths : List ℕ) (xs : List EdgeSegment) (flags : List Bool) → splineTotal (cornered lengths xs flags) ≡ total (map splineCount (cut lengths flags))
 unfolding splineTotal
@@ -84,54 +62,10 @@ unfolding cornered
 cornered-length [] xs flags = refl
 cornered-length (n ∷ lengths) xs flags = ap suc (cornered-length lengths (drop n xs) (drop n flags))
 
-pub numbers-cut : (first : ℕ) (lengths : List ℕ) (xs : List EdgeSegment) (flags : List Bool) → numberContours first (cornered lengths xs flags) ≡ numberFlags first (cut lengths flags)
-unfolding numberContours numberFlags cornered cut
-numbers-cut first [] xs flags = refl
-numbers-cut first (n ∷ lengths) xs flags =
-    ap (λ l. paint noSpline (range first (splineCount (take n flags))) (take n flags) ∷ l) (numbers-cut (first + splineCount (take n flags)) lengths (drop n xs) (drop n flags))
-
--- ---- how long a result is
-
-laid-lengths : (found : List Cornered) → Flagged found → map (λ (contour : List EdgeSegment). length contour) (map layout found) ≡ counted resultEdges found
-unfolding Flagged
-laid-lengths [] f = refl
-laid-lengths (contour ∷ found) f = rw (layout-length contour (f .0), laid-lengths found (f .1))
-
-color-lengths : (strategy : Strategy) (pen : Pen) (found : List Cornered)
-    → map (λ (bytes : List ℕ). length bytes) (map (map bitsOf) (colorContours strategy pen found)) ≡ counted resultEdges found
-unfolding colorContours
-color-lengths strategy pen [] = refl
-color-lengths strategy pen (contour ∷ found) =
-    rw (length-map (colorContour strategy pen contour .colors) bitsOf, contour-length strategy pen contour, color-lengths strategy (colorContour strategy pen contour .pen) found)
-
-number-lengths : (first : ℕ) (found : List Cornered) → map (λ (bytes : List ℕ). length bytes) (numberContours first found) ≡ counted resultEdges found
-unfolding numberContours
-number-lengths first [] = refl
-number-lengths first (contour ∷ found) =
-    rw (paint-length noSpline (range first (splineCount (contour .corners))) (contour .corners), number-lengths (first + splineCount (contour .corners)) found)
-
-mark-lengths : (marking : Marking) (found : List Cornered) → map (λ (bytes : List ℕ). length bytes) (markContours marking found) ≡ counted resultEdges found
-unfolding markContours
-mark-lengths (Colors strategy seed) found = color-lengths strategy (initColor seed) found
-mark-lengths Numbers found = number-lengths 0 found
-
-pub record Sized (result : Result) (contours edges : ℕ) : Type 0 where
-  pub lengths-long : length (result .lengths) ≡ contours
-  pub kinds-long : length (result .kinds) ≡ edges
-  pub points-long : length (result .points) ≡ 8 * edges
-  pub colors-long : length (result .colors) ≡ edges
-
-pub painted-sized : (marking : Marking) (found : List Cornered) → Flagged found → Sized (painted marking found) (length found) (total (counted resultEdges found))
-unfolding encode painted
-painted-sized marking found f =
-    let laid = map layout found in
-    let edges : length (concat laid) ≡ total (counted resultEdges found) = concat-length laid ∙ ap total (laid-lengths found f) in
-    record {
-      lengths-long = length-map laid _ ∙ length-map found layout;
-      kinds-long = length-map (concat laid) kindOf ∙ edges;
-      points-long = points-length (concat laid) ∙ ap (λ n. 8 * n) edges;
-      colors-long = concat-length (markContours marking found) ∙ ap total (mark-lengths marking found);
-    }
+pub flags-cut : (lengths : List ℕ) (xs : List EdgeSegment) (flags : List Bool) → flagsOf (cornered lengths xs flags) ≡ cut lengths flags
+unfolding cornered cut
+flags-cut [] xs flags = refl
+flags-cut (n ∷ lengths) xs flags = ap (λ l. take n flags ∷ l) (flags-cut lengths (drop n xs) (drop n flags))
 
 -- ---- the count decides
 

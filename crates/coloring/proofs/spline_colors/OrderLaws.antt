@@ -12,7 +12,7 @@ use Rattle.coloring.specs.PairOrder.{pairsFrom, SplinePair, withDistance
 use Rattle.coloring.specs.PairNumbers.{Each, Two, decode, pairAt, splinePairAt, InOrder}
 use Rattle.coloring.specs.SecondDegree.{colorSecondDegreeGraph}
 use Rattle.coloring.specs.SplineColors.{isZero, zeroPairs, otherPairs, enterPairs, startTable, OfferableAll, Ordered, offerSplines, colorSplines}
-use Rattle.coloring.proofs.Bools.{split}
+use Rattle.coloring.specs.Bools.{split}
 use Rattle.coloring.proofs.Lists.{drop-next}
 use Rattle.coloring.proofs.recolor.RowLaws.{Matrix}
 use Rattle.coloring.proofs.spline_table.TableLaws.{matrix-sound, enter-matrix}

@@ -18,7 +18,7 @@ use Rattle.coloring.specs.declared.spline_table.Offer.the-variants.{Kept
 use Rattle.coloring.specs.Recolor.{row, vertexPossibleColors, firstPossibleColor, Walk, recolored, stopped, Waiting, walk, walkFuel, walkFrom, walkStart, recolor}
 use Rattle.coloring.specs.SplineTable.{Table, Offered, outcome, settled, walkedOn, enter, sound, tryAddEdge, offer, Offerable}
 use Rattle.coloring.specs.Sequence.{Pair}
-use Rattle.coloring.proofs.Bools.{and-left, and-right, split}
+use Rattle.coloring.specs.Bools.{and-left, and-right, split}
 use Rattle.coloring.proofs.recolor.FreeColorLaws.{others}
 use Rattle.coloring.proofs.recolor.UncolorLaws.{force-uncolors}
 use Rattle.coloring.proofs.recolor.WalkLaws.{Ends, Going, going-start, walk-ends, walk-fuel}

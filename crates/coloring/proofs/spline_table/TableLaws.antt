@@ -15,7 +15,7 @@ use lib.Dec.{leb, eqb}
 use borrow.Author.Tests.{leb-true, le-leb, eqb-true, eq-eqb}
 use Rattle.coloring.specs.SplineTable.{Table, tableOf, enter, allBelow, entry, sound, atMost, mirrored, symmetric}
 use Rattle.coloring.specs.Sequence.{Pair, Names}
-use Rattle.coloring.proofs.Bools.{and-left, and-right, same-truth}
+use Rattle.coloring.specs.Bools.{and-left, and-right, same-truth}
 use Rattle.coloring.proofs.recolor.RowLaws.{Matrix}
 
 abbrev pub splines : Table → ℕ

@@ -1,54 +1,23 @@
--- How long a painted contour is, how many splines it has, and that what it is painted with may be mapped before or after.
-use mathlib.Core.Path.{_≡_, refl, sym, ap, _∙_}
-use mathlib.Core.Bool.{Bool, true, false, _&&_, cond}
+-- How many splines a contour has, and that what it is painted with may be mapped before or after.
+use mathlib.Core.Path.{_≡_, refl, ap, _∙_}
+use mathlib.Core.Bool.{Bool, true, false, cond}
 use mathlib.Core.List.{List, [], _∷_, map}
 use Prim.Native.Nat.{ℕ, zero, suc, _-_, _*_, _≤_, _<_}
 use native.Mathlib.Decide.{decLt}
 use native.Mathlib.Omega.{arith}
-use lib.Dec.{leb, eqb, ltb}
+use lib.Dec.{eqb, ltb}
 use lib.IntN.{ℤ, pos, negsuc}
-use lib.ListN.{length, getD, length-map, List·getD-map}
+use lib.ListN.{length, length-map, List·getD-map}
 use borrow.Author.Tests.{lt-ltb, le-ltb}
 use Rattle.coloring.specs.Trichotomy.{symmetricalTrichotomy}
-use Rattle.coloring.specs.Places.{range, byPlace}
+use Rattle.coloring.specs.Places.{range}
 use Rattle.coloring.specs.Corners.{cornerCount}
-use Rattle.coloring.specs.Layout.{splits, resultEdges, resultCorner}
-use Rattle.coloring.specs.Teardrop.{thirdOf, runs, teardrop}
+use Rattle.coloring.specs.Layout.{resultCorner}
+use Rattle.coloring.specs.Teardrop.{thirdOf, runs}
 use Rattle.coloring.specs.Splines.{splineCount, spread, paint}
-use Rattle.coloring.proofs.Bools.{branch-true, branch-false}
-use Rattle.coloring.proofs.Places.{length-range, length-byPlace, map-byPlace}
+use Rattle.coloring.specs.Sizes.{paint-one, paint-spread}
+use Rattle.coloring.proofs.Places.{map-byPlace}
 use Rattle.coloring.proofs.corners.FlagLaws.{corners-few}
-use Rattle.coloring.proofs.layout.CountLaws.{edges-same}
-use Rattle.coloring.proofs.splines.SpreadLaws.{spread-length}
-
-module _ {A : Type 0} (middle : A) (values : List A) (flags : List Bool) where
-  pub paint-one : eqb (cornerCount flags) 1 ≡ true
-      → paint middle values flags ≡ byPlace (resultCorner flags) (runs (getD values 0 middle) middle (getD values 1 middle) (resultEdges flags))
-  unfolding paint teardrop
-  paint-one e = branch-true (eqb (cornerCount flags) 1) _ _ e
-
-  pub paint-spread : eqb (cornerCount flags) 1 ≡ false → paint middle values flags ≡ spread (getD values (length values - 1) middle) values flags
-  unfolding paint
-  paint-spread e = branch-false (eqb (cornerCount flags) 1) _ _ e
-
--- a contour whose corners are not one is not split
-pub unsplit : (flags : List Bool) → eqb (cornerCount flags) 1 ≡ false → resultEdges flags ≡ length flags
-unfolding splits
-unsplit flags e = edges-same flags (ap (λ b. b && leb (length flags) 2) e)
-
--- ---- lengths
-
-runs-length : {A : Type 0} (first middle last : A) (m : ℕ) → length (runs first middle last m) ≡ m
-unfolding runs
-runs-length first middle last m = length-map (range 0 m) _ ∙ length-range 0 m
-
-module _ {A : Type 0} (middle : A) (values : List A) (flags : List Bool) where
-  by-count : (b : Bool) → eqb (cornerCount flags) 1 ≡ b → length (paint middle values flags) ≡ resultEdges flags
-  by-count true e = rw (paint-one middle values flags e) (length-byPlace (resultCorner flags) _ ∙ runs-length _ middle _ (resultEdges flags))
-  by-count false e = rw (paint-spread middle values flags e) (spread-length _ values flags ∙ sym (unsplit flags e))
-
-  pub paint-length : length (paint middle values flags) ≡ resultEdges flags
-  paint-length = by-count (eqb (cornerCount flags) 1) refl
 
 -- ---- maps
 

@@ -1,21 +1,14 @@
--- What the splines have, spread over the edges place by place; how many there are.
-use mathlib.Core.Path.{_≡_, refl, ap}
+-- What the splines have, spread over the edges place by place.
+use mathlib.Core.Path.{_≡_}
 use mathlib.Core.Bool.{Bool, true, false}
 use mathlib.Core.List.{List, [], _∷_}
-use Prim.Native.Nat.{ℕ, suc, _+_, _≤_, _<_}
+use Prim.Native.Nat.{ℕ, _+_, _≤_, _<_}
 use native.Mathlib.Numerals.{add-one}
 use lib.ListN.{length, drop, getD, drop-of-length-le}
 use lib.Seq.{drop-cons}
 use Rattle.coloring.specs.Splines.{spread}
 
 module _ {A : Type 0} where
-  pub spread-length : (value : A) (values : List A) (flags : List Bool) → length (spread value values flags) ≡ length flags
-  unfolding spread
-  spread-length value values [] = refl
-  spread-length value values (false ∷ flags) = ap suc (spread-length value values flags)
-  spread-length value [] (true ∷ flags) = ap suc (spread-length value [] flags)
-  spread-length value (next ∷ values) (true ∷ flags) = ap suc (spread-length next values flags)
-
   module _ (value : A) (values : List A) (flags : List Bool) (next i : ℕ) (h : i < length flags) where
     -- a corner begins the next spline
     pub spread-corner : (d : A) → getD flags i false ≡ true → next < length values

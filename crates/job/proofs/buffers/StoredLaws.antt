@@ -1,13 +1,14 @@
 -- A job as it is stored: what one record more adds, and that the buffers follow it.
 use mathlib.Core.Path.{_≡_, refl, sym, ap, _∙_}
 use mathlib.Core.List.{List, [], _∷_, _++_, map, append-nil, append-assoc}
-use Prim.Native.Nat.{ℕ, suc, _+_, _*_, _-_, _<_, _≤_}
+use Prim.Native.Nat.{ℕ, suc, _+_, _-_, _<_, _≤_}
 use native.Mathlib.Omega.{arith}
 use lib.ListN.{length, getD, set, length-append, length-map}
 use Rattle.geometry.specs.declared.edge_segment.EdgeSegment.{EdgeSegment}
 use Rattle.geometry.specs.declared.edge_segment.EdgeSegment.the-variants as segment
 use Rattle.geometry.specs.EdgeSegment.{toStored}
 use Rattle.coloring.specs.Places.{concat}
+use Rattle.coloring.specs.Sizes.{sizes}
 use Rattle.job.specs.Records.{kindOf}
 use Rattle.job.specs.Job.{withEdge}
 use Rattle.job.specs.Progress.{edgeCount}
@@ -26,11 +27,8 @@ concat-snoc (ys ∷ xss) xs = ap (λ r. ys ++ r) (concat-snoc xss xs) ∙ sym (a
 
 -- ---- an edge more
 
-abbrev pub lengthsOf : List (List EdgeSegment) → List ℕ
-lengthsOf contours = map (λ (contour : List EdgeSegment). length contour) contours
-
 pub lengths-edge : (contours : List (List EdgeSegment)) (e : EdgeSegment) → 0 < length contours
-    → lengthsOf (withEdge contours e) ≡ set (lengthsOf contours) (length contours - 1) (getD (lengthsOf contours) (length contours - 1) 0 + 1)
+    → sizes (withEdge contours e) ≡ set (sizes contours) (length contours - 1) (getD (sizes contours) (length contours - 1) 0 + 1)
 unfolding withEdge
 lengths-edge [] e h = absurd (omega arith)
 lengths-edge (c ∷ []) e h = ap (λ (n : ℕ). n ∷ []) (length-append c (e ∷ []))
@@ -39,7 +37,7 @@ lengths-edge (c ∷ d ∷ contours) e h =
     rw one (ap (λ (r : List ℕ). length c ∷ r) (lengths-edge (d ∷ contours) e (omega arith)))
 
 -- the last contour is no longer than all of them
-pub last-few : (contours : List (List EdgeSegment)) → 0 < length contours → getD (lengthsOf contours) (length contours - 1) 0 ≤ edgeCount contours
+pub last-few : (contours : List (List EdgeSegment)) → 0 < length contours → getD (sizes contours) (length contours - 1) 0 ≤ edgeCount contours
 unfolding concat
 last-few [] h = absurd (omega arith)
 last-few (c ∷ []) h = omega (arith, length-append c [])
@@ -53,12 +51,6 @@ kind-number (segment.Line p0 p1) = refl
 kind-number (segment.Quadratic p0 p1 p2) = refl
 kind-number (segment.Cubic p0 p1 p2 p3) = refl
 
-pub places-eight : (e : EdgeSegment) → length (toStored e .points) ≡ 8
-unfolding toStored
-places-eight (segment.Line p0 p1) = refl
-places-eight (segment.Quadratic p0 p1 p2) = refl
-places-eight (segment.Cubic p0 p1 p2 p3) = refl
-
 pub kinds-edge : (edges : List EdgeSegment) (e : EdgeSegment) → kindsOf (edges ++ (e ∷ [])) ≡ kindsOf edges ++ (toStored e .kind ∷ [])
 kinds-edge edges e = map-snoc _ edges e
 
@@ -67,8 +59,3 @@ places-edge edges e = ap concat (map-snoc (λ (x : EdgeSegment). toStored x .poi
 
 pub kinds-length : (edges : List EdgeSegment) → length (kindsOf edges) ≡ length edges
 kinds-length edges = length-map edges (λ (e : EdgeSegment). toStored e .kind)
-
-pub places-length : (edges : List EdgeSegment) → length (placesOf edges) ≡ 8 * length edges
-unfolding concat
-places-length [] = refl
-places-length (e ∷ edges) = length-append (toStored e .points) (placesOf edges) ∙ omega (arith, places-eight e, places-length edges)

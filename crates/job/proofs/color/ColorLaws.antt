@@ -1,8 +1,8 @@
 -- A job that was read passes the checks of an outline, and its buffers hold its contours: so colouring the buffers is colouring the job.
 use mathlib.Core.Path.{_≡_, refl, sym, ap, _∙_}
 use mathlib.Core.Bool.{Bool, true, false, cond, _&&_}
-use mathlib.Core.List.{List, [], _∷_}
-use Prim.Native.Nat.{ℕ, _+_, _-_, _*_, _/_, _≤_}
+use mathlib.Core.List.{List, [], _∷_, map, map-append}
+use Prim.Native.Nat.{ℕ, _-_, _*_, _/_, _≤_}
 use native.Mathlib.Omega.{arith}
 use lib.Dec.{leb, eqb}
 use lib.Ieee.{Float, binary64, ofBits}
@@ -22,13 +22,14 @@ use Rattle.coloring.specs.PairOrder.{distancesValid}
 use Rattle.coloring.specs.declared.settings.Strategy.the-variants.{Simple, InkTrap}
 use Rattle.coloring.specs.declared.settings.Strategy.{Strategy}
 use Rattle.coloring.specs.declared.settings.Marking.the-variants.{Colors, Numbers}
-use Rattle.coloring.specs.Places.{concat, total}
+use Rattle.coloring.specs.Places.{concat}
 use Rattle.coloring.specs.Splines.{splineTotal}
 use Rattle.coloring.specs.SplineColors.{colorSplines}
 use Rattle.coloring.specs.Outline as outline
 use Rattle.coloring.specs.declared.outline.Colored.the-variants as color
-use Rattle.coloring.specs.Outline.{Result, Outcome, outcome, over, cut, edgeOf, edgesOf, contours, knownKind, coordinatesFit, maxContours, maxEdges, check, fits, delivered, deliver}
-use Rattle.coloring.specs.Shape.{painted, countsOf}
+use Rattle.coloring.specs.Outline.{all, Result, Outcome, outcome, over, cut, encode, edgeOf, contours, knownKind, coordinatesFit, maxContours, maxEdges, check, fits, delivered, deliver}
+use Rattle.coloring.specs.Shape.{markContours, painted, countsOf}
+use Rattle.coloring.specs.Sizes.{sizes, concat-length, points-length}
 use Rattle.coloring.specs.EdgeColoring.{edgeColoring}
 use Rattle.coloring.specs.ByDistance.{maxSplines, maxDistances, checkSplines, checkDistances, splineByte, withBytes, edgeColoringByDistance}
 use Rattle.job.specs.declared.progress.Numbers.{Numbers as JobNumbers}
@@ -39,38 +40,39 @@ use Rattle.job.specs.Job.{Job, Reading, reads, refuses, readJob}
 use Rattle.job.specs.Progress.{edgeCount, numbersOf}
 use Rattle.job.specs.Buffers.{Buffers, buffers, kindsOf, placesOf, stored, overEach, roomFor, hasRoom, Hold}
 use Rattle.job.specs.Reader.{readInto, Delivers}
-use Rattle.job.specs.Color.{foundIn, checkJob, colored, colorJob, colorReading, colorFile, isPassed, acceptedReading, accepted, noOther, outlineOf, colorStored, HoldsJobs}
+use Rattle.job.specs.Color.{foundIn, checkJob, edgesOf, colorsOf, colored, colorJob, colorReading, colorFile, isPassed, acceptedReading, accepted, noOther, outlineOf, colorStored, HoldsJobs}
 use Rattle.job.proofs.records.ReadingLaws.{edgeFits}
 use Rattle.job.proofs.progress.ProgressLaws.{Sound, job-sound, contours-few, edges-few}
-use Rattle.job.proofs.buffers.StoredLaws.{lengthsOf, kinds-length, places-length}
+use Rattle.job.proofs.buffers.StoredLaws.{kinds-length}
 
 -- ---- the buffers hold the contours
 
-pub total-lengths : (contours : List (List EdgeSegment)) → total (lengthsOf contours) ≡ edgeCount contours
-unfolding total concat
-total-lengths [] = refl
-total-lengths (c ∷ contours) = ap (λ (n : ℕ). length c + n) (total-lengths contours) ∙ sym (length-append c (concat contours))
-
-edges-again : (edges : List EdgeSegment) → edgesOf (kindsOf edges) (placesOf edges) ≡ edges
-unfolding edgesOf edgeOf toStored fromStored concat
+edges-again : (edges : List EdgeSegment) → outline.edgesOf (kindsOf edges) (placesOf edges) ≡ edges
+unfolding outline.edgesOf edgeOf toStored fromStored concat
 edges-again [] = refl
 edges-again (segment.Line p0 p1 ∷ edges) = ap (λ (r : List EdgeSegment). segment.Line p0 p1 ∷ r) (edges-again edges)
 edges-again (segment.Quadratic p0 p1 p2 ∷ edges) = ap (λ (r : List EdgeSegment). segment.Quadratic p0 p1 p2 ∷ r) (edges-again edges)
 edges-again (segment.Cubic p0 p1 p2 p3 ∷ edges) = ap (λ (r : List EdgeSegment). segment.Cubic p0 p1 p2 p3 ∷ r) (edges-again edges)
 
-cut-again : (contours : List (List EdgeSegment)) → cut (lengthsOf contours) (concat contours) ≡ contours
+pub cut-again : {A : Type 0} (xss : List (List A)) → cut (sizes xss) (concat xss) ≡ xss
 unfolding cut concat
 cut-again [] = refl
-cut-again (c ∷ contours) = rw (take-at c (concat contours) (length c) refl, drop-at c (concat contours) (length c) refl, cut-again contours)
+cut-again (xs ∷ xss) = rw (take-at xs (concat xss) (length xs) refl, drop-at xs (concat xss) (length xs) refl, cut-again xss)
 
 contours-again : (job : Job) → contours (outlineOf (stored job)) ≡ job .contours
 unfolding contours stored
 contours-again job = rw (edges-again (concat (job .contours))) (cut-again (job .contours))
 
+-- bytes replaced all at once, or contour by contour
+pub map-concat : {A B : Type 0} (f : A → B) (xss : List (List A)) → map f (concat xss) ≡ concat (map (map f) xss)
+unfolding concat
+map-concat f [] = refl
+map-concat f (xs ∷ xss) = map-append f xs (concat xss) ∙ rw (map-concat f xss)
+
 -- ---- and pass the checks
 
-kinds-known : (edges : List EdgeSegment) → outline.all knownKind (kindsOf edges) ≡ true
-unfolding outline.all toStored
+kinds-known : (edges : List EdgeSegment) → all knownKind (kindsOf edges) ≡ true
+unfolding all toStored
 kinds-known [] = refl
 kinds-known (segment.Line p0 p1 ∷ edges) = kinds-known edges
 kinds-known (segment.Quadratic p0 p1 p2 ∷ edges) = kinds-known edges
@@ -80,8 +82,8 @@ and-next : (a b c : Bool) → (a && b) ≡ true → (b ≡ true → c ≡ true) 
 and-next true b c h then = then h
 and-next false b c h then = h
 
-coordinates-pass : (edges : List EdgeSegment) → outline.all edgeFits edges ≡ true → coordinatesFit (kindsOf edges) (placesOf edges) ≡ true
-unfolding coordinatesFit outline.all toStored concat
+coordinates-pass : (edges : List EdgeSegment) → all edgeFits edges ≡ true → coordinatesFit (kindsOf edges) (placesOf edges) ≡ true
+unfolding coordinatesFit all toStored concat
 coordinates-pass [] h = refl
 coordinates-pass (segment.Line p0 p1 ∷ edges) h = and-next (edgeFits (segment.Line p0 p1)) _ _ h (λ k. coordinates-pass edges k)
 coordinates-pass (segment.Quadratic p0 p1 p2 ∷ edges) h = and-next (edgeFits (segment.Quadratic p0 p1 p2)) _ _ h (λ k. coordinates-pass edges k)
@@ -92,12 +94,12 @@ module _ (job : Job) (so : Sound job) (contours-fit : length (job .contours) ≤
   unfolding check maxContours maxEdges stored
   passes =
       let edges = concat (job .contours) in
-      let sum = total-lengths (job .contours) in
+      let sum = sym (concat-length (job .contours)) in
       rw (
         sum,
         length-map (job .contours) (λ (c : List EdgeSegment). length c),
         kinds-length edges,
-        places-length edges,
+        points-length edges,
         le-leb (length (job .contours)) 64 contours-fit,
         le-leb (edgeCount (job .contours)) 256 edges-fit,
         eq-eqb (length edges) (length edges) refl,
@@ -110,32 +112,46 @@ module _ (job : Job) (so : Sound job) (contours-fit : length (job .contours) ≤
   -- ---- so each colouring of the buffers is that of the job
 
   module _ (old : Result) where
+    -- its result with some colours
+    abbrev with : List (List ℕ) → Result
+    with colors = encode (edgesOf job) colors
+
+    abbrev delivered-with : Checked → List (List ℕ) → Outcome
+    delivered-with checked colors = deliver checked (countsOf (foundIn job) (with colors)) (with colors) old
+
     by-colors : (strategy : Strategy) → edgeColoring (record { strategy = strategy; threshold = job .threshold }) (outlineOf (stored job)) (job .seed) old
-        ≡ deliver Passed (countsOf (foundIn job) (painted (Colors strategy (job .seed)) (foundIn job))) (painted (Colors strategy (job .seed)) (foundIn job)) old
-    unfolding edgeColoring foundIn
+        ≡ delivered-with Passed (markContours (Colors strategy (job .seed)) (foundIn job))
+    unfolding edgeColoring foundIn edgesOf painted
     by-colors strategy = rw (passes, contours-again job)
 
-    abbrev numbered : Result
-    numbered = withBytes (splineByte (colorSplines (splineTotal (foundIn job)) (job .distances) (job .seed))) (painted Numbers (foundIn job))
+    abbrev byte : ℕ → ℕ
+    byte = splineByte (colorSplines (splineTotal (foundIn job)) (job .distances) (job .seed))
 
     abbrev distances-checked : Checked
     distances-checked = let splines = splineTotal (foundIn job) in checkSplines splines (checkDistances splines (job .distances))
 
-    by-numbers : edgeColoringByDistance (outlineOf (stored job)) (job .threshold) (job .seed) (job .distances) old ≡ deliver distances-checked (countsOf (foundIn job) numbered) numbered old
+    numbered : withBytes byte (painted Numbers (foundIn job)) ≡ with (map (map byte) (markContours Numbers (foundIn job)))
+    unfolding painted encode edgesOf
+    numbered = rw (map-concat byte (markContours Numbers (foundIn job)))
+
+    by-numbers : edgeColoringByDistance (outlineOf (stored job)) (job .threshold) (job .seed) (job .distances) old
+        ≡ delivered-with distances-checked (map (map byte) (markContours Numbers (foundIn job)))
     unfolding edgeColoringByDistance maxDistances foundIn countsOf
-    by-numbers = rw (le-leb (length (job .distances)) 2016 (so .distances-few), passes, contours-again job)
+    by-numbers =
+        rw (le-leb (length (job .distances)) 2016 (so .distances-few), passes, contours-again job)
+        (ap (λ (r : Result). deliver distances-checked (countsOf (foundIn job) r) r old) numbered)
 
     stored-is : stored job .distances ≡ job .distances
     unfolding stored
     stored-is = refl
 
     stored-colored : colorStored (job .strategy) (job .seed) (job .threshold) (stored job) old ≡ colorJob job old
-    unfolding colorStored colorJob checkJob colored
+    unfolding colorStored colorJob checkJob colored colorsOf
     stored-colored = rw (stored-is, by-colors Simple, by-colors InkTrap, by-numbers) (go (eqb (job .strategy) 1) (eqb (job .strategy) 2) _ _ _ _)
       where
-        go : (a b : Bool) (x y z : Result) (k : Checked)
-            → cond a (deliver Passed (countsOf (foundIn job) x) x old) (cond b (deliver Passed (countsOf (foundIn job) y) y old) (deliver k (countsOf (foundIn job) z) z old))
-            ≡ deliver (cond a Passed (cond b Passed k)) (countsOf (foundIn job) (cond a x (cond b y z))) (cond a x (cond b y z)) old
+        go : (a b : Bool) (x y z : List (List ℕ)) (k : Checked)
+            → cond a (delivered-with Passed x) (cond b (delivered-with Passed y) (delivered-with k z))
+            ≡ delivered-with (cond a Passed (cond b Passed k)) (cond a x (cond b y z))
         go true b x y z k = refl
         go false true x y z k = refl
         go false false x y z k = refl
@@ -213,9 +229,9 @@ module _ {file : List ℕ} {n : JobNumbers} {old : Buffers} {lengths kinds : Lis
         h .holds .kinds-are,
         h .holds .points-are,
         h .holds .distances-are,
-        take-over (length (job .contours)) (lengthsOf (job .contours)) (old .lengths) (length-map (job .contours) (λ (c : List EdgeSegment). length c)),
+        take-over (length (job .contours)) (sizes (job .contours)) (old .lengths) (length-map (job .contours) (λ (c : List EdgeSegment). length c)),
         take-over (length edges) (kindsOf edges) (old .kinds) (kinds-length edges),
-        take-over (8 * length edges) (placesOf edges) (old .points) (places-length edges),
+        take-over (8 * length edges) (placesOf edges) (old .points) (points-length edges),
         take-over (length (job .distances)) (job .distances) (old .distances) refl,
       )
 
@@ -233,7 +249,7 @@ module _ {file : List ℕ} {n : JobNumbers} {old : Buffers} {lengths kinds : Lis
 
   pub contours-within : n .contours ≤ length lengths
   unfolding overEach stored
-  contours-within = rw (h .numbers, h .holds .lengths-are) (within (lengthsOf (h .job .contours)) (old .lengths) (length-map (h .job .contours) (λ (c : List EdgeSegment). length c)))
+  contours-within = rw (h .numbers, h .holds .lengths-are) (within (sizes (h .job .contours)) (old .lengths) (length-map (h .job .contours) (λ (c : List EdgeSegment). length c)))
 
   pub kinds-within : n .edges ≤ length kinds
   unfolding overEach stored
@@ -241,7 +257,7 @@ module _ {file : List ℕ} {n : JobNumbers} {old : Buffers} {lengths kinds : Lis
 
   pub places-within : 8 * n .edges ≤ length points
   unfolding overEach stored
-  places-within = rw (h .numbers, h .holds .points-are) (within (placesOf (concat (h .job .contours))) (old .points) (places-length (concat (h .job .contours))))
+  places-within = rw (h .numbers, h .holds .points-are) (within (placesOf (concat (h .job .contours))) (old .points) (points-length (concat (h .job .contours))))
 
   pub distances-within : n .distances ≤ length distances
   unfolding overEach stored

@@ -4,12 +4,13 @@ use mathlib.Core.Bool.{Bool, true, false}
 use mathlib.Core.List.{List, [], _∷_, _++_, append-assoc}
 use Prim.Native.Nat.{ℕ, suc, _+_, _*_, _/_, _%_, _<_, _≤_}
 use native.Mathlib.Omega.{arith}
-use lib.ListN.{length, take, drop, getD, length-append, length-take, length-drop, List·getD-eq-default}
+use lib.ListN.{length, take, drop, getD, length-append, length-drop, take-append-drop}
 use native.Mathlib.Numerals.{add-one}
-use lib.Seq.{getD-take, getD-drop, drop-cons, drop-drop}
+use lib.Seq.{drop-cons, drop-drop}
 use lib.Dec.{leb, ltb}
 use borrow.Author.Tests.{lt-ltb, le-ltb, leb-true, leb-false}
-use Rattle.coloring.specs.Places.{total}
+use Rattle.coloring.specs.Places.{concat, total}
+use Rattle.coloring.specs.Outline.{cut}
 use Rattle.coloring.specs.Refusal.{refusalNumber}
 use Rattle.coloring.specs.declared.refusal.Refusal.{Refusal}
 use Rattle.job.specs.Listing.{digit, decimal, decimalWithin, letter, space, newline, edgesWord, refusedWord, field, line, contourLines, shapeLines, countLine, listing, refusalLine}
@@ -78,39 +79,40 @@ AreColors colors = (i : ℕ) → getD colors i 0 < 8
 contour-few : (contour place : ℕ) (kinds colors : List ℕ) → contour < 100 → place + length kinds ≤ 1000 → AreColors colors → length (contourLines contour place kinds colors) ≤ 11 * length kinds
 unfolding contourLines
 contour-few contour place [] colors h k l = omega arith
-contour-few contour place (kind ∷ kinds) colors h k l =
+contour-few contour place (kind ∷ kinds) [] h k l = omega arith
+contour-few contour place (kind ∷ kinds) (color ∷ colors) h k l =
     omega (
       arith,
-      length-append (line contour place kind (getD colors 0 0)) (contourLines contour (suc place) kinds (drop 1 colors)),
-      line-few contour place kind (getD colors 0 0) h (omega arith) (omega (arith, l 0)),
-      contour-few contour (suc place) kinds (drop 1 colors) h (omega arith) (λ i. rw getD-drop (l (1 + i))),
+      length-append (line contour place kind color) (contourLines contour (suc place) kinds colors),
+      line-few contour place kind color h (omega arith) (omega (arith, l 0)),
+      contour-few contour (suc place) kinds colors h (omega arith) (λ i. l (suc i)),
     )
 
-shape-few : (contour : ℕ) (lengths kinds colors : List ℕ) → contour + length lengths ≤ 100 → length kinds ≤ 1000 → AreColors colors → length (shapeLines contour lengths kinds colors) ≤ 11 * length kinds
-unfolding shapeLines
-shape-few contour [] kinds colors h k l = omega arith
-shape-few contour (n ∷ lengths) kinds colors h k l =
+-- the colours of each contour
+abbrev pub EachColors : List (List ℕ) → Type 0
+EachColors colors = (i : ℕ) → AreColors (getD colors i [])
+
+shape-few : (contour : ℕ) (kinds colors : List (List ℕ)) → contour + length kinds ≤ 100 → length (concat kinds) ≤ 1000 → EachColors colors
+    → length (shapeLines contour kinds colors) ≤ 11 * length (concat kinds)
+unfolding shapeLines concat
+shape-few contour [] colors h k l = omega arith
+shape-few contour (here ∷ kinds) [] h k l = omega arith
+shape-few contour (here ∷ kinds) (marked ∷ colors) h k l =
+    let sum = length-append here (concat kinds) in
     omega (
       arith,
-      length-append (contourLines contour 0 (take n kinds) (take n colors)) (shapeLines (suc contour) lengths (drop n kinds) (drop n colors)),
-      contour-few contour 0 (take n kinds) (take n colors) (omega arith) (rw length-take (omega arith)) (λ i. taken i),
-      shape-few (suc contour) lengths (drop n kinds) (drop n colors) (omega arith) (rw length-drop (omega arith)) (λ i. rw getD-drop (l (n + i))),
-      length-take n kinds,
-      length-drop n kinds,
+      sum,
+      length-append (contourLines contour 0 here marked) (shapeLines (suc contour) kinds colors),
+      contour-few contour 0 here marked (omega arith) (omega arith) (l 0),
+      shape-few (suc contour) kinds colors (omega arith) (omega arith) (λ i. l (suc i)),
     )
-  where
-    taken : (i : ℕ) → getD (take n colors) i 0 < 8
-    taken i = go (leb n i) refl
-      where
-        go : (b : Bool) → leb n i ≡ b → getD (take n colors) i 0 < 8
-        go true e = rw (List·getD-eq-default (take n colors) 0 {n = i} (rw length-take (omega (arith, leb-true n i e)))) (omega arith)
-        go false e = rw (getD-take n colors i 0 (leb-false n i e)) (l i)
 
 -- the longest text: 508 lines of 11 bytes, and the count's line of 10
-pub listing-few : (lengths kinds colors : List ℕ) → length lengths ≤ 64 → length kinds ≤ 508 → AreColors colors → length (listing lengths kinds colors) ≤ 5598
+pub listing-few : (kinds colors : List (List ℕ)) → length kinds ≤ 64 → length (concat kinds) ≤ 508 → EachColors colors → length (listing kinds colors) ≤ 5598
 unfolding listing
-listing-few lengths kinds colors h k l =
-    omega (arith, length-append (shapeLines 0 lengths kinds colors) (countLine (length kinds)), shape-few 0 lengths kinds colors (omega arith) (omega arith) l, count-length (length kinds), three-digits (length kinds) (omega arith))
+listing-few kinds colors h k l =
+    let n = length (concat kinds) in
+    omega (arith, length-append (shapeLines 0 kinds colors) (countLine n), shape-few 0 kinds colors (omega arith) (omega arith) l, count-length n, three-digits n (omega arith))
   where
     count-length : (n : ℕ) → length (countLine n) ≡ length (decimal n) + 7
     count-length n = unfold countLine in length-append edgesWord (decimal n ++ (newline ∷ [])) ∙ rw (length-append (decimal n) (newline ∷ [])) (omega arith)
@@ -132,17 +134,16 @@ line-fields contour place kind color = simp append-assoc
 
 -- ---- line by line
 
-pub contour-step : (contour i : ℕ) (kinds colors : List ℕ) → i < length kinds
+pub contour-step : (contour i : ℕ) (kinds colors : List ℕ) → i < length kinds → length colors ≡ length kinds
     → contourLines contour i (drop i kinds) (drop i colors) ≡ line contour i (getD kinds i 0) (getD colors i 0) ++ contourLines contour (i + 1) (drop (i + 1) kinds) (drop (i + 1) colors)
 unfolding contourLines
-contour-step contour i kinds colors h =
-    let color : getD (drop i colors) 0 0 ≡ getD colors i 0 = getD-drop i colors 0 0 ∙ ap (λ (k : ℕ). getD colors k 0) (omega arith) in
-    rw (drop-cons kinds i 0 h, color, drop-drop 1 i colors, add-one i)
+contour-step contour i kinds colors h l = rw (drop-cons kinds i 0 h, drop-cons colors i 0 (omega arith), add-one i)
 
 pub shape-step : (contour from n : ℕ) (lengths kinds colors : List ℕ) → contour < length lengths → n ≡ getD lengths contour 0
-    → shapeLines contour (drop contour lengths) (drop from kinds) (drop from colors)
-    ≡ contourLines contour 0 (take n (drop from kinds)) (take n (drop from colors)) ++ shapeLines (contour + 1) (drop (contour + 1) lengths) (drop (from + n) kinds) (drop (from + n) colors)
-unfolding shapeLines
+    → shapeLines contour (cut (drop contour lengths) (drop from kinds)) (cut (drop contour lengths) (drop from colors))
+    ≡ contourLines contour 0 (take n (drop from kinds)) (take n (drop from colors))
+    ++ shapeLines (contour + 1) (cut (drop (contour + 1) lengths) (drop (from + n) kinds)) (cut (drop (contour + 1) lengths) (drop (from + n) colors))
+unfolding shapeLines cut
 shape-step contour from n lengths kinds colors h e = rw (drop-cons lengths contour 0 h, ← e, drop-drop n from kinds, drop-drop n from colors, add-one contour)
 
 pub total-step : (contour : ℕ) (lengths : List ℕ) → contour < length lengths → total (drop contour lengths) ≡ getD lengths contour 0 + total (drop (contour + 1) lengths)
@@ -151,13 +152,23 @@ total-step contour lengths h = rw (drop-cons lengths contour 0 h, add-one contou
 
 -- ---- the whole text
 
-pub listing-parts : (lengths kinds colors : List ℕ) → (shapeLines 0 lengths kinds colors ++ edgesWord) ++ field (length kinds) newline ≡ listing lengths kinds colors
-unfolding listing
-listing-parts lengths kinds colors = append-assoc (shapeLines 0 lengths kinds colors) edgesWord (field (length kinds) newline)
+-- all edges of a shape that is cut out of one list
+concat-cut : {A : Type 0} (lengths : List ℕ) (xs : List A) → total lengths ≡ length xs → concat (cut lengths xs) ≡ xs
+unfolding total concat cut
+concat-cut [] [] e = refl
+concat-cut [] (x ∷ xs) e = absurd (omega arith)
+concat-cut (n ∷ lengths) xs e = rw (concat-cut lengths (drop n xs) (rw length-drop (omega arith))) (take-append-drop n xs)
 
-pub listing-length : (lengths kinds colors : List ℕ) → length (listing lengths kinds colors) ≡ length (shapeLines 0 lengths kinds colors) + 6 + length (field (length kinds) newline)
-listing-length lengths kinds colors =
-    omega (arith, ap length (listing-parts lengths kinds colors), length-append (shapeLines 0 lengths kinds colors ++ edgesWord) (field (length kinds) newline), length-append (shapeLines 0 lengths kinds colors) edgesWord)
+module _ (lengths kinds colors : List ℕ) (e : total lengths ≡ length kinds) where
+  abbrev lines : List ℕ
+  lines = shapeLines 0 (cut lengths kinds) (cut lengths colors)
+
+  pub listing-parts : (lines ++ edgesWord) ++ field (length kinds) newline ≡ listing (cut lengths kinds) (cut lengths colors)
+  unfolding listing
+  listing-parts = rw (concat-cut lengths kinds e) (append-assoc lines edgesWord (field (length kinds) newline))
+
+  pub listing-length : length (listing (cut lengths kinds) (cut lengths colors)) ≡ length lines + 6 + length (field (length kinds) newline)
+  listing-length = omega (arith, ap length listing-parts, length-append (lines ++ edgesWord) (field (length kinds) newline), length-append lines edgesWord)
 
 pub refusal-parts : (refusal : Refusal) → refusedWord ++ field (refusalNumber refusal) newline ≡ refusalLine refusal
 unfolding refusalLine

@@ -1,4 +1,4 @@
--- Numbers in a file: their bound, their places, and which patterns are a NaN's.
+-- Numbers in a file: their bound, their places, and patterns that are no NaN's.
 use mathlib.Core.Path.{_≡_, refl, sym, ap, subst, _∙_}
 use mathlib.Core.Bool.{Bool, true, false, not}
 use mathlib.Core.List.{List, [], _∷_}
@@ -7,11 +7,12 @@ use native.Mathlib.Omega.{arith}
 use lib.Pow.{pow-mono, pow-add}
 use lib.ListN.{length, take, drop, getD, length-drop, length-map}
 use lib.Seq.{drop-drop, drop-cons, getD-drop}
-use borrow.Author.Tests.{lt-ltb, le-ltb, leb-true}
+use borrow.Author.Tests.{le-ltb, leb-true}
 use lib.Dec.{T}
-use lib.Ieee.{Float, nan, inf, fin, binary64, div, isNan, nanBits, ofBits, toBits}
+use lib.Ieee.{Float, binary64, isNan, nanBits, ofBits, toBits}
 use lib.Ieee.Bits.{nanBits-is, nanBits-above, toBits-ofBits}
-use Rattle.job.specs.Patterns.{number, words, floats, all, isThreshold, signBit}
+use Rattle.coloring.specs.Outline.{all}
+use Rattle.job.specs.Patterns.{number, words, floats, isThreshold, signBit}
 
 -- ---- the number of some bytes
 
@@ -35,22 +36,9 @@ pub number-at : (bytes : List ℕ) (i : ℕ) → i < length bytes → number (dr
 unfolding number
 number-at bytes i h = rw (drop-cons bytes i 0 h)
 
--- ---- NaNs
+-- ---- a pattern that is no NaN's
 
-only-nan : (x : Float) → isNan x ≡ true → x ≡ nan
-unfolding isNan
-only-nan nan h = refl
-only-nan (inf s) h = cc
-only-nan (fin s m e) h = cc
-
-pub zero-by-zero : div binary64 (ofBits binary64 0) (ofBits binary64 0) ≡ nan
-unfolding div ofBits
-zero-by-zero = refl
-
-pub nan-pattern : (b : ℕ) → 9218868437227405312 < b % 9223372036854775808 → ofBits binary64 b ≡ nan
-nan-pattern b h = only-nan (ofBits binary64 b) (sym (nanBits-is binary64 b) ∙ nanBits-above binary64 b ∙ lt-ltb _ _ h)
-
-pub no-nan-pattern : (b : ℕ) → b % 9223372036854775808 ≤ 9218868437227405312 → nanBits binary64 b ≡ false
+no-nan-pattern : (b : ℕ) → b % 9223372036854775808 ≤ 9218868437227405312 → nanBits binary64 b ≡ false
 no-nan-pattern b h = nanBits-above binary64 b ∙ le-ltb _ _ h
 
 -- ---- many numbers, one after another

@@ -12,9 +12,10 @@ use borrow.Author.Tests.{ltb-true}
 use Rattle.geometry.specs.declared.edge_segment.EdgeSegment.{EdgeSegment}
 use Rattle.math.specs.Scalar.{f1}
 use Rattle.coloring.specs.Outline as outline
-use Rattle.coloring.specs.Outline.{between}
+use Rattle.coloring.specs.Outline.{all, between}
 use Rattle.coloring.specs.Places.{concat}
 use Rattle.coloring.specs.declared.refusal.Refusal.{Refusal}
+use Rattle.coloring.specs.Bools.{and-left}
 use Rattle.job.specs.declared.records.Phase.{Phase}
 use Rattle.job.specs.declared.records.Phase.the-variants.{Start, Outside, Inside, Closing}
 use Rattle.job.specs.declared.records.State.{State}
@@ -83,19 +84,19 @@ progress-next at phase job (distances ds) ready = refl
 pub record Sound (job : Job) : Type 0 where
   pub threshold-fits : between (Ieee.neg f1) (job .threshold) f1 ≡ true
   pub threshold-back : ofBits binary64 (toBits binary64 (job .threshold)) ≡ job .threshold
-  pub coordinates-fit : outline.all edgeFits (concat (job .contours)) ≡ true
+  pub coordinates-fit : all edgeFits (concat (job .contours)) ≡ true
   pub distances-few : length (job .distances) ≤ 2016
 
 sound-begin : Sound noJob
-unfolding concat outline.all toBits ofBits Ieee.neg Ieee.le
+unfolding concat all toBits ofBits Ieee.neg Ieee.le
 sound-begin = record { threshold-fits = refl; threshold-back = refl; coordinates-fit = refl; distances-few = omega arith }
 
-all-snoc : {A : Type 0} (test : A → Bool) (xs : List A) (x : A) → outline.all test xs ≡ true → test x ≡ true → outline.all test (xs ++ (x ∷ [])) ≡ true
-unfolding outline.all
+all-snoc : {A : Type 0} (test : A → Bool) (xs : List A) (x : A) → all test xs ≡ true → test x ≡ true → all test (xs ++ (x ∷ [])) ≡ true
+unfolding all
 all-snoc test [] x h k = rw k
 all-snoc test (y ∷ xs) x h k = go (test y) h (λ e. all-snoc test xs x e k)
   where
-    go : (b : Bool) → (b && outline.all test xs) ≡ true → (outline.all test xs ≡ true → outline.all test (xs ++ (x ∷ [])) ≡ true) → (b && outline.all test (xs ++ (x ∷ []))) ≡ true
+    go : (b : Bool) → (b && all test xs) ≡ true → (all test xs ≡ true → all test (xs ++ (x ∷ [])) ≡ true) → (b && all test (xs ++ (x ∷ []))) ≡ true
     go true h rest = rest h
     go false h rest = cc
 
@@ -207,16 +208,12 @@ in-contour Outside h = cc
 in-contour Inside h = refl
 in-contour Closing h = cc
 
-pub and-true : (a b : Bool) → (a && b) ≡ true → a ≡ true
-and-true true b h = refl
-and-true false b h = cc
-
 -- no record comes after the distances
 pub not-closing : (s : State) (r : Record) → allowed s (recordMark r) ≡ true → closing (s .phase) ≡ false
 not-closing s (header strategy seed threshold) h = at-start (s .phase) h
 not-closing s contour h = among-contours (s .phase) h
 not-closing s (edge e) h = in-contour (s .phase) h
-not-closing s (distances ds) h = among-contours (s .phase) (and-true (among (s .phase)) (byDistance (s .strategy)) h)
+not-closing s (distances ds) h = among-contours (s .phase) (and-left (among (s .phase)) (byDistance (s .strategy)) h)
 
 none-after : (job : Job) (s : State) (r : Record) → allowed s (recordMark r) ≡ true → (closing (s .phase) ≡ false → job .distances ≡ [])
     → closing (after s r .phase) ≡ false → enter job r .distances ≡ []
@@ -267,7 +264,7 @@ size-after job s at (header strategy seed threshold) is-ready may few h = omega 
 size-after job s at contour is-ready may few h = rw (length-append (job .contours) ([] ∷ []), more-concat (job .contours)) (omega (arith, among-besides (s .phase) may))
 size-after job s at (edge e) is-ready may few h =
     rw (with-edge-length (job .contours) e, with-edge-concat (job .contours) e is-ready, length-append (concat (job .contours)) (e ∷ [])) (omega (arith, controls-few (kindOf e)))
-size-after job s at (distances ds) is-ready may few h = omega (arith, among-besides (s .phase) (and-true (among (s .phase)) (byDistance (s .strategy)) may))
+size-after job s at (distances ds) is-ready may few h = omega (arith, among-besides (s .phase) (and-left (among (s .phase)) (byDistance (s .strategy)) may))
 
 -- a record, read at such a place
 module _ (file : List ℕ) (p : Progress) (at : Reached file p) (r : Record) (rest : List ℕ) (e : readRecord (p .state) (drop (p .at) file) ≡ next r rest) where

@@ -13,6 +13,7 @@ use Rattle.geometry.specs.EdgeSegment.{toStored}
 use Rattle.coloring.specs.Places.{concat}
 use Rattle.coloring.specs.Outline.{over}
 use Rattle.coloring.specs.declared.refusal.Refusal.{Refusal}
+use Rattle.coloring.specs.Sizes.{sizes, places-length, points-length}
 use Rattle.job.specs.declared.records.State.{State}
 use Rattle.job.specs.declared.records.Item.{Item}
 use Rattle.job.specs.declared.progress.Progress.{Progress}
@@ -25,7 +26,7 @@ use Rattle.job.specs.Buffers.{Buffers, buffers, kindsOf, placesOf, kindN
 use Rattle.job.proofs.records.ReadingLaws.{recordMark, Taken, taken, Read-as, records-end, records-fault}
 use Rattle.job.proofs.progress.ProgressLaws.{Reached, reached-begin, begin-job, reached-next, next-job, reached-end, reached-fault, Ready, with-edge-length, with-edge-concat, more-concat, not-closing, record-taken, is-ready, contours-are, edges-are, ahead}
 use Rattle.job.proofs.buffers.BufferLaws.{over-more, over-length, over-set, over-getD, over-part}
-use Rattle.job.proofs.buffers.StoredLaws.{lengthsOf, map-snoc, lengths-edge, last-few, kind-number, places-eight, kinds-edge, places-edge, kinds-length, places-length}
+use Rattle.job.proofs.buffers.StoredLaws.{map-snoc, lengths-edge, last-few, kind-number, kinds-edge, places-edge, kinds-length}
 
 -- ---- a job so far is a part of the whole
 
@@ -105,7 +106,7 @@ unfolding stored
 fitting job old contours edges h k room = record {
   lengths-fit = omega (arith, length-map (job .contours) (λ (c : List EdgeSegment). length c), room .contours-fit);
   kinds-fit = omega (arith, kinds-length (concat (job .contours)), room .edges-fit);
-  points-fit = omega (arith, places-length (concat (job .contours)), room .places-fit);
+  points-fit = omega (arith, points-length (concat (job .contours)), room .places-fit);
   distances-fit = room .distances-fit;
 }
 
@@ -122,17 +123,17 @@ module _ (job : Job) (old : Buffers) (s : State) (bytes : List ℕ) (contours-at
   abbrev edges : List EdgeSegment
   edges = concat contours
 
-  count : length (lengthsOf contours) ≡ length contours
+  count : length (sizes contours) ≡ length contours
   count = length-map contours (λ (c : List EdgeSegment). length c)
 
   written-contour : Fitting (stored (enter job contour)) old → written (itemOf contour) s bytes (overEach (stored job) old) ≡ overEach (stored (enter job contour)) old
   unfolding written overEach stored enter
   written-contour fit =
-      let more : lengthsOf (contours ++ ([] ∷ [])) ≡ lengthsOf contours ++ (0 ∷ []) = map-snoc (λ (c : List EdgeSegment). length c) contours [] in
-      let at : s .contours ≡ length (lengthsOf contours) = contours-at ∙ sym count in
+      let more : sizes (contours ++ ([] ∷ [])) ≡ sizes contours ++ (0 ∷ []) = map-snoc (λ (c : List EdgeSegment). length c) contours [] in
+      let at : s .contours ≡ length (sizes contours) = contours-at ∙ sym count in
       same
-      (ap (λ (n : ℕ). set (over (lengthsOf contours) (old .lengths)) n 0) at
-      ∙ over-more (lengthsOf contours) (old .lengths) 0 (omega (arith, fit .lengths-fit, ap length more, length-append (lengthsOf contours) (0 ∷ [])))
+      (ap (λ (n : ℕ). set (over (sizes contours) (old .lengths)) n 0) at
+      ∙ over-more (sizes contours) (old .lengths) 0 (omega (arith, fit .lengths-fit, ap length more, length-append (sizes contours) (0 ∷ [])))
       ∙ ap (λ (x : List ℕ). over x (old .lengths)) (sym more))
       (rw (more-concat contours))
       (rw (more-concat contours))
@@ -145,19 +146,19 @@ module _ (job : Job) (old : Buffers) (s : State) (bytes : List ℕ) (contours-at
   written-edge e opened fit held =
       let all : concat (withEdge contours e) ≡ edges ++ (e ∷ []) = with-edge-concat contours e opened in
       let last : s .contours - 1 ≡ length contours - 1 = omega arith in
-      let inside : length contours - 1 < length (lengthsOf contours) = omega (arith, count) in
-      let fewer : length (lengthsOf contours) ≤ length (old .lengths) = omega (arith, count, fit .lengths-fit, length-map (withEdge contours e) (λ (c : List EdgeSegment). length c), with-edge-length contours e) in
+      let inside : length contours - 1 < length (sizes contours) = omega (arith, count) in
+      let fewer : length (sizes contours) ≤ length (old .lengths) = omega (arith, count, fit .lengths-fit, length-map (withEdge contours e) (λ (c : List EdgeSegment). length c), with-edge-length contours e) in
       let at : s .edges ≡ length (kindsOf edges) = edges-at ∙ sym (kinds-length edges) in
       let kinds : kindsOf (concat (withEdge contours e)) ≡ kindsOf edges ++ (kindNumber (kindOf e) ∷ []) = ap kindsOf all ∙ kinds-edge edges e ∙ ap (λ (n : ℕ). kindsOf edges ++ (n ∷ [])) (kind-number e) in
       let points : placesOf (concat (withEdge contours e)) ≡ placesOf edges ++ toStored e .points = ap placesOf all ∙ places-edge edges e in
       same
-      (rw (last, over-getD (lengthsOf contours) (old .lengths) (length contours - 1) 0 inside) (over-set (lengthsOf contours) (old .lengths) (length contours - 1) _ inside fewer)
+      (rw (last, over-getD (sizes contours) (old .lengths) (length contours - 1) 0 inside) (over-set (sizes contours) (old .lengths) (length contours - 1) _ inside fewer)
       ∙ ap (λ (x : List ℕ). over x (old .lengths)) (sym (lengths-edge contours e opened)))
       (ap (λ (n : ℕ). set (over (kindsOf edges) (old .kinds)) n (kindNumber (kindOf e))) at
       ∙ over-more (kindsOf edges) (old .kinds) (kindNumber (kindOf e)) (omega (arith, fit .kinds-fit, ap length kinds, length-append (kindsOf edges) (kindNumber (kindOf e) ∷ [])))
       ∙ ap (λ (x : List ℕ). over x (old .kinds)) (sym kinds))
       (ap (λ (x : EdgeSegment). take (8 * s .edges) (over (placesOf edges) (old .points)) ++ (toStored x .points ++ drop 8 (drop (8 * s .edges) (over (placesOf edges) (old .points))))) (sym held)
-      ∙ over-part (placesOf edges) (toStored e .points) (old .points) (8 * s .edges) 8 (omega (arith, edges-at, places-length edges)) (sym (places-eight e))
+      ∙ over-part (placesOf edges) (toStored e .points) (old .points) (8 * s .edges) 8 (omega (arith, edges-at, points-length edges)) (sym (places-length e))
       ∙ ap (λ (x : List Float). over x (old .points)) (sym points))
       refl
 
@@ -177,23 +178,23 @@ module _ (job : Job) (old : Buffers) (s : State) (bytes : List ℕ) (contours-at
   room-contour : Fitting (stored (enter job contour)) old → Room (itemOf contour) s bytes (overEach (stored job) old)
   unfolding overEach stored enter
   room-contour fit =
-      let more : length (lengthsOf (contours ++ ([] ∷ []))) ≡ length contours + 1 = length-map (contours ++ ([] ∷ [])) (λ (c : List EdgeSegment). length c) ∙ length-append contours ([] ∷ []) in
-      rw (over-length (lengthsOf contours) (old .lengths) (omega (arith, count, more, fit .lengths-fit))) (omega (arith, more, fit .lengths-fit))
+      let more : length (sizes (contours ++ ([] ∷ []))) ≡ length contours + 1 = length-map (contours ++ ([] ∷ [])) (λ (c : List EdgeSegment). length c) ∙ length-append contours ([] ∷ []) in
+      rw (over-length (sizes contours) (old .lengths) (omega (arith, count, more, fit .lengths-fit))) (omega (arith, more, fit .lengths-fit))
 
   room-edge : (e : EdgeSegment) → 0 < length contours → edgeCount contours ≤ 256 → 2 + 16 * controls (kindOf e) ≤ length bytes → Fitting (stored (enter job (edge e))) old
       → Room (itemOf (edge e)) s bytes (overEach (stored job) old)
   unfolding overEach stored enter
   room-edge e opened few whole fit =
       let all : edgeCount (withEdge contours e) ≡ edgeCount contours + 1 = ap length (with-edge-concat contours e opened) ∙ length-append edges (e ∷ []) in
-      let lengths-in : length (lengthsOf contours) ≤ length (old .lengths) = omega (arith, count, fit .lengths-fit, length-map (withEdge contours e) (λ (c : List EdgeSegment). length c), with-edge-length contours e) in
+      let lengths-in : length (sizes contours) ≤ length (old .lengths) = omega (arith, count, fit .lengths-fit, length-map (withEdge contours e) (λ (c : List EdgeSegment). length c), with-edge-length contours e) in
       let kinds-in : edgeCount contours + 1 ≤ length (old .kinds) = omega (arith, fit .kinds-fit, kinds-length (concat (withEdge contours e)), all) in
-      let points-in : 8 * (edgeCount contours + 1) ≤ length (old .points) = omega (arith, fit .points-fit, places-length (concat (withEdge contours e)), all) in
+      let points-in : 8 * (edgeCount contours + 1) ≤ length (old .points) = omega (arith, fit .points-fit, points-length (concat (withEdge contours e)), all) in
       let last : s .contours - 1 ≡ length contours - 1 = omega arith in (
         omega arith,
-        omega (arith, over-length (lengthsOf contours) (old .lengths) lengths-in, count),
-        rw (last, over-getD (lengthsOf contours) (old .lengths) (length contours - 1) 0 (omega (arith, count))) (omega (arith, last-few contours opened)),
+        omega (arith, over-length (sizes contours) (old .lengths) lengths-in, count),
+        rw (last, over-getD (sizes contours) (old .lengths) (length contours - 1) 0 (omega (arith, count))) (omega (arith, last-few contours opened)),
         omega (arith, over-length (kindsOf edges) (old .kinds) (omega (arith, kinds-length edges))),
-        omega (arith, over-length (placesOf edges) (old .points) (omega (arith, places-length edges))),
+        omega (arith, over-length (placesOf edges) (old .points) (omega (arith, points-length edges))),
         whole,
       )
 

@@ -15,7 +15,7 @@ use Rattle.math.specs.Scalar.{f1}
 use Rattle.geometry.specs.EdgeSegment.{toStored}
 use Rattle.geometry.specs.declared.edge_segment.EdgeSegment.{EdgeSegment}
 use Rattle.coloring.specs.Outline as outline
-use Rattle.coloring.specs.Outline.{between, inRange, usedPlaces, max-coordinate}
+use Rattle.coloring.specs.Outline.{all, between, inRange, usedPlaces, max-coordinate}
 use Rattle.coloring.specs.declared.refusal.Refusal.{Refusal}
 use Rattle.coloring.specs.declared.refusal.Refusal.the-variants.{Truncated, MisplacedMark, TooMany, UnknownKind, BadThreshold, BadCoordinate, BadDistance}
 use Rattle.job.specs.declared.records.Kind.{Kind}
@@ -27,7 +27,7 @@ use Rattle.job.specs.declared.records.Marked.the-variants.{Known, Unknow
 use Rattle.job.specs.declared.records.State.{State}
 use Rattle.job.specs.declared.records.Item.{Item}
 use Rattle.job.specs.declared.records.Found.the-variants as found
-use Rattle.job.specs.Patterns.{number, words, floats, all, isThreshold, isCoordinate, isDistance}
+use Rattle.job.specs.Patterns.{number, words, floats, isThreshold, isCoordinate, isDistance}
 use Rattle.job.specs.Records.{Record, header, contour, edge, distances, Step, next, ends, fails, require, knownStrategy, controls, bodySize, allowed, fits, kindOf, edgeOf, recordSize, itemOf, foundOf, markOf, readHeader, readEdge, readDistances, readEnd, readBody, readMarked, readRecord, after, Records, complete, fault, _then_, recordsWithin, recordsFrom}
 use Rattle.job.proofs.patterns.PatternLaws.{floats-length}
 use Rattle.job.proofs.patterns.PatternMeaning.{threshold-means, coordinate-means}
@@ -49,7 +49,7 @@ Held (distances ds) bytes = (length ds ≤ 2016) × (ds ≡ floats (words (lengt
 
 -- an edge's coordinates lie within their range
 abbrev pub edgeFits : EdgeSegment → Bool
-edgeFits e = outline.all inRange (take (usedPlaces (toStored e .kind)) (toStored e .points))
+edgeFits e = all inRange (take (usedPlaces (toStored e .kind)) (toStored e .points))
 
 -- the floats of a record lie within their ranges
 abbrev pub InRange : Record → Type 0
@@ -85,8 +85,8 @@ threshold-fits b h = (within, ofBits-toBits binary64 (ofBits binary64 b) (ofBits
     within : between (Ieee.neg f1) (ofBits binary64 b) f1 ≡ true
     within = sym (threshold-means b) ∙ h
 
-coordinates-fit : (ps : List ℕ) → outline.all inRange (floats ps) ≡ all isCoordinate ps
-unfolding outline.all all floats
+coordinates-fit : (ps : List ℕ) → all inRange (floats ps) ≡ all isCoordinate ps
+unfolding all floats
 coordinates-fit [] = refl
 coordinates-fit (b ∷ ps) =
     let one : inRange (ofBits binary64 b) ≡ isCoordinate b = rw max-coordinate (sym (coordinate-means b)) in

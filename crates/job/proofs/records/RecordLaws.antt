@@ -18,7 +18,8 @@ use Rattle.job.specs.declared.records.Mark.{Mark}
 use Rattle.job.specs.declared.records.Marked.the-variants.{Known}
 use borrow.Author.Tests.{le-leb}
 use Rattle.job.specs.declared.records.Item.the-variants as item
-use Rattle.job.specs.Patterns.{number, words, floats, all, isThreshold, isCoordinate}
+use Rattle.coloring.specs.Outline.{all}
+use Rattle.job.specs.Patterns.{number, words, floats, isThreshold, isCoordinate}
 use Rattle.job.specs.Records.{Record, header, edge, next, fails, require, knownStrategy, controls, allowed, fits, bodySize, markOf, readBody, readMarked, readRecord, foundOf, readHeader, readEdge, readEnd, kindOf, edgeOf}
 use Rattle.job.proofs.patterns.PatternLaws.{threshold-back}
 

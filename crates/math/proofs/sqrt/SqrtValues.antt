@@ -14,8 +14,9 @@ use lib.Ieee.Exact.{HasValue}
 use lib.Ieee.Order.{transfer}
 use lib.Ieee.Positive.{num, den, positive, den-pos, positive-of-value, value→cross, value-pos}
 use borrow.Author.Tests.{ltb-true, leb-false, eqb-false}
+use Rattle.math.specs.Nan.{only-nan}
 use Rattle.math.specs.Scalar.{f0}
-use Rattle.math.specs.Sqrt.{infinityPattern, nanPattern, sqrtBits, sqrtOf}
+use Rattle.math.specs.Sqrt.{infinityPattern, sqrtBits, sqrtOf}
 use Rattle.math.specs.SqrtExamples.{sqrt-examples}
 use Rattle.math.proofs.sqrt.SqrtNearest.{Nearest, sqrt-nearest}
 use Rattle.math.proofs.sqrt.SqrtOpen.{sqrtOf-is, sqrtBits-above, nan-read}
@@ -53,12 +54,6 @@ pub record SpecialRoots : Type 0 where
 
 -- ---- every pattern of 64 digits
 
-of-nan : (x : Float) → isNan x ≡ true → x ≡ nan
-unfolding isNan
-of-nan nan e = refl
-of-nan (inf s) e = absurd (subst T (sym e) tt)
-of-nan (fin s m e) q = absurd (subst T (sym q) tt)
-
 pub sqrt-of-bits : (b : ℕ) → b < 2 ^ 64 → sqrtOf (ofBits binary64 b) ≡ ofBits binary64 (sqrtBits b)
 sqrt-of-bits b h = go (isNan (ofBits binary64 b)) refl
   where
@@ -66,7 +61,7 @@ sqrt-of-bits b h = go (isNan (ofBits binary64 b)) refl
     go false e = sqrtOf-is _ ∙ ap (λ (n : ℕ). ofBits binary64 (sqrtBits n)) (toBits-ofBits binary64 b h (rw e tt))
     go true e =
         let above : infinityPattern < b % 2 ^ 63 = ltb-true _ _ (sym (nanBits-above binary64 b) ∙ nanBits-is binary64 b ∙ e) in
-        ap sqrtOf (of-nan _ e) ∙ sqrt-examples .value-nan ∙ sym (ap (ofBits binary64) (sqrtBits-above b (omega arith) (omega arith)) ∙ nan-read)
+        ap sqrtOf (only-nan _ e) ∙ sqrt-examples .value-nan ∙ sym (ap (ofBits binary64) (sqrtBits-above b (omega arith) (omega arith)) ∙ nan-read)
 
 -- ---- an unsigned float has a pattern below infinity's
 

@@ -18,8 +18,9 @@ use Rattle.coloring.specs.Splines.{splineTotal}
 use Rattle.coloring.specs.Outline.{Result, Outcome, edgesOf, contours, outline, result, outcome, deliver, Matching}
 use Rattle.coloring.specs.Shape.{painted, countsOf}
 use Rattle.coloring.specs.ByDistance.{splineByte, Recolorable}
+use Rattle.coloring.specs.Sizes.{painted-sized}
 use Rattle.coloring.proofs.outline.EdgeLaws.{edges-length}
-use Rattle.coloring.proofs.shape.DeliverLaws.{cut-flagged, painted-sized, splines-cut}
+use Rattle.coloring.proofs.shape.DeliverLaws.{cut-flagged, splines-cut}
 use Rattle.coloring.proofs.by_distance.CheckLaws.{splines-many, splines-passed, count-differs, distances-bad, distances-passed}
 use Rattle.coloring.proofs.by_distance.RecolorLaws.{replaced, replaced-delivered, replaceable}
 use Rattle.coloring.proofs.by_distance.color_outline_by_distance.Statement.{statement}

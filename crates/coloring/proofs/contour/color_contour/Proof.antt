@@ -6,10 +6,9 @@ use native.Mathlib.Omega.{arith}
 use lib.ListN.{length}
 use lib.Seq.{length-take-le}
 use Rattle.coloring.specs.Outline.{whole}
+use Rattle.coloring.specs.Sizes.{edges-bound, contour-empty}
 use Rattle.coloring.proofs.Lists.{length-zero}
-use Rattle.coloring.proofs.layout.CountLaws.{edges-bound}
 use Rattle.coloring.proofs.splines.PaintLaws.{splines-bound}
-use Rattle.coloring.proofs.contour.ColorLaws.{contour-empty}
 use Rattle.coloring.proofs.contour.color_contour.Statement.{statement}
 use Rattle.coloring.proofs.contour.color_contour.Tie as tie
 

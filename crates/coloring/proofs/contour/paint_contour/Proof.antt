@@ -6,8 +6,8 @@ use Rattle.geometry.specs.EdgeColor.{bitsOf}
 use Rattle.geometry.specs.declared.edge_color.EdgeColor.the-variants.{White}
 use Rattle.coloring.specs.Outline.{whole}
 use Rattle.coloring.specs.Contour.{splineColors}
+use Rattle.coloring.specs.Sizes.{contour-some}
 use Rattle.coloring.proofs.splines.PaintLaws.{paint-map}
-use Rattle.coloring.proofs.contour.ColorLaws.{contour-some}
 use Rattle.coloring.proofs.contour.paint_contour.Statement.{statement}
 use Rattle.coloring.proofs.contour.paint_contour.Tie as tie
 

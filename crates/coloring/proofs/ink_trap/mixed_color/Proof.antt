@@ -4,8 +4,9 @@ use mathlib.Core.Path.{_≡_, _∙_}
 use native.Mathlib.Omega.{arith}
 use borrow.Author.Needs.{needs}
 use lib.Bits.{bitAnd, and-le-r}
+use Rattle.geometry.specs.EdgeColor.{bits-below}
 use Rattle.coloring.specs.Switching.{shared}
-use Rattle.coloring.proofs.ChannelLaws.{and-shared, bits-below, xor-others}
+use Rattle.coloring.proofs.ChannelLaws.{and-shared, xor-others}
 use Rattle.coloring.proofs.ink_trap.mixed_color.Statement.{statement}
 use Rattle.coloring.proofs.ink_trap.mixed_color.Tie as tie
 

@@ -11,9 +11,9 @@ use Rattle.coloring.specs.Places.{total}
 use Rattle.coloring.specs.Layout.{resultEdges}
 use Rattle.coloring.specs.Corners.{Cornered, cornered}
 use Rattle.coloring.specs.Outline.{edgesOf, cut, over, overFrom, Result, result}
+use Rattle.coloring.specs.Sizes.{edges-bound}
 use Rattle.coloring.proofs.outline.EdgeLaws.{edges-length}
 use Rattle.coloring.proofs.outline.CutLaws.{along-starts, along-room, left, left-step}
-use Rattle.coloring.proofs.layout.CountLaws.{edges-bound}
 use Rattle.coloring.proofs.layout.LayoutLaws.{laid, Laying, laying-next, laying-ends}
 use Rattle.coloring.proofs.layout.lay_out.Statement.{statement}
 use Rattle.coloring.proofs.layout.lay_out.Tie as tie

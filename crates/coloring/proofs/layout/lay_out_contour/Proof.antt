@@ -6,8 +6,8 @@ use native.Mathlib.Omega.{arith}
 use Rattle.coloring.specs.Corners.{Cornered}
 use Rattle.coloring.specs.Layout.{splits}
 use Rattle.coloring.specs.Outline.{whole}
+use Rattle.coloring.specs.Sizes.{edges-split, edges-same, layout-split, layout-same, split-few}
 use Rattle.coloring.proofs.corners.FlagLaws.{first-within}
-use Rattle.coloring.proofs.layout.CountLaws.{layout-split, layout-same, edges-split, edges-same, split-few}
 use Rattle.coloring.proofs.layout.lay_out_contour.Statement.{statement}
 use Rattle.coloring.proofs.layout.lay_out_contour.Tie as tie
 

@@ -11,10 +11,10 @@ use Rattle.geometry.specs.declared.edge_segment.EdgeSegment.{EdgeSegment}
 use Rattle.coloring.specs.Places.{rotate, concat}
 use Rattle.coloring.specs.Layout.{thirds}
 use Rattle.coloring.specs.Outline.{anyEdge, edgesOf, kindOf, placesOf}
-use Rattle.coloring.proofs.Places.{length-rotate, getD-rotate}
+use Rattle.coloring.specs.Sizes.{length-rotate, thirds-length}
+use Rattle.coloring.proofs.Places.{getD-rotate}
 use Rattle.coloring.proofs.outline.EdgeLaws.{edges-length}
 use Rattle.coloring.proofs.outline.StoreLaws.{Storing, storing-all, storing-many, storing-ends}
-use Rattle.coloring.proofs.layout.CountLaws.{thirds-length}
 use Rattle.coloring.proofs.layout.split_edges.Statement.{statement}
 use Rattle.coloring.proofs.layout.split_edges.Tie as tie
 

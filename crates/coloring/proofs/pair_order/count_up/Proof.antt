@@ -7,7 +7,8 @@ use native.Mathlib.Omega.{arith}
 use lib.ListN.{length, drop, set, length-set}
 use Rattle.coloring.specs.Places.{range}
 use Rattle.coloring.specs.Outline.{overFrom}
-use Rattle.coloring.proofs.Places.{length-range, getD-range}
+use Rattle.coloring.specs.Sizes.{length-range}
+use Rattle.coloring.proofs.Places.{getD-range}
 use Rattle.coloring.proofs.Writing.{over-all, over-step, over-done}
 use Rattle.coloring.proofs.pair_order.count_up.Statement.{statement}
 use Rattle.coloring.proofs.pair_order.count_up.Tie as tie

@@ -9,7 +9,7 @@ use lib.Seq.{length-take-le}
 use Rattle.coloring.specs.Places.{range}
 use Rattle.coloring.specs.PairOrder.{sortBy}
 use Rattle.coloring.specs.PairNumbers.{distanceOf, Below}
-use Rattle.coloring.proofs.Places.{length-range}
+use Rattle.coloring.specs.Sizes.{length-range}
 use Rattle.coloring.proofs.pair_order.PairLaws.{pairs-count, pairs-most, in-order, range-below}
 use borrow.Author.Needs.{needs}
 use Rattle.coloring.proofs.pair_order.order_pairs.Statement.{statement}

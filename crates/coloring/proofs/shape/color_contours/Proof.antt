@@ -15,9 +15,9 @@ use Rattle.coloring.specs.Corners.{Cornered, cornered}
 use Rattle.coloring.specs.Outline.{edgesOf, cut, over, overFrom}
 use Rattle.coloring.specs.Contour.{colorContour}
 use Rattle.coloring.specs.Shape.{colorContours}
+use Rattle.coloring.specs.Sizes.{contour-length}
 use Rattle.coloring.proofs.Writing.{over-more, over-nothing}
 use Rattle.coloring.proofs.outline.CutLaws.{Along, along-starts, along-room, along-next, cornered-step, cornered-end, left, left-step}
-use Rattle.coloring.proofs.contour.ColorLaws.{contour-length}
 use Rattle.coloring.proofs.shape.color_contours.Statement.{statement}
 use Rattle.coloring.proofs.shape.color_contours.Tie as tie
 

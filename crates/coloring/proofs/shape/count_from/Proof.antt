@@ -5,7 +5,8 @@ use Prim.Native.Nat.{_-_, _≤_, _<_}
 use lib.ListN.{length, drop, length-set}
 use Rattle.coloring.specs.Places.{range}
 use Rattle.coloring.specs.Outline.{overFrom}
-use Rattle.coloring.proofs.Places.{length-range, getD-range}
+use Rattle.coloring.specs.Sizes.{length-range}
+use Rattle.coloring.proofs.Places.{getD-range}
 use Rattle.coloring.proofs.Writing.{over-all, over-step, over-done}
 use Rattle.coloring.proofs.shape.count_from.Statement.{statement}
 use Rattle.coloring.proofs.shape.count_from.Tie as tie

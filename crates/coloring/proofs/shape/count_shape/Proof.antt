@@ -9,8 +9,8 @@ use Rattle.coloring.specs.Places.{total}
 use Rattle.coloring.specs.Layout.{resultEdges}
 use Rattle.coloring.specs.Splines.{splineCount}
 use Rattle.coloring.specs.Outline.{cut}
+use Rattle.coloring.specs.Sizes.{edges-bound}
 use Rattle.coloring.proofs.outline.CutLaws.{Along, along-starts, along-room, along-next, left, left-step, left-end, total-most}
-use Rattle.coloring.proofs.layout.CountLaws.{edges-bound}
 use Rattle.coloring.proofs.splines.PaintLaws.{splines-twofold}
 use Rattle.coloring.proofs.shape.count_shape.Statement.{statement}
 use Rattle.coloring.proofs.shape.count_shape.Tie as tie

@@ -4,7 +4,7 @@ use mathlib.Core.Path.{sym, subst, _∙_}
 use native.Mathlib.Omega.{arith}
 use Rattle.coloring.specs.declared.settings.Marking.{Marking}
 use Rattle.coloring.specs.Shape.{markContours, Markable}
-use Rattle.coloring.proofs.shape.DeliverLaws.{numbers-cut}
+use Rattle.coloring.proofs.shape.DeliverLaws.{flags-cut}
 use Rattle.coloring.proofs.shape.mark_contours.Statement.{statement}
 use Rattle.coloring.proofs.shape.mark_contours.Tie as tie
 
@@ -38,7 +38,7 @@ same-length-2 c = search needs
 
 returns-2 : tie.Need-returns-2
 unfolding markContours
-returns-2 c = rw (c .before .before .before .before .enum-told .given .1, numbers-cut) (c .before .before .number-contours .ensures)
+returns-2 c = rw (c .before .before .before .before .enum-told .given .1, flags-cut) (c .before .before .number-contours .ensures)
 
 pub mark-contours-spec : {M : Type 1} → statement M
 mark-contours-spec =

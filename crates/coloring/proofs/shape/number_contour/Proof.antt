@@ -5,9 +5,8 @@ use Prim.Native.Nat.{_≤_}
 use native.Mathlib.Omega.{arith}
 use lib.Seq.{length-take-le}
 use Rattle.coloring.specs.Layout.{resultEdges}
+use Rattle.coloring.specs.Sizes.{edges-bound, paint-length}
 use Rattle.coloring.proofs.Lists.{length-zero}
-use Rattle.coloring.proofs.layout.CountLaws.{edges-bound}
-use Rattle.coloring.proofs.splines.PaintLaws.{paint-length}
 use Rattle.coloring.proofs.shape.number_contour.Statement.{statement}
 use Rattle.coloring.proofs.shape.number_contour.Tie as tie
 

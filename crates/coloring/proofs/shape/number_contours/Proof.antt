@@ -9,10 +9,10 @@ use Rattle.coloring.specs.Places.{range, total, concat}
 use Rattle.coloring.specs.Layout.{resultEdges}
 use Rattle.coloring.specs.Splines.{splineCount, paint}
 use Rattle.coloring.specs.Outline.{cut, over, overFrom}
-use Rattle.coloring.specs.Shape.{noSpline, numberFlags}
+use Rattle.coloring.specs.Shape.{noSpline, numberContours}
+use Rattle.coloring.specs.Sizes.{paint-length}
 use Rattle.coloring.proofs.Writing.{over-more, over-nothing}
 use Rattle.coloring.proofs.outline.CutLaws.{Along, along-starts, along-room, along-next, cut-step, cut-end, left, left-step}
-use Rattle.coloring.proofs.splines.PaintLaws.{paint-length}
 use Rattle.coloring.proofs.shape.number_contours.Statement.{statement}
 use Rattle.coloring.proofs.shape.number_contours.Tie as tie
 
@@ -21,7 +21,7 @@ Inv-loop lengths flags out₀ first₀ at₀ to₀ i₀ out first at to i =
     Along lengths (length flags) at i × (length out ≡ length out₀)
     × (to + left resultEdges lengths flags i at ≡ total (map resultEdges (cut lengths flags)))
     × (first + left splineCount lengths flags i at ≡ total (map splineCount (cut lengths flags)))
-    × (over (concat (numberFlags 0 (cut lengths flags))) out₀ ≡ overFrom to (concat (numberFlags first (cut (drop i lengths) (drop at flags)))) out)
+    × (over (concat (numberContours 0 (cut lengths flags))) out₀ ≡ overFrom to (concat (numberContours first (cut (drop i lengths) (drop at flags)))) out)
 
 abbrev μ-loop : tie.MeasureT-loop
 μ-loop lengths flags out₀ first₀ at₀ to₀ i₀ out first at to i = length lengths - i
@@ -107,7 +107,7 @@ loop-less : tie.Need-loop-less Inv-loop μ-loop
 loop-less c = omega arith
 
 loop-again : tie.Need-loop-again Inv-loop μ-loop
-unfolding numberFlags concat
+unfolding numberContours concat
 loop-again c =
     let edges = c .before .before .before .before in
     let turn = edges .before .before in
@@ -133,7 +133,7 @@ same-length : tie.Need-same-length Inv-loop μ-loop
 same-length c = c .before .loop .inv .1
 
 returns : tie.Need-returns Inv-loop μ-loop
-unfolding numberFlags concat
+unfolding numberContours concat
 returns c =
     let a = c .before .before .before .before .before .args in
     let at = c .before .loop in

@@ -7,8 +7,8 @@ use lib.ListN.{length, take, drop, length-take, length-drop}
 use Rattle.coloring.specs.Places.{range}
 use Rattle.coloring.specs.Splines.{splineCount, paint}
 use Rattle.coloring.specs.Shape.{noSpline}
+use Rattle.coloring.specs.Sizes.{paint-length}
 use Rattle.coloring.proofs.Writing.{over-part}
-use Rattle.coloring.proofs.splines.PaintLaws.{paint-length}
 use Rattle.coloring.proofs.shape.number_part.Statement.{statement}
 use Rattle.coloring.proofs.shape.number_part.Tie as tie
 

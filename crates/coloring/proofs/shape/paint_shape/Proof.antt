@@ -11,8 +11,9 @@ use Rattle.coloring.specs.Corners.{Cornered, cornered}
 use Rattle.coloring.specs.Layout.{resultEdges}
 use Rattle.coloring.specs.Outline.{Result, edgesOf, cut, encode, result, fits, delivered}
 use Rattle.coloring.specs.Shape.{painted, countsOf}
+use Rattle.coloring.specs.Sizes.{counted, Sized, painted-sized}
 use Rattle.coloring.proofs.outline.EdgeLaws.{edges-length}
-use Rattle.coloring.proofs.shape.DeliverLaws.{cut-flagged, counted, counted-cut, splines-cut, cornered-length, Sized, painted-sized, sized-fits, room-fits, deliver-fits, deliver-short}
+use Rattle.coloring.proofs.shape.DeliverLaws.{cut-flagged, counted-cut, splines-cut, cornered-length, sized-fits, room-fits, deliver-fits, deliver-short}
 use Rattle.coloring.proofs.shape.paint_shape.Statement.{statement}
 use Rattle.coloring.proofs.shape.paint_shape.Tie as tie
 

@@ -8,9 +8,10 @@ use lib.Dec.{eqb}
 use lib.ListN.{length}
 use borrow.Author.Tests.{eq-eqb, ne-eqb}
 use Rattle.coloring.specs.Corners.{cornerCount}
+use Rattle.coloring.specs.Sizes.{unsplit, paint-one, paint-spread}
 use Rattle.coloring.proofs.Lists.{getD-any}
 use Rattle.coloring.proofs.layout.CountLaws.{corner-within, edges-few}
-use Rattle.coloring.proofs.splines.PaintLaws.{unsplit, paint-one, paint-spread, splines-few, splines-positive}
+use Rattle.coloring.proofs.splines.PaintLaws.{splines-few, splines-positive}
 use Rattle.coloring.proofs.splines.paint.Statement.{statement}
 use Rattle.coloring.proofs.splines.paint.Tie as tie
 

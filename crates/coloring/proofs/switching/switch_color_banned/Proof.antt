@@ -5,11 +5,11 @@ use mathlib.Core.Path.{_≡_, _∙_}
 use native.Mathlib.Omega.{arith}
 use borrow.Author.Needs.{needs}
 use lib.Bits.{bitAnd, bitXor, and-le-r}
-use Rattle.geometry.specs.EdgeColor.{bitsOf, fromBits}
+use Rattle.geometry.specs.EdgeColor.{bitsOf, fromBits, bits-below}
 use Rattle.geometry.specs.declared.edge_color.EdgeColor.{EdgeColor}
 use Rattle.coloring.specs.declared.switching.Pen.{Pen}
 use Rattle.coloring.specs.Switching.{shared, oneChannel, switchColor, switchColorBanned}
-use Rattle.coloring.proofs.ChannelLaws.{and-shared, bits-below, xor-others}
+use Rattle.coloring.proofs.ChannelLaws.{and-shared, xor-others}
 use Rattle.coloring.proofs.switching.switch_color_banned.Statement.{statement}
 use Rattle.coloring.proofs.switching.switch_color_banned.Tie as tie
 

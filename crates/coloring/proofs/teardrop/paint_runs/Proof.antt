@@ -11,8 +11,9 @@ use mir.Facts.{toZ-ofZ}
 use Rattle.coloring.specs.Trichotomy.{symmetricalTrichotomy}
 use Rattle.coloring.specs.Places.{range}
 use Rattle.coloring.specs.Teardrop.{thirdOf, runs}
+use Rattle.coloring.specs.Sizes.{length-range}
 use Rattle.coloring.proofs.Lists.{getD-mapped}
-use Rattle.coloring.proofs.Places.{Walked, walked-none, walked-more, walked-all, length-range, getD-range}
+use Rattle.coloring.proofs.Places.{Walked, walked-none, walked-more, walked-all, getD-range}
 use Rattle.coloring.proofs.teardrop.paint_runs.Statement.{statement}
 use Rattle.coloring.proofs.teardrop.paint_runs.Tie as tie
 

@@ -34,7 +34,7 @@ module _ (c : tie.In-loop Inv-loop μ-loop) where
   rest = contourLines (start .args .contour) (i + 1) (drop (i + 1) (start .args .kinds .now)) (drop (i + 1) (start .args .colors .now))
 
   step : contourLines (start .args .contour) i (drop i (start .args .kinds .now)) (drop i (start .args .colors .now)) ≡ here ++ rest
-  step = contour-step (start .args .contour) i (start .args .kinds .now) (start .args .colors .now) (c .loop-test .taken)
+  step = contour-step (start .args .contour) i (start .args .kinds .now) (start .args .colors .now) (c .loop-test .taken) (start .pre .0 .2)
 
 loop-holds : tie.Need-loop-holds Inv-loop μ-loop
 loop-holds c = (omega arith, refl, listed-begin _ _ _ (c .before .before .before .pre .1))

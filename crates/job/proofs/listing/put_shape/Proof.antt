@@ -5,16 +5,21 @@ use Prim.Native.Nat.{ℕ, _+_, _-_, _≤_}
 use native.Mathlib.Omega.{arith}
 use lib.ListN.{length, take, drop, getD, length-take, length-drop, drop-of-length-le}
 use Rattle.coloring.specs.Places.{total}
+use Rattle.coloring.specs.Outline.{cut}
 use Rattle.job.specs.Listing.{contourLines, shapeLines}
 use Rattle.job.proofs.listing.ListingLaws.{shape-step, total-step}
 use Rattle.job.proofs.listing.PasteLaws.{Listed, listed-begin, listed-room, listed-next, listed-end}
 use Rattle.job.proofs.listing.put_shape.Statement.{statement}
 use Rattle.job.proofs.listing.put_shape.Tie as tie
 
+-- the lines of contours that stand one after another
+abbrev lines : ℕ → List ℕ → List ℕ → List ℕ → List ℕ
+lines contour lengths kinds colors = shapeLines contour (cut lengths kinds) (cut lengths colors)
+
 abbrev Inv-loop : tie.InvT-loop
 Inv-loop out₀ at lengths kinds colors next₀ from₀ contour₀ out next from contour =
     (contour ≤ length lengths) × (from + total (drop contour lengths) ≡ length kinds) × (length out ≡ length out₀)
-    × Listed (shapeLines 0 lengths kinds colors) at out₀ (shapeLines contour (drop contour lengths) (drop from kinds) (drop from colors)) next out
+    × Listed (lines 0 lengths kinds colors) at out₀ (lines contour (drop contour lengths) (drop from kinds) (drop from colors)) next out
 
 abbrev μ-loop : tie.MeasureT-loop
 μ-loop out₀ at lengths kinds colors next₀ from₀ contour₀ out next from contour = length lengths - contour
@@ -51,9 +56,9 @@ module _ (c : tie.In-loop Inv-loop μ-loop) where
   here = contourLines contour 0 (take k (drop from (start .args .kinds .now))) (take k (drop from (start .args .colors .now)))
 
   abbrev rest : List ℕ
-  rest = shapeLines (contour + 1) (drop (contour + 1) (start .args .lengths .now)) (drop (from + n) (start .args .kinds .now)) (drop (from + n) (start .args .colors .now))
+  rest = lines (contour + 1) (drop (contour + 1) (start .args .lengths .now)) (drop (from + n) (start .args .kinds .now)) (drop (from + n) (start .args .colors .now))
 
-  step : shapeLines contour (drop contour (start .args .lengths .now)) (drop from (start .args .kinds .now)) (drop from (start .args .colors .now)) ≡ here ++ rest
+  step : lines contour (drop contour (start .args .lengths .now)) (drop from (start .args .kinds .now)) (drop from (start .args .colors .now)) ≡ here ++ rest
   step = rw is-n (shape-step contour from n (start .args .lengths .now) (start .args .kinds .now) (start .args .colors .now) (c .loop-test .taken) refl)
 
 loop-holds : tie.Need-loop-holds Inv-loop μ-loop
@@ -116,7 +121,7 @@ same-length : tie.Need-same-length Inv-loop μ-loop
 same-length c = c .before .loop .inv .2
 
 returns : tie.Need-returns Inv-loop μ-loop
-unfolding shapeLines
+unfolding shapeLines cut
 returns c =
     let start = c .before .before .before .before .before .before in
     let none : drop (c .before .loop .contour) (start .args .lengths .now) ≡ [] = drop-of-length-le (start .args .lengths .now) {i = c .before .loop .contour} (omega arith) in

@@ -4,6 +4,7 @@ use mathlib.Core.List.{List, _++_}
 use Prim.Native.Nat.{ℕ, _+_, _≤_}
 use native.Mathlib.Omega.{arith}
 use lib.ListN.{length, length-append}
+use Rattle.coloring.specs.Outline.{cut}
 use Rattle.job.specs.Listing.{edgesWord, newline, field, shapeLines, Pasted}
 use Rattle.job.proofs.listing.ListingLaws.{listing-parts, listing-length}
 use Rattle.job.proofs.listing.PasteLaws.{pasted-then}
@@ -14,13 +15,13 @@ use Rattle.job.proofs.listing.write_listing.Tie as tie
 -- the whole text has room
 module _ (c : tie.Start) where
   abbrev lines : List ℕ
-  lines = shapeLines 0 (c .args .lengths .now) (c .args .kinds .now) (c .args .colors .now)
+  lines = shapeLines 0 (cut (c .args .lengths .now) (c .args .kinds .now)) (cut (c .args .lengths .now) (c .args .colors .now))
 
   abbrev last : List ℕ
   last = field (length (c .args .kinds .now)) newline
 
   room : length lines + 6 + length last ≤ length (c .args .out .now)
-  room = omega (arith, c .pre .1, listing-length (c .args .lengths .now) (c .args .kinds .now) (c .args .colors .now))
+  room = omega (arith, c .pre .1, listing-length (c .args .lengths .now) (c .args .kinds .now) (c .args .colors .now) (c .pre .0 .2))
 
 put-shape-requires : tie.Need-put-shape-requires
 put-shape-requires c κs =
@@ -54,7 +55,7 @@ returns c =
     let s = shape .before .before .before .before .before .before in
     let old = s .args .out .now in
     let two : Pasted (lines s ++ edgesWord) 0 old (word .put-word .result) (word .put-word .last .0) = pasted-then (shape .put-shape .ensures) (word .put-word .ensures) (omega (arith, room s)) in
-    subst (λ (x : List ℕ). Pasted x 0 old (field .put-field .result) (field .put-field .last .0)) (listing-parts (s .args .lengths .now) (s .args .kinds .now) (s .args .colors .now))
+    subst (λ (x : List ℕ). Pasted x 0 old (field .put-field .result) (field .put-field .last .0)) (listing-parts (s .args .lengths .now) (s .args .kinds .now) (s .args .colors .now) (s .pre .0 .2))
     (pasted-then two (field .put-field .ensures) (omega (arith, room s, length-append (lines s) edgesWord)))
 
 pub write-listing-spec : {M : Type 1} → statement M

@@ -1,6 +1,5 @@
 -- `job::part::contour_part` meets its contract.
-use mathlib.Core.Path.{sym, ap}
-use mathlib.Core.List.{List}
+use mathlib.Core.Path.{ap}
 use Prim.Native.Nat.{_-_}
 use lib.ListN.{take, drop}
 use Rattle.job.specs.declared.part.Span.{Span}

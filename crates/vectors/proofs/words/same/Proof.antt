@@ -1,8 +1,8 @@
 -- `vectors::words::same` meets its contract, by the two tests. Assumes nothing.
 use mathlib.Core.Path.{sym}
 use lib.Ieee.Bits.{nanBits-above}
+use Rattle.math.specs.Nan.{no-nan}
 use Rattle.vectors.specs.Words.{matches}
-use Rattle.vectors.proofs.words.Nan.{equal-no-nan}
 use Rattle.vectors.proofs.words.same.Statement.{statement}
 use Rattle.vectors.proofs.words.same.Tie as tie
 
@@ -11,7 +11,7 @@ unfolding matches
 returns c = simp (c .if1 .taken) (sym (nanBits-above _ _))
 
 float-to-bits-result : tie.Need-float-to-bits-result
-float-to-bits-result c = equal-no-nan _ (c .if1 .left)
+float-to-bits-result c = no-nan _ (c .if1 .left)
 
 returns-2 : tie.Need-returns-2
 unfolding matches

@@ -1,2 +1,0 @@
--- Laws on the patterns of floats.
-mod Nan
