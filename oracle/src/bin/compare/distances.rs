@@ -2,7 +2,7 @@
 //! 64 splines take.
 
 use crate::Tally;
-use crate::shapes::{Classes, Lent, best, corners};
+use crate::shapes::{Classes, Guarded, best, corners};
 use oracle::contours;
 use oracle::distances::{self, Collected, DISTANCE_FAULTS, DistanceCall, MOST_SPLINES, ORDER};
 use oracle::distances::{Outcome, WAYS};
@@ -55,21 +55,21 @@ unsafe extern "C" {
     ) -> u64;
 }
 
-/// Four result buffers as they are lent.
+/// Four result buffers, each guarded.
 struct Room {
-    lengths: Lent<u16>,
-    kinds: Lent<u8>,
-    points: Lent<u64>,
-    colors: Lent<u8>,
+    lengths: Guarded<u16>,
+    kinds: Guarded<u8>,
+    points: Guarded<u64>,
+    colors: Guarded<u8>,
 }
 
 impl Room {
     fn new(out: &Buffers) -> Self {
         Room {
-            lengths: Lent::new(&out.lengths, 0xA5A5),
-            kinds: Lent::new(&out.kinds, 0xA5),
-            points: Lent::new(&out.points, 0x7FF4_0000_0000_BEEF),
-            colors: Lent::new(&out.colors, 0xA5),
+            lengths: Guarded::new(&out.lengths, 0xA5A5),
+            kinds: Guarded::new(&out.kinds, 0xA5),
+            points: Guarded::new(&out.points, 0x7FF4_0000_0000_BEEF),
+            colors: Guarded::new(&out.colors, 0xA5),
         }
     }
 

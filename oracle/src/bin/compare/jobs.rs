@@ -2,7 +2,7 @@
 //! 256 edges takes.
 
 use crate::Tally;
-use crate::shapes::{Classes, Lent, best};
+use crate::shapes::{Classes, Guarded, best};
 use oracle::contours::{self, Edges};
 use oracle::distances::pairs;
 use oracle::geometry::Shape;
@@ -160,11 +160,11 @@ impl Comparison {
         n: [usize; 4],
     ) {
         let mut after = job_buffers(r, n);
-        let mut lengths = Lent::new(&after.lengths, SHORT);
-        let mut kinds = Lent::new(&after.kinds, BYTE);
-        let mut points = Lent::new(&after.points, WORD);
-        let mut distances = Lent::new(&after.distances, WORD);
-        let mut numbers = Lent::new(&after.numbers, WORD);
+        let mut lengths = Guarded::new(&after.lengths, SHORT);
+        let mut kinds = Guarded::new(&after.kinds, BYTE);
+        let mut points = Guarded::new(&after.points, WORD);
+        let mut distances = Guarded::new(&after.distances, WORD);
+        let mut numbers = Guarded::new(&after.numbers, WORD);
         let (l, k, p) = (lengths.part(), kinds.part(), points.part());
         let d = distances.part();
         let code = unsafe {
@@ -217,10 +217,10 @@ impl Comparison {
         n: [usize; 4],
     ) {
         let out = buffers(r, n[0], n[1], n[2], n[3]);
-        let mut lengths = Lent::new(&out.lengths, SHORT);
-        let mut kinds = Lent::new(&out.kinds, BYTE);
-        let mut points = Lent::new(&out.points, WORD);
-        let mut colors = Lent::new(&out.colors, BYTE);
+        let mut lengths = Guarded::new(&out.lengths, SHORT);
+        let mut kinds = Guarded::new(&out.kinds, BYTE);
+        let mut points = Guarded::new(&out.points, WORD);
+        let mut colors = Guarded::new(&out.colors, BYTE);
         let code = proved_color(file, lengths.part(), kinds.part(), points.part(), colors.part());
         let (answer, after) = match result {
             Ok(result) => deliver(result, out),
@@ -246,7 +246,7 @@ impl Comparison {
     /// Lists into so many bytes.
     fn list(&mut self, r: &mut Random, file: &[u8], text: &[u8], n: usize) {
         let mut after: Vec<u8> = (0..n).map(|_| r.next() as u8).collect();
-        let mut out = Lent::new(&after, BYTE);
+        let mut out = Guarded::new(&after, BYTE);
         let code = proved_listing(file, out.part());
         let expected = if text.len() > n { refused(11) } else { text.len() as u64 };
         if text.len() <= n {
@@ -269,8 +269,8 @@ impl Comparison {
     }
 
     /// All entries on the first `len` bytes; what stands after them is not the file's.
-    fn entries(&mut self, r: &mut Random, lent: &[u8], len: usize) -> Outcome {
-        let (before, file) = (lent.to_vec(), &lent[..len]);
+    fn entries(&mut self, r: &mut Random, padded: &[u8], len: usize) -> Outcome {
+        let (before, file) = (padded.to_vec(), &padded[..len]);
         let outcome = outcome(file);
         let job = outcome.reading.as_ref().map(|reading| stored(&reading.job));
         let job = job.as_ref().map_err(|fault| **fault);
@@ -302,7 +302,7 @@ impl Comparison {
         for contour in (0..contours).chain(far) {
             self.contour_part(file, &outcome, contour);
         }
-        assert!(before == lent, "a file was written to");
+        assert!(before == padded, "a file was written to");
         outcome
     }
 

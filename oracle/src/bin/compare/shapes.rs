@@ -98,17 +98,17 @@ fn proved(
     }
 }
 
-/// A buffer as it is lent: with places before and after it that must stay as they are.
-pub struct Lent<T> {
+/// A buffer with places before and after it that must stay as they are.
+pub struct Guarded<T> {
     places: Vec<T>,
     margin: T,
 }
 
 const MARGIN: usize = 8;
 
-impl<T: Copy + PartialEq> Lent<T> {
+impl<T: Copy + PartialEq> Guarded<T> {
     pub fn new(part: &[T], margin: T) -> Self {
-        Lent { places: [&[margin; MARGIN], part, &[margin; MARGIN]].concat(), margin }
+        Guarded { places: [&[margin; MARGIN], part, &[margin; MARGIN]].concat(), margin }
     }
 
     pub fn part(&mut self) -> &mut [T] {
@@ -127,10 +127,10 @@ impl<T: Copy + PartialEq> Lent<T> {
 /// buffers. Answer and result are the source's.
 fn compare_call(part: &mut Tally, strategy: Strategy, call: &Call) -> (Answer, Buffers) {
     let (o, out) = (call.outline.clone(), &call.out);
-    let mut lengths = Lent::new(&out.lengths, 0xA5A5);
-    let mut kinds = Lent::new(&out.kinds, 0xA5);
-    let mut points = Lent::new(&out.points, 0x7FF4_0000_0000_BEEF);
-    let mut colors = Lent::new(&out.colors, 0xA5);
+    let mut lengths = Guarded::new(&out.lengths, 0xA5A5);
+    let mut kinds = Guarded::new(&out.kinds, 0xA5);
+    let mut points = Guarded::new(&out.points, 0x7FF4_0000_0000_BEEF);
+    let mut colors = Guarded::new(&out.colors, 0xA5);
     let code = proved(
         strategy,
         &o,
