@@ -96,7 +96,8 @@ enum {
     MERELSPLUM_RESULT_TOO_SHORT = 11 /* a result buffer is too short */
 };
 
-#define MERELSPLUM_REFUSED UINT64_C(0x100000000) /* plus the refusal: the answer of every function but the offer */
+/* Plus the refusal: the answer of a call that is refused. The offer has its own, and merelsplum_job_contour_part never refuses. */
+#define MERELSPLUM_REFUSED UINT64_C(0x100000000)
 
 static inline int merelsplum_is_refusal(uint64_t answer) { return answer >> 32 == 1; }
 

@@ -27,11 +27,11 @@ const MAX_LISTING_BYTES: usize = 5598;
 /// How a job is coloured.
 #[derive(Clone, Copy, Debug, PartialEq, Eq, Hash)]
 pub enum Strategy {
-    /// By [`edge_coloring_simple`](crate::edge_coloring_simple).
+    /// By [`edge_coloring_simple`].
     Simple = 1,
-    /// By [`edge_coloring_ink_trap`](crate::edge_coloring_ink_trap).
+    /// By [`edge_coloring_ink_trap`].
     InkTrap,
-    /// By [`edge_coloring_by_distance`](crate::edge_coloring_by_distance).
+    /// By [`edge_coloring_by_distance`].
     ByDistance,
 }
 

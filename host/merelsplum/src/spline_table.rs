@@ -6,7 +6,7 @@ use crate::refusal::Refusal;
 pub enum Offer {
     /// The pair is kept; the two splines have different colours.
     Kept {
-        /// 0 to 17.
+        /// 0 to 15.
         steps: u8,
     },
     /// The pair could not be kept, and all else is as it was.

@@ -160,7 +160,7 @@ proptest! {
     #[test]
     fn refusals(
         lengths in vec(0usize..=9, 0..=80),
-        bad in prop_oneof![Just(None), Just(Some(f64::NAN)), Just(Some(1_048_576.0f64.next_up())), Just(Some(f64::INFINITY))],
+        bad in prop_oneof![Just(None), Just(Some(f64::NAN)), Just(Some(1_048_576.0 * (1.0 + f64::EPSILON))), Just(Some(f64::INFINITY))],
         threshold in prop_oneof![3 => Just(0.5), 1 => Just(1.5), 1 => Just(f64::NAN)],
     ) {
         let line = |i: usize| Edge::Line([[i as f64, 0.0], [0.0, 1.0]]);
