@@ -13,6 +13,9 @@ pub const ZOOM: usize = 8;
 pub const PAPER: [u8; 3] = [24, 24, 28];
 pub const INK: [u8; 3] = [60, 60, 68];
 
+/// How many rows of the sheet are drawn at once as outlines.
+const BAND: usize = 8;
+
 /// Half the width of a drawn outline, in pixels.
 const PEN: f64 = 1.6;
 
@@ -31,7 +34,8 @@ fn write_png(
     for band in bands {
         stream.write_all(&band)?;
     }
-    Ok(stream.finish()?)
+    stream.finish()?;
+    Ok(writer.finish()?)
 }
 
 pub fn write_rgb(out: impl Write, size: (usize, usize), pixels: &[[u8; 3]]) -> io::Result<()> {
@@ -76,14 +80,12 @@ pub fn write_test_render(out: impl Write, sheet: &Sheet) -> io::Result<()> {
 /// The coloured outlines, each where its glyph is in the test render.
 pub fn write_outlines(out: impl Write, sheet: &Sheet) -> io::Result<()> {
     let side = sheet.image.side;
-    // cells begin at the tops of rows, so that the picture can be drawn row by row
-    let mut tops: Vec<usize> = sheet.cells.iter().map(|cell| cell.y).chain([0, side]).collect();
-    tops.sort_unstable();
-    tops.dedup();
-    let bands = tops.windows(2).map(|rows| {
-        let mut canvas = Canvas::new(ZOOM * side, ZOOM * (rows[1] - rows[0]));
-        for cell in sheet.cells.iter().filter(|cell| cell.y == rows[0]) {
-            canvas.outline(&cell.colored, &cell.frame, ZOOM as f64, (ZOOM * cell.x) as f64, 0.0);
+    let bands = (0..side).step_by(BAND).map(|top| {
+        let bottom = (top + BAND).min(side);
+        let mut canvas = Canvas::new(ZOOM * side, ZOOM * (bottom - top));
+        for cell in sheet.cells.iter().filter(|cell| cell.y < bottom && top < cell.y + cell.frame.height) {
+            let [x, y, top] = [cell.x, cell.y, top].map(|pixels| (ZOOM * pixels) as f64);
+            canvas.outline(&cell.colored, &cell.frame, ZOOM as f64, x, y - top);
         }
         canvas.pixels.concat()
     });
@@ -107,7 +109,8 @@ impl Canvas {
         self.pixels.len() / self.width
     }
 
-    /// Draws a glyph with `zoom` pixels for one of its frame, the frame's top left corner at (x, y): its inside, then its edges.
+    /// Draws a glyph with `zoom` pixels for one of its frame, the frame's top left corner at (x, y): its inside, then its edges. What is
+    /// above or below the picture is left out.
     pub fn outline(&mut self, colored: &Colored, frame: &Frame, zoom: f64, x: f64, y: f64) {
         let top = frame.height as f64;
         let place = |point: Vector2| {
@@ -180,4 +183,20 @@ pub fn inside(edges: &[EdgeSegment], y: f64) -> Vec<(f64, f64)> {
         }
     }
     stretches
+}
+
+#[cfg(test)]
+mod tests {
+    use super::*;
+
+    /// A picture that is cut anywhere is told of.
+    #[test]
+    fn no_room() {
+        let mut file = Vec::new();
+        write_rgb(&mut file, (2, 1), &[PAPER, INK]).unwrap();
+        for length in 0..file.len() {
+            assert!(write_rgb(&mut vec![0; length][..], (2, 1), &[PAPER, INK]).is_err(), "{length}");
+        }
+        write_rgb(&mut vec![0; file.len()][..], (2, 1), &[PAPER, INK]).unwrap();
+    }
 }
