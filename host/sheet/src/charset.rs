@@ -86,14 +86,20 @@ fn character(text: &str) -> Option<(char, &str)> {
     value.ok().and_then(char::from_u32).map(|c| (c, rest))
 }
 
-/// What stands in quotes at the start, where a backslash takes the next character as it is.
+/// What stands in quotes at the start, where `\n`, `\r`, `\t` and `\0` are as in C, and a backslash takes any other character as it is.
 fn quoted(text: &str, quote: char) -> Option<(String, &str)> {
     let mut chars = text.strip_prefix(quote)?.chars();
     let mut string = String::new();
     loop {
         match chars.next()? {
             c if c == quote => return Some((string, chars.as_str())),
-            '\\' => string.push(chars.next()?),
+            '\\' => string.push(match chars.next()? {
+                'n' => '\n',
+                'r' => '\r',
+                't' => '\t',
+                '0' => '\0',
+                c => c,
+            }),
             c => string.push(c),
         }
     }
@@ -113,6 +119,7 @@ mod tests {
         assert_eq!(set("c..d, 0..2 'z' \"az\""), Ok("012acdz".into()));
         assert_eq!(set("['A', 'C'], 0x61, 98, [0x30,50]"), Ok("012ABCab".into()));
         assert_eq!(set(r"'\'' '\\'"), Ok("'\\".into()));
+        assert_eq!(set(r#"'\n' '\t' "\r\0\"n""#), Ok("\0\t\n\r\"n".into()));
         assert_eq!(set("., .. /"), Err("cannot read this from '.. /' on".into()));
         assert_eq!(set("'.' é &"), Ok("&.é".into()));
         assert_eq!(Charset::ascii().0.len(), 95);

@@ -46,7 +46,7 @@ pub struct Options {
     pxrange: f64,
 
     /// Threads; 0 for as many as the machine has
-    #[arg(long, value_name = "NUMBER", default_value = "0", value_parser = |text: &str| number(text, 0.0..=256.0).map(|n| n as usize))]
+    #[arg(long, value_name = "NUMBER", default_value = "0", value_parser = threads)]
     pub threads: usize,
 
     /// Writes the sheet, a PNG picture
@@ -80,6 +80,10 @@ enum ColoringStrategy {
 fn number(text: &str, range: RangeInclusive<f64>) -> Result<f64, String> {
     let number = text.parse().map_err(|_| "not a number".to_owned())?;
     if range.contains(&number) { Ok(number) } else { Err(format!("not from {} to {}", range.start(), range.end())) }
+}
+
+fn threads(text: &str) -> Result<usize, String> {
+    text.parse().ok().filter(|&n| n <= 256).ok_or_else(|| "not a whole number from 0 to 256".to_owned())
 }
 
 /// Above 0 and below a half turn.
