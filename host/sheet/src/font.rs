@@ -2,6 +2,7 @@
 
 use crate::source::{Bounds, Contour, EdgeSegment, Shape, SignedDistance, Vector2};
 use std::fmt;
+use ttf_parser::kern::{Format, Subtable};
 use ttf_parser::{Face, GlyphId, OutlineBuilder};
 
 /// What a glyph is called: by its character, or by its place in the font.
@@ -43,6 +44,10 @@ pub struct Font<'a> {
 impl<'a> Font<'a> {
     pub fn new(file: &'a [u8]) -> Result<Font<'a>, String> {
         let face = Face::from_slice(file, 0).map_err(|error| format!("not a font ({error})"))?;
+        let tables = face.tables();
+        if tables.glyf.is_none() && tables.cff.is_none() && tables.cff2.is_none() {
+            return Err("a font without outlines".to_owned());
+        }
         Ok(Font { face })
     }
 
@@ -66,12 +71,16 @@ impl<'a> Font<'a> {
         }
     }
 
-    /// A glyph's outline; none where it has no glyph, and empty where it has nothing to draw.
+    /// A glyph's outline; none where there is no such glyph or its outline is damaged, and empty where it has nothing to draw.
     pub fn glyph(&self, name: Name) -> Option<Glyph> {
         let id = self.id(name)?;
         let mut pen = Pen::default();
-        self.face.outline_glyph(id, &mut pen);
+        let read = self.face.outline_glyph(id, &mut pen);
         let mut shape = pen.shape;
+        // a part was drawn, and then came what cannot be read
+        if read.is_none() && shape.edge_count() > 0 {
+            return None;
+        }
         orient(&mut shape);
         Some(Glyph { name, advance: self.face.glyph_hor_advance(id).unwrap_or(0).into(), shape })
     }
@@ -90,14 +99,29 @@ impl<'a> Font<'a> {
         }
     }
 
-    /// How much nearer the second glyph goes to the first, in units; 0 mostly.
-    pub fn kerning(&self, left: Name, right: Name) -> f64 {
-        let (Some(kern), Some(left), Some(right)) = (self.face.tables().kern, self.id(left), self.id(right)) else {
-            return 0.0;
+    /// The pairs of these glyphs that go nearer or further apart, and by how much, in units.
+    pub fn kerning(&self, names: &[Name]) -> Vec<(Name, Name, f64)> {
+        let ids: Vec<(Name, GlyphId)> = names.iter().filter_map(|&name| Some((name, self.id(name)?))).collect();
+        let tables = self.face.tables().kern.into_iter().flat_map(|kern| kern.subtables);
+        let plain = |t: &Subtable| t.horizontal && !t.variable && !t.has_state_machine && !t.has_cross_stream;
+        let tables: Vec<Subtable> = tables.filter(plain).collect();
+        // only a list of pairs shows what it has nothing for
+        let kerns = |left: GlyphId| {
+            tables.iter().any(|table| match table.format {
+                Format::Format0(list) => list.pairs.into_iter().any(|pair| pair.left() == left),
+                _ => true,
+            })
         };
-        let plain =
-            kern.subtables.into_iter().filter(|t| t.horizontal && !t.variable && !t.has_state_machine && !t.has_cross_stream);
-        plain.filter_map(|table| table.glyphs_kerning(left, right)).map(f64::from).sum()
+        let mut pairs = Vec::new();
+        for &(first, left) in ids.iter().filter(|(_, id)| kerns(*id)) {
+            for &(second, right) in &ids {
+                let units = tables.iter().filter_map(|table| table.glyphs_kerning(left, right)).map(f64::from).sum();
+                if units != 0.0 {
+                    pairs.push((first, second, units));
+                }
+            }
+        }
+        pairs
     }
 }
 
@@ -111,7 +135,8 @@ struct Pen {
 
 impl Pen {
     fn add(&mut self, edge: EdgeSegment, end: Vector2) {
-        if end != self.at {
+        // a curve may end where it starts
+        if end != self.at || edge.order() > 1 {
             self.shape.contours.last_mut().expect("a font moves before it draws").add_edge(edge);
             self.at = end;
         }
@@ -171,6 +196,18 @@ fn orient(shape: &mut Shape) {
 #[cfg(test)]
 mod tests {
     use super::*;
+
+    /// A curve may end where it starts, but a line there and back has no length.
+    #[test]
+    fn a_teardrop_is_kept() {
+        let mut pen = Pen::default();
+        pen.move_to(0.0, 0.0);
+        pen.curve_to(2.0, 2.0, 1.0, 1.0, 0.0, 0.0);
+        pen.curve_to(6.0, 6.0, -6.0, 6.0, 0.0, 0.0);
+        pen.close();
+        let edge = EdgeSegment::cubic(v(0.0, 0.0), v(6.0, 6.0), v(-6.0, 6.0), v(0.0, 0.0));
+        assert_eq!(pen.shape.contours[0].segments, [edge]);
+    }
 
     #[test]
     fn either_way_round() {

@@ -31,16 +31,11 @@ pub fn describe(font: &Font, sheet: &Sheet) -> String {
         put(format_args!("}}"));
     }
     put(format_args!("],\"kerning\":["));
-    let mut comma = "";
-    for left in &sheet.cells {
-        for right in &sheet.cells {
-            let advance = font.kerning(left.name, right.name);
-            if advance != 0.0 {
-                let ((key, first), (_, second)) = (identifier(left.name), identifier(right.name));
-                put(format_args!("{comma}{{\"{key}1\":{first},\"{key}2\":{second},\"advance\":{}}}", advance / em));
-                comma = ",";
-            }
-        }
+    let names: Vec<Name> = sheet.cells.iter().map(|cell| cell.name).collect();
+    for (i, (left, right, units)) in font.kerning(&names).into_iter().enumerate() {
+        let comma = if i == 0 { "" } else { "," };
+        let ((key, first), (_, second)) = (identifier(left), identifier(right));
+        put(format_args!("{comma}{{\"{key}1\":{first},\"{key}2\":{second},\"advance\":{}}}", units / em));
     }
     put(format_args!("]}}\n"));
     json

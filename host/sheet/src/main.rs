@@ -7,11 +7,13 @@ use clap::error::ErrorKind;
 use indicatif::{ProgressBar, ProgressStyle};
 use options::Options;
 use rayon::prelude::*;
-use sheet::font::{Font, Glyph, Name};
+use sheet::font::{Font, Name};
 use sheet::output::Outputs;
+use sheet::pack::MAX_SIDE;
 use sheet::sheet::{Cell, Sheet};
 use sheet::{json, picture};
 use std::fs;
+use std::io::{self, Write};
 use std::process::ExitCode;
 
 fn main() -> ExitCode {
@@ -21,7 +23,7 @@ fn main() -> ExitCode {
             Err(message) => fail(&message),
         },
         Err((ErrorKind::DisplayHelp | ErrorKind::DisplayVersion, help)) => {
-            print!("{help}");
+            let _ = write!(io::stdout(), "{help}");
             ExitCode::SUCCESS
         }
         Err((_, error)) => {
@@ -35,16 +37,13 @@ fn main() -> ExitCode {
 }
 
 fn fail(message: &str) -> ExitCode {
-    eprintln!("sheet: {message}");
+    report(message);
     ExitCode::from(2)
 }
 
-/// As many as 8192 rows of 8192.
-const MAX_PIXELS: usize = 1 << 26;
-
-fn area(options: &Options, font: &Font, glyph: &Glyph) -> usize {
-    let frame = options.settings().frame(glyph, font.units_per_em());
-    frame.width * frame.height
+/// A line on standard error, lost where that cannot be written.
+fn report(line: &str) {
+    let _ = writeln!(io::stderr(), "sheet: {line}");
 }
 
 /// Makes the sheet; how many glyphs were refused.
@@ -57,38 +56,39 @@ fn run(options: &Options) -> Result<usize, String> {
     if let Some(missing) = names.iter().find(|&&name| !font.has(name)) {
         return Err(format!("{path}: no glyph for {missing}"));
     }
-    let area: usize = names.iter().filter_map(|&name| font.glyph(name)).map(|glyph| area(options, &font, &glyph)).sum();
-    if area > MAX_PIXELS {
-        return Err(format!("{} glyphs of this size have {area} pixels, which is above {MAX_PIXELS}", names.len()));
-    }
     rayon::ThreadPoolBuilder::new().num_threads(options.threads).build_global().map_err(|error| error.to_string())?;
 
-    let (sheet, refusals) = draw(options, &font, &names);
+    let (sheet, refusals) = draw(options, &font, &names)?;
     write(options, &font, &sheet)?;
-    refusals.iter().for_each(|line| eprintln!("sheet: {line}"));
+    refusals.iter().for_each(|line| report(line));
     Ok(refusals.len())
 }
 
 /// The sheet of the glyphs that could be coloured, and a line for each of the others.
-fn draw(options: &Options, font: &Font, names: &[Name]) -> (Sheet, Vec<String>) {
+fn draw(options: &Options, font: &Font, names: &[Name]) -> Result<(Sheet, Vec<String>), String> {
     let settings = options.settings();
+    let color = |(place, &name): (usize, &Name)| {
+        let glyph = font.glyph(name).ok_or_else(|| format!("{name}: outline damaged, or beyond the coordinates of a font"))?;
+        settings.color(glyph, place, font.units_per_em()).map_err(|refusal| format!("{name}: {refusal}"))
+    };
+    let colored: Vec<Result<Cell, String>> = names.par_iter().enumerate().map(color).collect();
+    let (cells, refusals): (Vec<_>, Vec<_>) = colored.into_iter().partition(Result::is_ok);
+    let cells: Vec<Cell> = cells.into_iter().flatten().collect();
     // hidden where standard error is no terminal
     let progress =
-        ProgressBar::new(names.len() as u64).with_style(ProgressStyle::with_template("{wide_bar} {pos}/{len}").unwrap());
-    let draw = |(place, &name): (usize, &Name)| {
-        let glyph = font.glyph(name).expect("it was looked for before");
-        let cell = settings.draw(glyph, place, font.units_per_em());
-        progress.inc(1);
-        cell.map_err(|refusal| format!("{name}: {refusal}"))
-    };
-    let drawn: Vec<Result<Cell, String>> = names.par_iter().enumerate().map(draw).collect();
+        ProgressBar::new(cells.len() as u64).with_style(ProgressStyle::with_template("{wide_bar} {pos}/{len}").unwrap());
+    let sheet = settings.draw(cells, || progress.inc(1));
     progress.finish_and_clear();
-    let (cells, refusals): (Vec<_>, Vec<_>) = drawn.into_iter().partition(Result::is_ok);
-    (settings.pack(cells.into_iter().flatten().collect()), refusals.into_iter().filter_map(Result::err).collect())
+    let sheet = sheet.ok_or_else(|| format!("at this size the sheet would be above {MAX_SIDE} pixels a side"))?;
+    Ok((sheet, refusals.into_iter().filter_map(Result::err).collect()))
 }
 
 fn write(options: &Options, font: &Font, sheet: &Sheet) -> Result<(), String> {
     let mut outputs = Outputs::default();
+    outputs.keep(&options.font);
+    if let Some(folder) = &options.jobs {
+        outputs.folder(folder)?;
+    }
     if let Some(path) = &options.imageout {
         outputs.write(path, |out| picture::write_sheet(out, &sheet.image))?;
     }
@@ -102,7 +102,6 @@ fn write(options: &Options, font: &Font, sheet: &Sheet) -> Result<(), String> {
         outputs.write(path, |out| picture::write_outlines(out, sheet))?;
     }
     if let Some(folder) = &options.jobs {
-        outputs.folder(folder)?;
         for cell in &sheet.cells {
             outputs.write(&folder.join(format!("{}.job", cell.name)), |out| out.write_all(&cell.job.to_bytes()))?;
         }

@@ -7,18 +7,26 @@ pub struct Packing {
     pub places: Vec<(usize, usize)>,
 }
 
-pub fn pack(sizes: &[(usize, usize)]) -> Packing {
+/// The longest side of a square.
+pub const MAX_SIDE: usize = 8192;
+
+/// None where a longer side would be needed.
+pub fn pack(sizes: &[(usize, usize)]) -> Option<Packing> {
     let mut order: Vec<usize> = (0..sizes.len()).collect();
     order.sort_by_key(|&i| std::cmp::Reverse(sizes[i].1));
+    let longest = sizes.iter().map(|&(width, height)| width.max(height)).max().unwrap_or(0);
+    if longest > MAX_SIDE {
+        return None;
+    }
     let area: usize = sizes.iter().map(|(width, height)| width * height).sum();
-    let widest = sizes.iter().map(|size| size.0).max().unwrap_or(0);
-    let mut side = area.isqrt().max(widest).max(1).next_multiple_of(4);
-    loop {
+    let mut side = area.isqrt().max(longest).max(1).next_multiple_of(4);
+    while side <= MAX_SIDE {
         if let Some(places) = rows(sizes, &order, side) {
-            return Packing { side, places };
+            return Some(Packing { side, places });
         }
         side += 4;
     }
+    None
 }
 
 /// Fills rows of a square from the top.
@@ -44,7 +52,7 @@ mod tests {
     #[test]
     fn boxes_are_apart_and_inside() {
         let sizes: Vec<(usize, usize)> = (0..200).map(|i| (1 + i * 7 % 31, 1 + i * 11 % 43)).chain([(0, 0)]).collect();
-        let Packing { side, places } = pack(&sizes);
+        let Packing { side, places } = pack(&sizes).unwrap();
         assert_eq!(side % 4, 0);
         let mut taken = vec![false; side * side];
         for (&(x, y), &(width, height)) in places.iter().zip(&sizes) {
@@ -59,7 +67,16 @@ mod tests {
 
     #[test]
     fn nothing_and_one() {
-        assert_eq!(pack(&[]), Packing { side: 4, places: vec![] });
-        assert_eq!(pack(&[(9, 3)]), Packing { side: 12, places: vec![(0, 0)] });
+        assert_eq!(pack(&[]), Some(Packing { side: 4, places: vec![] }));
+        assert_eq!(pack(&[(9, 3)]), Some(Packing { side: 12, places: vec![(0, 0)] }));
+    }
+
+    #[test]
+    fn too_large() {
+        assert_eq!(pack(&[(8192, 1)]), Some(Packing { side: 8192, places: vec![(0, 0)] }));
+        for sizes in [[(8193, 1), (1, 1)], [(1, 8193), (1, 1)], [(usize::MAX, 2), (2, usize::MAX)], [(8192, 4097), (8192, 4096)]]
+        {
+            assert_eq!(pack(&sizes), None, "{sizes:?}");
+        }
     }
 }

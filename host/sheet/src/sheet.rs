@@ -8,6 +8,7 @@ use crate::pack::{Packing, pack};
 use crate::source::{self, spline_distances};
 use merelsplum::job::{Job, Strategy};
 use merelsplum::{Colored, Outline, Refusal, collect_splines};
+use rayon::prelude::*;
 
 /// How a sheet is made.
 #[derive(Clone, Copy, Debug)]
@@ -39,7 +40,6 @@ pub struct Cell {
     pub x: usize,
     /// From the top.
     pub y: usize,
-    pixels: Vec<[u8; 3]>,
 }
 
 pub struct Sheet {
@@ -49,9 +49,15 @@ pub struct Sheet {
     pub image: Image,
 }
 
-/// A glyph's own seed: 0 for 0, else one that differs from glyph to glyph, as msdf-atlas-gen draws it.
-pub fn glyph_seed(seed: u64, place: u64) -> u64 {
-    if seed == 0 { 0 } else { 6364136223846793005u64.wrapping_mul(seed ^ place).wrapping_add(1442695040888963407) }
+/// The seed of the `place`-th glyph, 0 for 0, as msdf-atlas-gen draws it: by distance from the seed and the place, else from the seed of
+/// the glyph before.
+pub fn glyph_seed(strategy: Strategy, seed: u64, place: usize) -> u64 {
+    const MULTIPLIER: u64 = 6364136223846793005;
+    match strategy {
+        Strategy::ByDistance if seed != 0 => MULTIPLIER.wrapping_mul(seed ^ place as u64).wrapping_add(1442695040888963407),
+        Strategy::ByDistance => 0,
+        Strategy::Simple | Strategy::InkTrap => MULTIPLIER.wrapping_pow(place as u32 + 1).wrapping_mul(seed),
+    }
 }
 
 /// What is to be coloured, with the distances that its strategy needs.
@@ -64,34 +70,34 @@ pub fn job(outline: Outline, strategy: Strategy, threshold: f64, seed: u64) -> R
 }
 
 impl Settings {
-    /// The box of a glyph.
-    pub fn frame(&self, glyph: &Glyph, units_per_em: f64) -> Frame {
-        Frame::new(&glyph.shape, self.size / units_per_em, self.pxrange)
-    }
-
-    /// Colours a glyph, the `place`-th of the sheet, and draws its field.
-    pub fn draw(&self, glyph: Glyph, place: usize, units_per_em: f64) -> Result<Cell, Refusal> {
-        let job = job(source::outline(&glyph.shape), self.strategy, self.angle.sin(), glyph_seed(self.seed, place as u64))?;
+    /// Colours a glyph, the `place`-th of the sheet.
+    pub fn color(&self, glyph: Glyph, place: usize, units_per_em: f64) -> Result<Cell, Refusal> {
+        let seed = glyph_seed(self.strategy, self.seed, place);
+        let job = job(source::outline(&glyph.shape), self.strategy, self.angle.sin(), seed)?;
         let colored = job.color()?;
-        let frame = self.frame(&glyph, units_per_em);
-        let pixels = pixels(&colored, &frame, self.pxrange);
-        Ok(Cell { name: glyph.name, advance: glyph.advance, job, colored, frame, x: 0, y: 0, pixels })
+        let frame = Frame::new(&glyph.shape, self.size / units_per_em, self.pxrange);
+        Ok(Cell { name: glyph.name, advance: glyph.advance, job, colored, frame, x: 0, y: 0 })
     }
 
-    /// Packs glyphs that are drawn.
-    pub fn pack(&self, mut cells: Vec<Cell>) -> Sheet {
+    /// Packs glyphs that are coloured and draws their fields, with a call of `each` after each; none where no sheet holds them.
+    pub fn draw(&self, mut cells: Vec<Cell>, each: impl Fn() + Sync) -> Option<Sheet> {
         let sizes: Vec<_> = cells.iter().map(|cell| (cell.frame.width, cell.frame.height)).collect();
-        let Packing { side, places } = pack(&sizes);
+        let Packing { side, places } = pack(&sizes)?;
+        let draw = |cell: &Cell| {
+            let pixels = pixels(&cell.colored, &cell.frame, self.pxrange);
+            each();
+            pixels
+        };
+        let fields: Vec<Vec<[u8; 3]>> = cells.par_iter().map(draw).collect();
         let mut image = Image { side, pixels: vec![[0; 3]; side * side] };
-        for (cell, (x, y)) in cells.iter_mut().zip(places) {
+        for ((cell, field), (x, y)) in cells.iter_mut().zip(fields).zip(places) {
             (cell.x, cell.y) = (x, y);
-            for (row, pixels) in cell.pixels.chunks(cell.frame.width.max(1)).enumerate() {
+            for (row, pixels) in field.chunks(cell.frame.width.max(1)).enumerate() {
                 let start = (y + row) * side + x;
                 image.pixels[start..start + pixels.len()].copy_from_slice(pixels);
             }
-            cell.pixels = vec![];
         }
-        Sheet { size: self.size, pxrange: self.pxrange, cells, image }
+        Some(Sheet { size: self.size, pxrange: self.pxrange, cells, image })
     }
 }
 
@@ -104,4 +110,26 @@ pub fn pixels(colored: &Colored, frame: &Frame, pxrange: f64) -> Vec<[u8; 3]> {
     let mut values: Vec<[f64; 3]> = places.map(|(x, y)| pixel(x, y)).collect();
     correct(&mut values, frame.width, pxrange);
     values.into_iter().map(|value| value.map(|v| (255.0 * v).round() as u8)).collect()
+}
+
+#[cfg(test)]
+mod tests {
+    use super::*;
+
+    /// The second glyph's seed is the first one's times 6364136223846793005, and so on; by distance each has one of its own.
+    #[test]
+    fn seeds() {
+        for strategy in [Strategy::Simple, Strategy::InkTrap] {
+            assert_eq!(
+                [0, 1, 2].map(|i| glyph_seed(strategy, 1, i)),
+                [6364136223846793005, 7520897724310334953, 793875393913628917]
+            );
+            assert_eq!(glyph_seed(strategy, 0, 5), 0);
+        }
+        assert_eq!(
+            [0, 1, 2].map(|i| glyph_seed(Strategy::ByDistance, 7, i)),
+            [9098160460397411210, 2734024236550618205, 14816632086413376816]
+        );
+        assert_eq!(glyph_seed(Strategy::ByDistance, 0, 5), 0);
+    }
 }
