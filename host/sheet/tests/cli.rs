@@ -3,9 +3,14 @@
 mod common;
 
 use merelsplum::job::{self, Job};
+use sheet::picture::{INK, PAPER, inside};
+use sheet::source::{EdgeSegment, median, segment};
+use std::collections::BTreeSet;
 use std::fs::{self, File};
+use std::os::unix::fs::{FileTypeExt, PermissionsExt, symlink};
 use std::path::{Path, PathBuf};
 use std::process::{Command, Output};
+use ttf_parser::Face;
 
 /// An empty folder of a test's own, taken away at its end.
 struct Folder(PathBuf);
@@ -48,9 +53,12 @@ fn lines(output: &Output) -> Vec<String> {
     String::from_utf8(output.stderr.clone()).unwrap().lines().map(str::to_owned).collect()
 }
 
-fn size(path: &str) -> (u32, u32) {
-    let reader = png::Decoder::new(File::open(path).unwrap()).read_info().unwrap();
-    (reader.info().width, reader.info().height)
+/// A picture: its width, its height, and the bytes of its pixels by rows.
+fn picture<const CHANNELS: usize>(path: &str) -> (u32, u32, Vec<[u8; CHANNELS]>) {
+    let mut reader = png::Decoder::new(File::open(path).unwrap()).read_info().unwrap();
+    let mut bytes = vec![0; reader.output_buffer_size()];
+    let info = reader.next_frame(&mut bytes).unwrap();
+    (info.width, info.height, bytes.chunks_exact(CHANNELS).map(|pixel| pixel.try_into().unwrap()).collect())
 }
 
 /// The number after a key, looked for from the first place of `from` on.
@@ -91,10 +99,9 @@ fn all_files() {
         json.starts_with("{\"atlas\":{\"type\":\"msdf\",\"distanceRange\":4,\"distanceRangeMiddle\":0,\"size\":32,\"width\":")
     );
     assert_eq!(json.matches("\"unicode\":").count(), 26);
+    assert_eq!(number(&json, "metrics", "lineHeight"), 1.1640625);
+    assert_eq!(number(&json, "metrics", "underlineY"), -0.04150390625);
     let side = number(&json, "atlas", "width") as u32;
-    assert_eq!(size(&folder.file("sheet.png")), (side, side));
-    assert_eq!(size(&folder.file("back.png")), (8 * side, 8 * side));
-    assert_eq!(size(&folder.file("lines.png")), (8 * side, 8 * side));
 
     for letter in 'A'..='Z' {
         // the plane's bounds in pixels are as large as the sheet's
@@ -104,15 +111,85 @@ fn all_files() {
             let plane = number(part, "planeBounds", high) - number(part, "planeBounds", low);
             let atlas = number(part, "atlasBounds", high) - number(part, "atlasBounds", low);
             assert!((32.0 * plane - atlas).abs() < 1e-9, "{letter}: {plane} and {atlas}");
-            assert!(number(part, "atlasBounds", low) > 0.0 && number(part, "atlasBounds", high) < side.into());
+            assert!(number(part, "atlasBounds", low) > 0.0 && number(part, "atlasBounds", high) < f64::from(side));
         }
         let file = fs::read(folder.file(&format!("jobs/U+{:04X}.job", letter as u32))).unwrap();
         let job = Job::read(&file).unwrap();
         assert_eq!((job.strategy, job.seed, job.threshold), (job::Strategy::Simple, 0, 3f64.sin()));
         assert_eq!(job::color(&file), job.color());
     }
+    check_pictures(&folder, &json, side);
     assert_eq!(Folder(folder.0.join("jobs")).names().len(), 26);
     assert!(number(&json, "\"unicode1\":65,\"unicode2\":86,", "advance") < 0.0, "A and V go nearer");
+    assert_eq!(json.matches("\"unicode1\":").count(), 66);
+}
+
+/// The pictures are what the jobs' outlines and the places of the JSON say, at 32 pixels an em and a range of 4.
+fn check_pictures(folder: &Folder, json: &str, side: u32) {
+    let (width, height, field) = picture::<3>(&folder.file("sheet.png"));
+    assert_eq!((width, height), (side, side));
+    let (width, height, back) = picture::<1>(&folder.file("back.png"));
+    assert_eq!((width, height), (8 * side, 8 * side));
+    let (width, height, lines) = picture::<3>(&folder.file("lines.png"));
+    assert_eq!((width, height), (8 * side, 8 * side));
+
+    let (mut ink, mut paper, mut colors) = (0, 0, BTreeSet::new());
+    for letter in 'A'..='Z' {
+        let part = &json[json.find(&format!("\"unicode\":{},", letter as u32)).unwrap()..];
+        let [l, b, r, t] = ["left", "bottom", "right", "top"].map(|key| number(part, "atlasBounds", key));
+        let [left, bottom] = ["left", "bottom"].map(|key| number(part, "planeBounds", key));
+        let colored = job::color(&fs::read(folder.file(&format!("jobs/U+{:04X}.job", letter as u32))).unwrap()).unwrap();
+        let edges: Vec<EdgeSegment> = colored.contours.iter().flatten().map(|(edge, _)| segment(edge)).collect();
+        // of a picture that is `zoom` times as large as the sheet, from its top left
+        let index = |x: f64, y: f64, zoom: f64| {
+            (zoom * (f64::from(side) - y)) as usize * (zoom as usize * side as usize) + (zoom * x) as usize
+        };
+
+        for (i, j) in (0..=(t - b) as u32).flat_map(|j| (0..=(r - l) as u32).map(move |i| (f64::from(i), f64::from(j)))) {
+            let (x, y) = (l + i, b + j);
+            let [red, green, blue] = field[index(x, y, 1.0)].map(f64::from);
+            let distance = 4.0 * (median(red, green, blue) / 255.0 - 0.5);
+            let (along, up) = (2048.0 * (left + i / 32.0), 2048.0 * (bottom + j / 32.0));
+            let truth = inside(&edges, up).iter().any(|&(from, to)| from <= along && along < to);
+            if distance.abs() > 0.75 {
+                assert_eq!(distance > 0.0, truth, "{letter} at {x}, {y}");
+                assert_eq!(back[index(x, y, 8.0)], [if truth { 0 } else { 255 }], "{letter} at {x}, {y}");
+                assert_eq!(lines[index(x, y, 8.0)], if truth { INK } else { PAPER }, "{letter} at {x}, {y}");
+                *if truth { &mut ink } else { &mut paper } += 1;
+            }
+        }
+
+        for (edge, color) in colored.contours.iter().flatten() {
+            let edge = segment(edge);
+            let middle = edge.point(0.5);
+            // an edge that is shorter than a pixel of the sheet may be drawn over by its neighbours
+            if (edge.point(1.0) - edge.point(0.0)).length() > 64.0 {
+                let (x, y) = (l + 32.0 * (middle.x / 2048.0 - left), b + 32.0 * (middle.y / 2048.0 - bottom));
+                let expected = [1, 2, 4].map(|bit| if color.bits() & bit != 0 { 255 } else { 0 });
+                assert_eq!(lines[index(x, y, 8.0)], expected, "{letter} at {x}, {y}");
+                colors.insert(expected);
+            }
+        }
+    }
+    assert!(ink > 1000 && paper > 1000 && colors.len() == 3, "{ink}, {paper}, {colors:?}");
+}
+
+/// A job has the seed of its glyph: by distance one of its own, else the seed of the glyph before times a constant.
+#[test]
+fn seeds() {
+    let folder = Folder::new("seeds");
+    const MULTIPLIER: u64 = 6364136223846793005;
+    for strategy in ["simple", "inktrap", "distance"] {
+        let output = with_font(&folder, &["--chars", "A..C", "--coloringstrategy", strategy, "--seed", "7", "--jobs", "jobs"]);
+        assert_eq!(output.status.code(), Some(0));
+        let mut before = 7u64;
+        for (place, letter) in ["41", "42", "43"].into_iter().enumerate() {
+            before = before.wrapping_mul(MULTIPLIER);
+            let own = MULTIPLIER.wrapping_mul(7 ^ place as u64).wrapping_add(1442695040888963407);
+            let job = Job::read(&fs::read(folder.file(&format!("jobs/U+00{letter}.job"))).unwrap()).unwrap();
+            assert_eq!(job.seed, if strategy == "distance" { own } else { before }, "{strategy}, {letter}");
+        }
+    }
 }
 
 #[test]
@@ -122,7 +199,7 @@ fn a_space_has_no_box() {
     assert_eq!(output.status.code(), Some(0));
     let json = fs::read_to_string(folder.file("sheet.json")).unwrap();
     assert!(json.contains("\"glyphs\":[{\"unicode\":32,\"advance\":0.31787109375}],\"kerning\":[]}"), "{json}");
-    assert_eq!(size(&folder.file("sheet.png")), (4, 4));
+    assert_eq!(picture(&folder.file("sheet.png")), (4, 4, vec![[0; 3]; 16]));
 }
 
 #[test]
@@ -170,11 +247,29 @@ fn a_refused_glyph() {
     assert_eq!(Folder(folder.0.join("jobs")).names(), ["U+0041.job", "U+0042.job"]);
 }
 
+/// The dieresis cannot be read, and so cannot the letters that have it; the others can.
+#[test]
+fn a_damaged_glyph() {
+    let folder = Folder::new("a_damaged_glyph");
+    let mut file = fs::read(common::dejavu_sans()).unwrap();
+    let dieresis = Face::from_slice(&file, 0).unwrap().glyph_index('\u{A8}').unwrap();
+    let number = |at: usize| u32::from_be_bytes(file[at..at + 4].try_into().unwrap()) as usize;
+    let table = |tag: &[u8]| number(8 + (12..).step_by(16).find(|&at| &file[at..at + 4] == tag).unwrap());
+    let outline = table(b"glyf") + number(table(b"loca") + 4 * usize::from(dieresis.0));
+    // as many contours as there can be
+    file[outline..outline + 2].copy_from_slice(&i16::MAX.to_be_bytes());
+    fs::write(folder.file("damaged.ttf"), file).unwrap();
+    let output = sheet(&folder, &["--font", "damaged.ttf", "--chars", "a, 0xE4, b", "--json", "sheet.json"]);
+    let expected = "sheet: U+00E4: outline damaged, or beyond the coordinates of a font";
+    assert_eq!((output.status.code(), lines(&output)), (Some(1), vec![expected.to_owned()]));
+    assert_eq!(fs::read_to_string(folder.file("sheet.json")).unwrap().matches("\"unicode\":").count(), 2);
+}
+
 #[test]
 fn glyphs_by_place() {
     let folder = Folder::new("glyphs_by_place");
-    let mono = common::dejavu_sans().replace("DejaVuSans.ttf", "DejaVuMathTeXGyre.ttf");
-    let output = sheet(&folder, &["--font", &mono, "--allglyphs", "--size", "4", "--json", "sheet.json"]);
+    let serif = common::dejavu_sans().replace("DejaVuSans.ttf", "DejaVuSerif.ttf");
+    let output = sheet(&folder, &["--font", &serif, "--allglyphs", "--size", "4", "--json", "sheet.json"]);
     assert!(matches!(output.status.code(), Some(0 | 1)), "{:?}", lines(&output));
     let json = fs::read_to_string(folder.file("sheet.json")).unwrap();
     assert_eq!(number(&json, "glyphs", "index"), 0.0);
@@ -200,7 +295,12 @@ fn bad_input() {
     let folder = Folder::new("bad_input");
     let font = common::dejavu_sans();
     fs::write(folder.file("text.ttf"), "no font").unwrap();
-    fs::write(folder.file("cut.ttf"), &fs::read(&font).unwrap()[..2000]).unwrap();
+    let mut file = fs::read(&font).unwrap();
+    fs::write(folder.file("cut.ttf"), &file[..2000]).unwrap();
+    fs::write(folder.file("copy.ttf"), &file).unwrap();
+    let outlines = file.windows(4).position(|tag| tag == b"glyf").unwrap();
+    file[outlines..outlines + 4].copy_from_slice(b"glyx");
+    fs::write(folder.file("no_outlines.ttf"), &file).unwrap();
     fs::create_dir(folder.file("taken")).unwrap();
     let before = folder.names();
     let out = ["--imageout", "sheet.png"];
@@ -209,6 +309,7 @@ fn bad_input() {
         &["--font", "text.ttf"],
         &["--font", "cut.ttf"],
         &["--font", "taken"],
+        &["--font", "no_outlines.ttf"],
         &[],
         &["--font", &font, "--chars", "0x4"],
         &["--font", &font, "--chars", "Z..A"],
@@ -228,15 +329,20 @@ fn bad_input() {
         &["--font", &font, "--pxrange", "0"],
         &["--font", &font, "--pxrange", "inf"],
         &["--font", &font, "--threads", "-1"],
+        &["--font", &font, "--threads", "0.5"],
+        &["--font", &font, "--threads", "257"],
         &["--font", &font, "--allglyphs", "--size", "1024"],
         &["--font", &font, "--colour", "red"],
         &["--font", &font, "extra"],
         &["--font", &font, "--json", "nowhere/sheet.json"],
         &["--font", &font, "--json", "taken"],
         &["--font", &font, "--json", "sheet.png"],
+        &["--font", &font, "--json", "./taken/../sheet.png"],
+        &["--font", "copy.ttf", "--json", "./copy.ttf"],
         &["--font", &font, "--json", ""],
         &["--font", &font, "--jobs", "nowhere/jobs"],
         &["--font", &font, "--jobs", "text.ttf"],
+        &["--font", &font, "--jobs", "jobs", "--json", "jobs/sheet.json", "--testrender", "nowhere/back.png"],
     ];
     for case in cases {
         let output = sheet(&folder, &[case, out.as_slice()].concat());
@@ -248,4 +354,61 @@ fn bad_input() {
     }
     let nothing = sheet(&folder, &["--font", &font]);
     assert_eq!((nothing.status.code(), lines(&nothing).len()), (Some(2), 1));
+}
+
+/// What is no plain file that can be written stays as it is.
+#[test]
+fn what_is_left_alone() {
+    let folder = Folder::new("what_is_left_alone");
+    let path = |name: &str| folder.0.join(name);
+    fs::write(path("read_only"), "old").unwrap();
+    fs::set_permissions(path("read_only"), fs::Permissions::from_mode(0o444)).unwrap();
+    assert!(Command::new("mkfifo").arg(path("fifo")).status().unwrap().success());
+    symlink("missing", path("nowhere")).unwrap();
+    symlink("/dev/null", path("device")).unwrap();
+    let before = folder.names();
+    for name in ["read_only", "fifo", "nowhere", "device"] {
+        let output = with_font(&folder, &["--chars", "A", "--imageout", "sheet.png", "--json", name]);
+        assert_eq!((output.status.code(), lines(&output).len()), (Some(2), 1), "{name}");
+        assert_eq!(folder.names(), before, "{name}");
+    }
+    assert_eq!(fs::read(path("read_only")).unwrap(), b"old");
+    assert!(path("fifo").metadata().unwrap().file_type().is_fifo());
+    assert!(path("nowhere").is_symlink() && path("device").is_symlink());
+    assert!(path("device").metadata().unwrap().file_type().is_char_device());
+}
+
+/// A file is replaced, a link is followed, and a folder for jobs is there before what goes into it.
+#[test]
+fn what_is_replaced() {
+    let folder = Folder::new("what_is_replaced");
+    let path = |name: &str| folder.0.join(name);
+    fs::write(path("old"), "old").unwrap();
+    fs::write(path("target"), "old").unwrap();
+    symlink("target", path("link")).unwrap();
+    let arguments = ["--chars", "A", "--json", "jobs/sheet.json", "--jobs", "jobs", "--imageout", "old", "--testrender", "link"];
+    let output = with_font(&folder, &arguments);
+    assert_eq!((output.status.code(), lines(&output)), (Some(0), vec![]));
+    assert_eq!(folder.names(), ["jobs", "link", "old", "target"]);
+    assert_eq!(Folder(path("jobs")).names(), ["U+0041.job", "sheet.json"]);
+    assert!(path("link").is_symlink());
+    assert_eq!(picture::<1>(&folder.file("target")).0, 8 * picture::<3>(&folder.file("old")).0);
+}
+
+/// Words that cannot be written change nothing else.
+#[test]
+fn no_room_for_words() {
+    let folder = Folder::new("no_room_for_words");
+    let font = common::dejavu_sans();
+    let full = || File::options().write(true).open("/dev/full").unwrap();
+    for (arguments, status) in [
+        (["--font", &font, "--chars", "A, 0x2603", "--json", "sheet.json"].as_slice(), 1),
+        (&["--font", "missing.ttf", "--json", "sheet.json"], 2),
+        (&["--colour"], 2),
+        (&["--help"], 0),
+    ] {
+        let mut command = Command::new(env!("CARGO_BIN_EXE_sheet"));
+        let output = command.args(arguments).current_dir(&folder.0).stdout(full()).stderr(full()).output().unwrap();
+        assert_eq!(output.status.code(), Some(status), "{arguments:?}");
+    }
 }
