@@ -21,7 +21,7 @@ use Rattle.coloring.specs.Sizes.{sizes, sizes-map, concat-length}
 use Rattle.coloring.specs.Outline.{kindOf, cut, encode, Result, Outcome, outcome, over, fits, delivered, deliver}
 use Rattle.coloring.specs.Shape.{countsOf}
 use Rattle.job.specs.Job.{Job, Reading, reads, refuses, readJob}
-use Rattle.job.specs.Color.{foundIn, checkJob, edgesOf, colorsOf, colored, colorJob, colorReading, colorFile, answered, checkReading, checkFile, HoldsResults}
+use Rattle.job.specs.Color.{foundIn, checkJob, coloredEdges, edgeColors, colored, colorJob, colorReading, colorFile, answered, checkReading, checkFile, HoldsResults}
 use Rattle.job.specs.declared.listing.Listed.the-variants as listed
 use Rattle.job.specs.Listing as list
 use Rattle.job.specs.Listing.{listing, refusalLine, checkedText, readingText, fileText, listFile, contourCount}
@@ -57,10 +57,10 @@ text-few file = go (readJob file) refl
         s : ShapeOf job
         s = shape-of job file e
 
-        of : (k : Checked) → length (checkedText k (edgesOf job) (colorsOf job)) ≤ 5598
+        of : (k : Checked) → length (checkedText k (coloredEdges job) (edgeColors job)) ≤ 5598
         of Passed =
-            listing-few (map (map kindOf) (edgesOf job)) (colorsOf job) (omega (arith, length-map (edgesOf job) (map kindOf), s .contours-fit))
-            (omega (arith, ap length (map-concat kindOf (edgesOf job)), length-map (concat (edgesOf job)) kindOf, s .edges-fit)) (s .are-colors)
+            listing-few (map (map kindOf) (coloredEdges job)) (edgeColors job) (omega (arith, length-map (coloredEdges job) (map kindOf), s .contours-fit))
+            (omega (arith, ap length (map-concat kindOf (coloredEdges job)), length-map (concat (coloredEdges job)) kindOf, s .edges-fit)) (s .are-colors)
         of (Failed refusal) = refusal-short refusal
     go (refuses refusal) e = refusal-short refusal
 
@@ -93,9 +93,9 @@ stored-listing edges colors e =
     let bytes : cut (sizes edges) (concat colors) ≡ colors = rw (← e) (cut-again colors) in
     rw (kinds, bytes)
 
-front-of : (file : List ℕ) (contours edges : ℕ) (job : Job) (old new : Result) → ShapeOf job → contours ≡ length (edgesOf job) → edges ≡ length (concat (edgesOf job))
+front-of : (file : List ℕ) (contours edges : ℕ) (job : Job) (old new : Result) → ShapeOf job → contours ≡ length (coloredEdges job) → edges ≡ length (concat (coloredEdges job))
     → new .lengths ≡ over (colored job .lengths) (old .lengths) → new .kinds ≡ over (colored job .kinds) (old .kinds) → new .colors ≡ over (colored job .colors) (old .colors)
-    → fileText file ≡ listing (map (map kindOf) (edgesOf job)) (colorsOf job) → Front file contours edges new
+    → fileText file ≡ listing (map (map kindOf) (coloredEdges job)) (edgeColors job) → Front file contours edges new
 unfolding colored encode
 front-of file contours edges job old new s c e l k m text =
     let shape = colored job in
@@ -105,13 +105,13 @@ front-of file contours edges job old new s c e l k m text =
     let l-is = take-over (shape .lengths) (old .lengths) l lengths in
     let k-is = take-over (shape .kinds) (old .kinds) k kinds in
     let m-is = take-over (shape .colors) (old .colors) m colors in
-    let sum : total (shape .lengths) ≡ length (shape .kinds) = sym (concat-length (edgesOf job)) ∙ sym (s .sized .kinds-long) in
+    let sum : total (shape .lengths) ≡ length (shape .kinds) = sym (concat-length (coloredEdges job)) ∙ sym (s .sized .kinds-long) in
     record {
       lengths-within = within-over (shape .lengths) (old .lengths) l lengths;
       kinds-within = within-over (shape .kinds) (old .kinds) k kinds;
       colors-within = within-over (shape .colors) (old .colors) m colors;
       listable = rw (l-is, k-is, m-is) (omega (arith, s .sized .lengths-long, s .contours-fit), omega (arith, s .sized .kinds-long, s .edges-fit), sum, s .sized .colors-long ∙ sym (s .sized .kinds-long));
-      text = rw (l-is, k-is, m-is) (text ∙ stored-listing (edgesOf job) (colorsOf job) (s .marked));
+      text = rw (l-is, k-is, m-is) (text ∙ stored-listing (coloredEdges job) (edgeColors job) (s .marked));
     }
 
 module _ (file : List ℕ) (old : Result) (room : HoldsResults old) where
@@ -168,7 +168,7 @@ module _ (file : List ℕ) (old : Result) (room : HoldsResults old) where
       go : (reading : Reading) → readJob file ≡ reading → outcome (Refused refusal) new ≡ colorReading reading old → readingText reading ≡ refusalLine refusal
       go (reads job) e same = of (checkJob job) same
         where
-          of : (k : Checked) → outcome (Refused refusal) new ≡ deliver k (countsOf (foundIn job) (colored job)) (colored job) old → checkedText k (edgesOf job) (colorsOf job) ≡ refusalLine refusal
+          of : (k : Checked) → outcome (Refused refusal) new ≡ deliver k (countsOf (foundIn job) (colored job)) (colored job) old → checkedText k (coloredEdges job) (edgeColors job) ≡ refusalLine refusal
           of Passed same = let given = rw (fits-all job e) at same in let no = ap (λ (o : Outcome). o .answer) given in let z : _≡_ {A = ℕ} 0 1 = cc in absurd (omega arith)
           of (Failed other) same = let is : other ≡ refusal = (let a = ap (λ (o : Outcome). o .answer) same in cc) in ap refusalLine is
       go (refuses other) e same = let is : other ≡ refusal = (let a = ap (λ (o : Outcome). o .answer) same in cc) in ap refusalLine is

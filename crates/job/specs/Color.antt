@@ -44,14 +44,14 @@ checkJob job =
     byStrategy (job .strategy) Passed Passed (checkSplines splines (checkDistances splines (job .distances)))
 
 -- the edges of its coloured shape, contour by contour
-unfoldable pub edgesOf : Job → List (List EdgeSegment)
+unfoldable pub coloredEdges : Job → List (List EdgeSegment)
 unfolding foundIn layout
-edgesOf job = map layout (foundIn job)
+coloredEdges job = map layout (foundIn job)
 
 -- the colour of each of them, as a byte
-unfoldable pub colorsOf : Job → List (List ℕ)
+unfoldable pub edgeColors : Job → List (List ℕ)
 unfolding foundIn splineTotal markContours splineColor
-colorsOf job =
+edgeColors job =
     let found = foundIn job in
     let coloring = colorSplines (splineTotal found) (job .distances) (job .seed) in
     byStrategy (job .strategy)
@@ -61,8 +61,8 @@ colorsOf job =
 
 -- the coloured shape as it is stored
 unfoldable pub colored : Job → Result
-unfolding edgesOf colorsOf encode
-colored job = encode (edgesOf job) (colorsOf job)
+unfolding coloredEdges edgeColors encode
+colored job = encode (coloredEdges job) (edgeColors job)
 
 -- answer and buffers: a refusal of the checks; 11 where the result would not fit; or the coloured shape
 unfoldable pub colorJob : Job → Result → Outcome

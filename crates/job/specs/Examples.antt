@@ -16,7 +16,6 @@ use Rattle.coloring.specs.declared.outline.Checked.the-variants.{Failed}
 use Rattle.coloring.specs.declared.outline.Colored.the-variants.{Edges, Refused}
 use Rattle.coloring.specs.Corners.{searchCorners, cornerCount, firstCorner}
 use Rattle.coloring.specs.Outline.{Result, result, outcome}
-use Rattle.coloring.specs.Shape.{painted}
 use Rattle.coloring.specs.ByDistance.{maxSplines, checkSplines, checkDistances}
 use Rattle.job.specs.declared.records.Phase.the-variants.{Inside, Closing}
 use Rattle.job.specs.declared.records.State.{State}
@@ -234,7 +233,7 @@ abbrev squareAlone : List ℕ
 squareAlone = opening 3 (squareContour (DS (0 ∷ 0 ∷ EN [])))
 
 pub miscounted-before-short : (colorFile squareAlone noPlaces ≡ outcome (Refused LengthMismatch) noPlaces) × (accepted squareAlone ≡ false)
-unfolding colorFile accepted ofBits searchCorners cornerCount firstCorner painted direction sub dot cross divScalar squaredLength lengthOf normalize sqrtOf Ieee.add Ieee.sub Ieee.mul Ieee.div Ieee.ne Ieee.le Ieee.lt
+unfolding colorFile accepted ofBits searchCorners cornerCount firstCorner direction sub dot cross divScalar squaredLength lengthOf normalize sqrtOf Ieee.add Ieee.sub Ieee.mul Ieee.div Ieee.ne Ieee.le Ieee.lt
 miscounted-before-short = (refl, refl)
 
 -- 11 is no fault of the file
@@ -243,7 +242,7 @@ unfolding colorFile accepted ofBits
 short = (refl, refl)
 
 pub square-checked : checkFile squareFile ≡ Edges (record { edges = 4; splines = 4 })
-unfolding checkFile ofBits searchCorners cornerCount firstCorner painted direction sub dot cross divScalar squaredLength lengthOf normalize sqrtOf Ieee.add Ieee.sub Ieee.mul Ieee.div Ieee.ne Ieee.le Ieee.lt
+unfolding checkFile ofBits searchCorners cornerCount firstCorner direction sub dot cross divScalar squaredLength lengthOf normalize sqrtOf Ieee.add Ieee.sub Ieee.mul Ieee.div Ieee.ne Ieee.le Ieee.lt
 square-checked = refl
 
 -- ---- the text of an answer
@@ -258,13 +257,23 @@ squareText =
 
 -- from bytes to bytes: the square's file is printed as document 01 has it whole
 pub square-printed : fileText squareFile ≡ squareText
-unfolding fileText ofBits toStored searchCorners cornerCount firstCorner painted direction sub dot cross divScalar squaredLength lengthOf normalize sqrtOf Ieee.add Ieee.sub Ieee.mul Ieee.div Ieee.ne Ieee.le Ieee.lt
+unfolding fileText ofBits toStored searchCorners cornerCount firstCorner direction sub dot cross divScalar squaredLength lengthOf normalize sqrtOf Ieee.add Ieee.sub Ieee.mul Ieee.div Ieee.ne Ieee.le Ieee.lt
 square-printed = refl
 
 -- a job without contours and with strategy 1
 pub no-contours-printed : fileText (opening 1 (EN [])) ≡ (0x65 ∷ 0x64 ∷ 0x67 ∷ 0x65 ∷ 0x73 ∷ 0x20 ∷ 0x30 ∷ 0x0A ∷ [])
 unfolding fileText ofBits
 no-contours-printed = refl
+
+-- three contours, the second empty: its number is passed over, and places begin anew
+pub contours-printed :
+    list.listing ((1 ∷ []) ∷ [] ∷ (2 ∷ 3 ∷ []) ∷ []) ((5 ∷ []) ∷ [] ∷ (3 ∷ 6 ∷ []) ∷ [])
+    ≡ (0x30 ∷ 0x20 ∷ 0x30 ∷ 0x20 ∷ 0x4C ∷ 0x20 ∷ 0x35 ∷ 0x0A
+    ∷ 0x32 ∷ 0x20 ∷ 0x30 ∷ 0x20 ∷ 0x51 ∷ 0x20 ∷ 0x33 ∷ 0x0A
+    ∷ 0x32 ∷ 0x20 ∷ 0x31 ∷ 0x20 ∷ 0x43 ∷ 0x20 ∷ 0x36 ∷ 0x0A
+    ∷ 0x65 ∷ 0x64 ∷ 0x67 ∷ 0x65 ∷ 0x73 ∷ 0x20 ∷ 0x33 ∷ 0x0A ∷ [])
+unfolding list.listing
+contours-printed = refl
 
 -- 0 bytes
 pub no-bytes-printed : fileText [] ≡ (0x72 ∷ 0x65 ∷ 0x66 ∷ 0x75 ∷ 0x73 ∷ 0x65 ∷ 0x64 ∷ 0x20 ∷ 0x31 ∷ 0x0A ∷ [])

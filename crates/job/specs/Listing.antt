@@ -17,7 +17,7 @@ use Rattle.coloring.specs.Outline.{kindOf, over}
 use Rattle.job.specs.declared.listing.Listed.{Listed}
 use Rattle.job.specs.declared.listing.Listed.the-variants.{Bytes, Refused}
 use Rattle.job.specs.Job.{Reading, reads, refuses, readJob}
-use Rattle.job.specs.Color.{checkJob, edgesOf, colorsOf}
+use Rattle.job.specs.Color.{checkJob, coloredEdges, edgeColors}
 
 -- ---- numbers and letters
 
@@ -61,7 +61,7 @@ unfoldable pub line : ℕ → ℕ → ℕ → ℕ → List ℕ
 unfolding decimal
 line contour place kind color = decimal contour ++ (space ∷ (decimal place ++ (space ∷ (letter kind ∷ (space ∷ (decimal color ++ (newline ∷ [])))))))
 
--- the edges of a contour from a place on, each with its colour
+-- the edges of a contour from a place on, each with its colour; there are as many of these
 unfoldable pub contourLines : ℕ → ℕ → List ℕ → List ℕ → List ℕ
 unfolding line
 contourLines contour place [] colors = []
@@ -96,8 +96,8 @@ checkedText Passed edges colors = listing (map (map kindOf) edges) colors
 checkedText (Failed refusal) edges colors = refusalLine refusal
 
 unfoldable pub readingText : Reading → List ℕ
-unfolding checkJob edgesOf colorsOf listing refusalLine
-readingText (reads job) = checkedText (checkJob job) (edgesOf job) (colorsOf job)
+unfolding checkJob coloredEdges edgeColors listing refusalLine
+readingText (reads job) = checkedText (checkJob job) (coloredEdges job) (edgeColors job)
 readingText (refuses refusal) = refusalLine refusal
 
 -- what `channels` prints

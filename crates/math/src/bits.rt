@@ -1,4 +1,4 @@
-// Floats and their bit patterns. The logic has one NaN, and no pattern of a NaN becomes a float by `from_bits`.
+// Floats and their bit patterns. The logic has one NaN, and `from_bits` is not defined there for a NaN's pattern.
 ghost use mathlib.Core.Path.{_≡_};
 ghost use lib.Ieee.{binary64, ofBits};
 

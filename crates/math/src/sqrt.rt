@@ -161,7 +161,7 @@ pub fn sqrt_bits(bits: u64) -> u64
     positive_root(bits)
 }
 
-// On values. A NaN has no pattern that the logic knows, so none is read or made through one.
+// On values. A NaN has no pattern that the logic knows, so none is read.
 pub fn sqrt(x: f64) -> f64
     ensures { λ r. ⌜ r ≡ sqrtOf x ⌝ }
 {

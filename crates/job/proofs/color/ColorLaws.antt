@@ -40,7 +40,7 @@ use Rattle.job.specs.Job.{Job, Reading, reads, refuses, readJob}
 use Rattle.job.specs.Progress.{edgeCount, numbersOf}
 use Rattle.job.specs.Buffers.{Buffers, buffers, kindsOf, placesOf, stored, overEach, roomFor, hasRoom, Hold}
 use Rattle.job.specs.Reader.{readInto, Delivers}
-use Rattle.job.specs.Color.{foundIn, checkJob, edgesOf, colorsOf, colored, colorJob, colorReading, colorFile, isPassed, acceptedReading, accepted, noOther, outlineOf, colorStored, HoldsJobs}
+use Rattle.job.specs.Color.{foundIn, checkJob, coloredEdges, edgeColors, colored, colorJob, colorReading, colorFile, isPassed, acceptedReading, accepted, noOther, outlineOf, colorStored, HoldsJobs}
 use Rattle.job.proofs.records.ReadingLaws.{edgeFits}
 use Rattle.job.proofs.progress.ProgressLaws.{Sound, job-sound, contours-few, edges-few}
 use Rattle.job.proofs.buffers.StoredLaws.{kinds-length}
@@ -114,14 +114,14 @@ module _ (job : Job) (so : Sound job) (contours-fit : length (job .contours) ≤
   module _ (old : Result) where
     -- its result with some colours
     abbrev with : List (List ℕ) → Result
-    with colors = encode (edgesOf job) colors
+    with colors = encode (coloredEdges job) colors
 
     abbrev delivered-with : Checked → List (List ℕ) → Outcome
     delivered-with checked colors = deliver checked (countsOf (foundIn job) (with colors)) (with colors) old
 
     by-colors : (strategy : Strategy) → edgeColoring (record { strategy = strategy; threshold = job .threshold }) (outlineOf (stored job)) (job .seed) old
         ≡ delivered-with Passed (markContours (Colors strategy (job .seed)) (foundIn job))
-    unfolding edgeColoring foundIn edgesOf painted
+    unfolding edgeColoring foundIn coloredEdges painted
     by-colors strategy = rw (passes, contours-again job)
 
     abbrev byte : ℕ → ℕ
@@ -131,7 +131,7 @@ module _ (job : Job) (so : Sound job) (contours-fit : length (job .contours) ≤
     distances-checked = let splines = splineTotal (foundIn job) in checkSplines splines (checkDistances splines (job .distances))
 
     numbered : withBytes byte (painted Numbers (foundIn job)) ≡ with (map (map byte) (markContours Numbers (foundIn job)))
-    unfolding painted encode edgesOf
+    unfolding painted encode coloredEdges
     numbered = rw (map-concat byte (markContours Numbers (foundIn job)))
 
     by-numbers : edgeColoringByDistance (outlineOf (stored job)) (job .threshold) (job .seed) (job .distances) old
@@ -146,7 +146,7 @@ module _ (job : Job) (so : Sound job) (contours-fit : length (job .contours) ≤
     stored-is = refl
 
     stored-colored : colorStored (job .strategy) (job .seed) (job .threshold) (stored job) old ≡ colorJob job old
-    unfolding colorStored colorJob checkJob colored colorsOf
+    unfolding colorStored colorJob checkJob colored edgeColors
     stored-colored = rw (stored-is, by-colors Simple, by-colors InkTrap, by-numbers) (go (eqb (job .strategy) 1) (eqb (job .strategy) 2) _ _ _ _)
       where
         go : (a b : Bool) (x y z : List (List ℕ)) (k : Checked)

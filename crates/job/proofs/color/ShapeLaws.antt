@@ -24,7 +24,7 @@ use Rattle.coloring.specs.ByDistance.{splineColor, splineByte}
 use Rattle.coloring.specs.Sizes.{sizes, sizes-map, concat-length, flags-length, edges-split, edges-same, split-few, search-flagged, counted, laid-lengths, mark-lengths, Sized, encoded-sized}
 use Rattle.job.specs.Job.{Job, reads, readJob}
 use Rattle.job.specs.Progress.{edgeCount}
-use Rattle.job.specs.Color.{foundIn, edgesOf, colorsOf, colored}
+use Rattle.job.specs.Color.{foundIn, coloredEdges, edgeColors, colored}
 use Rattle.job.proofs.progress.ProgressLaws.{contours-few, edges-few}
 use Rattle.job.proofs.listing.ListingLaws.{AreColors, EachColors}
 
@@ -85,42 +85,42 @@ record Marked (edges : List (List EdgeSegment)) (colors : List (List ℕ)) : Typ
   pub are-colors : EachColors colors
 
 pub record ShapeOf (job : Job) : Type 0 where
-  pub contours-are : length (edgesOf job) ≡ length (job .contours)
-  pub contours-fit : length (edgesOf job) ≤ 64
-  pub edges-fit : length (concat (edgesOf job)) ≤ 508
-  pub marked : sizes (colorsOf job) ≡ sizes (edgesOf job)
-  pub are-colors : EachColors (colorsOf job)
-  pub sized : Sized (colored job) (length (edgesOf job)) (length (concat (edgesOf job)))
+  pub contours-are : length (coloredEdges job) ≡ length (job .contours)
+  pub contours-fit : length (coloredEdges job) ≤ 64
+  pub edges-fit : length (concat (coloredEdges job)) ≤ 508
+  pub marked : sizes (edgeColors job) ≡ sizes (coloredEdges job)
+  pub are-colors : EachColors (edgeColors job)
+  pub sized : Sized (colored job) (length (coloredEdges job)) (length (concat (coloredEdges job)))
 
 module _ (job : Job) where
-  laid-out : sizes (edgesOf job) ≡ counted resultEdges (foundIn job)
-  unfolding edgesOf foundIn
+  laid-out : sizes (coloredEdges job) ≡ counted resultEdges (foundIn job)
+  unfolding coloredEdges foundIn
   laid-out = laid-lengths (foundIn job) (search-flagged (job .threshold) (job .contours))
 
-  by-colors : (strategy : Strategy) → Marked (edgesOf job) (markContours (Colors strategy (job .seed)) (foundIn job))
+  by-colors : (strategy : Strategy) → Marked (coloredEdges job) (markContours (Colors strategy (job .seed)) (foundIn job))
   unfolding markContours
   by-colors strategy = record {
     each = mark-lengths (Colors strategy (job .seed)) (foundIn job) ∙ sym laid-out;
     are-colors = colors-each (λ (x : EdgeColor). x) (colorContours strategy (initColor (job .seed)) (foundIn job));
   }
 
-  by-numbers : (coloring : List ℕ) → Marked (edgesOf job) (map (map (splineByte coloring)) (markContours Numbers (foundIn job)))
+  by-numbers : (coloring : List ℕ) → Marked (coloredEdges job) (map (map (splineByte coloring)) (markContours Numbers (foundIn job)))
   by-numbers coloring = record {
     each = sizes-map (splineByte coloring) (markContours Numbers (foundIn job)) ∙ mark-lengths Numbers (foundIn job) ∙ sym laid-out;
     are-colors = colors-each (splineColor coloring) (markContours Numbers (foundIn job));
   }
 
-  all-marked : Marked (edgesOf job) (colorsOf job)
-  unfolding colorsOf
+  all-marked : Marked (coloredEdges job) (edgeColors job)
+  unfolding edgeColors
   all-marked = go (eqb (job .strategy) 1) (eqb (job .strategy) 2) (by-colors Simple) (by-colors InkTrap) (by-numbers (colorSplines (splineTotal (foundIn job)) (job .distances) (job .seed)))
     where
-      go : (a b : Bool) {x y z : List (List ℕ)} → Marked (edgesOf job) x → Marked (edgesOf job) y → Marked (edgesOf job) z → Marked (edgesOf job) (cond a x (cond b y z))
+      go : (a b : Bool) {x y z : List (List ℕ)} → Marked (coloredEdges job) x → Marked (coloredEdges job) y → Marked (coloredEdges job) z → Marked (coloredEdges job) (cond a x (cond b y z))
       go true b x y z = x
       go false true x y z = y
       go false false x y z = z
 
-  contours-kept : length (edgesOf job) ≡ length (job .contours)
-  unfolding edgesOf foundIn
+  contours-kept : length (coloredEdges job) ≡ length (job .contours)
+  unfolding coloredEdges foundIn
   contours-kept = length-map (foundIn job) layout ∙ length-map (job .contours) (searchCorners (job .threshold))
 
   module _ (file : List ℕ) (e : readJob file ≡ reads job) where
@@ -137,8 +137,8 @@ module _ (job : Job) where
     shape-of = record {
       contours-are = contours-kept;
       contours-fit = omega (arith, contours-kept, contours-few file job e);
-      edges-fit = omega (arith, concat-length (edgesOf job), ap total laid-out, out-few);
+      edges-fit = omega (arith, concat-length (coloredEdges job), ap total laid-out, out-few);
       marked = all-marked .each;
       are-colors = all-marked .are-colors;
-      sized = encoded-sized (edgesOf job) (colorsOf job) (all-marked .each);
+      sized = encoded-sized (coloredEdges job) (edgeColors job) (all-marked .each);
     }
