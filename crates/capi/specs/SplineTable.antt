@@ -1,7 +1,7 @@
 -- The answer to an offer as C sees it: one number.
 use Prim.Native.Nat.{ℕ, _+_, _-_, _*_}
 use lib.ListN.{getD}
-use Rattle.coloring.specs.declared.spline_table.Offer.{Offer}
+use Rattle.graph.specs.declared.spline_table.Offer.{Offer}
 use Rattle.coloring.specs.Answers.{offerAnswer}
 use Rattle.capi.specs.Answers.{codeOf}
 

@@ -9,24 +9,25 @@ use lib.Dec.{leb, ltb, eqb}
 use lib.Ieee as Ieee
 use lib.Ieee.{Float}
 use Rattle.math.specs.Scalar.{f1}
-use Rattle.coloring.specs.declared.refusal.Refusal.{Refusal}
-use Rattle.coloring.specs.declared.refusal.Refusal.the-variants.{TooMany, UnknownKind, BadThreshold, BadCoordinate, LengthMismatch}
+use Rattle.graph.specs.declared.refusal.Refusal.{Refusal}
+use Rattle.graph.specs.declared.refusal.Refusal.the-variants.{TooMany, UnknownKind, BadThreshold, BadCoordinate, LengthMismatch}
+use Rattle.graph.specs.declared.refusal.Checked.{Checked}
+use Rattle.graph.specs.declared.refusal.Checked.the-variants.{Passed, Failed}
+use Rattle.graph.specs.Refusal.{refusalNumber, andThen}
+use Rattle.graph.specs.SplineColors.{colorSplines, maxSplines, checkSplines, checkDistances}
+use Rattle.graph.specs.SplineTable.{Table, sound, tryAddEdge, offer}
+use Rattle.graph.specs.Bools.{split}
+use Rattle.graph.specs.Lists.{all}
 use Rattle.coloring.specs.declared.settings.Strategy.{Strategy}
 use Rattle.coloring.specs.declared.settings.Marking.the-variants.{Colors, Numbers}
-use Rattle.coloring.specs.declared.outline.Checked.{Checked}
-use Rattle.coloring.specs.declared.outline.Checked.the-variants.{Passed, Failed}
-use Rattle.coloring.specs.Refusal.{refusalNumber}
 use Rattle.coloring.specs.Answers.{Answer, values, refusal, Check, unless, firstOf, offerAnswer, coloredAnswer, checkedAnswer, distanceChecks, told-require, told-distances, told-after, told-refused, told-passed}
 use Rattle.coloring.specs.Places.{total}
-use Rattle.coloring.specs.Outline.{Outline, Result, contours, all, knownKind, between, coordinatesFit, maxContours, maxEdges, andThen, check, fits}
+use Rattle.coloring.specs.Outline.{Outline, Result, contours, knownKind, between, coordinatesFit, maxContours, maxEdges, check, fits}
 use Rattle.coloring.specs.Shape.{painted, countsOf}
 use Rattle.coloring.specs.Corners.{Cornered, searchCorners}
 use Rattle.coloring.specs.Splines.{splineTotal}
 use Rattle.coloring.specs.EdgeColoring.{edgeColoring}
-use Rattle.coloring.specs.SplineColors.{colorSplines}
-use Rattle.coloring.specs.ByDistance.{maxSplines, maxDistances, checkSplines, checkDistances, splineByte, withBytes, collectSplines, edgeColoringByDistance}
-use Rattle.coloring.specs.SplineTable.{Table, sound, tryAddEdge, offer}
-use Rattle.coloring.specs.Bools.{split}
+use Rattle.coloring.specs.ByDistance.{maxDistances, splineByte, withBytes, collectSplines, edgeColoringByDistance}
 
 -- ---- an offer: 4, 8, 10
 
@@ -91,12 +92,13 @@ module _ (o : Outline) (threshold : Float) (old : Result) where
     written = painted (Colors strategy seed) found
 
     pub coloring-in-numbers :
-        coloredAnswer (edgeColoring (record { strategy = strategy; threshold = threshold }) o seed old .answer)
+        coloredAnswer (edgeColoring (record { marking = Colors strategy seed; threshold = threshold }) o old .answer)
         ≡ firstOf (outlineChecks o threshold ++ (unless 11 (fits written old) ∷ [])) (counted found written)
     unfolding edgeColoring countsOf
     coloring-in-numbers =
         let counts = countsOf found written in
-        told-check (told-after counts written old) (told-refused counts written old) o threshold _ _ (told-passed counts written old)
+        let told : Checked → Answer = λ checked. told-after counts written old (andThen checked Passed) in
+        told-check told (told-refused counts written old) o threshold _ _ (told-passed counts written old)
 
   -- the collecting pass and by-distance colouring
   abbrev splines : ℕ
@@ -108,7 +110,7 @@ module _ (o : Outline) (threshold : Float) (old : Result) where
   pub collecting-in-numbers :
       coloredAnswer (collectSplines o threshold old .answer)
       ≡ firstOf (outlineChecks o threshold ++ (unless 4 (leb splines 64) ∷ unless 11 (fits collected old) ∷ [])) (counted found collected)
-  unfolding collectSplines countsOf maxSplines
+  unfolding edgeColoring countsOf
   collecting-in-numbers =
       let counts = countsOf found collected in
       let told = told-after counts collected old in

@@ -1,29 +1,16 @@
--- Places of a contour in walking order, from a start and around: ranges, rotated lists, and a list that is written place by place in that order.
+-- Places of a contour in walking order, from a start and around: rotated lists, and a list that is written place by place in that order.
 use Prim.Native.Nat.{ℕ, zero, suc, _+_, _-_, _%_, _≤_, _<_}
 use mathlib.Core.Path.{_≡_, sym, ap, _∙_}
 use mathlib.Core.Logic.{_⊎_, inl, inr, ⊎-elim}
 use mathlib.Core.List.{List, [], _∷_, _++_, map, map-append}
-use native.Mathlib.Nat.{mod-lt, mod-eq-of-lt, mod-eq-sub-mod, add-zero, add-suc, suc-add}
+use native.Mathlib.Nat.{mod-lt, mod-eq-of-lt, mod-eq-sub-mod}
 use native.Mathlib.Decide.{decLt}
 use native.Mathlib.Omega.{arith}
 use lib.ListN.{length, getD, take, drop, set, length-drop, length-map, length-set, List·getD-append}
 use lib.Seq.{getD-take, getD-drop, getD-append-add, getD-set-same, getD-set-other, ext-getD}
-use Rattle.coloring.specs.Places.{range, rotate, byPlace}
+use Rattle.graph.proofs.Lists.{map-take, map-drop}
+use Rattle.coloring.specs.Places.{rotate, byPlace}
 use Rattle.coloring.specs.Sizes.{length-byPlace}
-use Rattle.coloring.proofs.Lists.{map-take, map-drop}
-
--- ---- ranges
-
-pub getD-range : (i k j d : ℕ) → j < k → getD (range i k) j d ≡ i + j
-unfolding range
-getD-range i zero j d h = absurd (omega arith)
-getD-range i (suc k) zero d h = sym (add-zero i)
-getD-range i (suc k) (suc j) d h = getD-range (suc i) k j d (omega arith) ∙ omega arith
-
-pub range-snoc : (i k : ℕ) → range i (suc k) ≡ range i k ++ ((i + k) ∷ [])
-unfolding range
-range-snoc i zero = rw (add-zero i)
-range-snoc i (suc k) = ap (λ (l : List ℕ). i ∷ l) (range-snoc (suc i) k ∙ rw (add-suc i k, suc-add i k))
 
 -- ---- the place after k steps from a start, of m
 

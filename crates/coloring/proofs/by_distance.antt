@@ -1,3 +1,2 @@
--- Laws on by-distance colouring of outlines: its checks, and the bytes of a result replaced.
-pub mod CheckLaws
+-- Laws on by-distance colouring of outlines: the bytes of a result replaced.
 pub mod RecolorLaws

@@ -7,19 +7,19 @@ use mathlib.Core.List.{List, [], _∷_, _++_}
 use lib.Dec.{leb, eqb}
 use lib.ListN.{length}
 use lib.Ieee.{Float}
-use Rattle.coloring.specs.declared.spline_table.Offer.{Offer}
-use Rattle.coloring.specs.declared.spline_table.Offer.the-variants as offer
+use Rattle.graph.specs.declared.spline_table.Offer.{Offer}
+use Rattle.graph.specs.declared.spline_table.Offer.the-variants as offer
+use Rattle.graph.specs.declared.refusal.Checked.{Checked}
+use Rattle.graph.specs.declared.refusal.Checked.the-variants.{Passed, Failed}
+use Rattle.graph.specs.declared.refusal.Refusal.{Refusal}
+use Rattle.graph.specs.declared.refusal.Refusal.the-variants.{TooMany, LengthMismatch, BadDistance}
+use Rattle.graph.specs.Refusal.{refusalNumber, require}
+use Rattle.graph.specs.PairOrder.{distancesValid}
+use Rattle.graph.specs.SplineColors.{maxSplines, checkSplines, checkDistances}
 use Rattle.coloring.specs.declared.outline.Colored.{Colored}
 use Rattle.coloring.specs.declared.outline.Colored.the-variants as colored
-use Rattle.coloring.specs.declared.outline.Checked.{Checked}
-use Rattle.coloring.specs.declared.outline.Checked.the-variants.{Passed, Failed}
 use Rattle.coloring.specs.declared.outline.Counts.{Counts}
-use Rattle.coloring.specs.declared.refusal.Refusal.{Refusal}
-use Rattle.coloring.specs.declared.refusal.Refusal.the-variants.{TooMany, LengthMismatch, BadDistance}
-use Rattle.coloring.specs.Refusal.{refusalNumber}
-use Rattle.coloring.specs.Outline.{Result, require, fits, deliver}
-use Rattle.coloring.specs.PairOrder.{distancesValid}
-use Rattle.coloring.specs.ByDistance.{maxSplines, checkSplines, checkDistances}
+use Rattle.coloring.specs.Outline.{Result, fits, deliver}
 
 pub data Answer : Type 0 where
   values : List ℕ → Answer
@@ -74,7 +74,6 @@ distanceChecks splines distances =
 pub told-distances : (told : Checked → Answer) → ((r : Refusal) → told (Failed r) ≡ refusal (refusalNumber r))
     → (splines : ℕ) (distances : List Float) (checks : List Check) (answer : Answer)
     → told Passed ≡ firstOf checks answer → told (checkSplines splines (checkDistances splines distances)) ≡ firstOf (distanceChecks splines distances ++ checks) answer
-unfolding maxSplines
 told-distances told fails splines distances checks answer e =
     told-require told fails _ TooMany _ _ answer
     (told-require told fails _ LengthMismatch _ _ answer

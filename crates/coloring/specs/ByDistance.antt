@@ -1,6 +1,6 @@
 -- By-distance colouring of an outline, after `edge_coloring_by_distance` of coloring/by_distance.rs with its distances given, and the collecting pass
 -- before it (document 01, leaf 7).
-use Prim.Native.Nat.{ℕ, _*_, _-_, _/_, _≤_}
+use Prim.Native.Nat.{ℕ, _≤_}
 use mathlib.Core.Bool.{true, false}
 use mathlib.Core.List.{List, [], _∷_, _++_, map}
 use lib.ListN.{length, getD, take, drop}
@@ -9,46 +9,28 @@ use lib.Ieee.{Float}
 use Rattle.geometry.specs.EdgeColor.{bitsOf}
 use Rattle.geometry.specs.declared.edge_color.EdgeColor.{EdgeColor}
 use Rattle.geometry.specs.declared.edge_color.EdgeColor.the-variants.{Yellow, Cyan, Magenta, White}
-use Rattle.coloring.specs.declared.refusal.Refusal.the-variants.{TooMany, LengthMismatch, BadDistance}
-use Rattle.coloring.specs.declared.outline.Checked.{Checked}
-use Rattle.coloring.specs.declared.outline.Checked.the-variants.{Passed}
+use Rattle.graph.specs.declared.refusal.Refusal.the-variants.{TooMany}
+use Rattle.graph.specs.declared.refusal.Checked.{Checked}
+use Rattle.graph.specs.SplineColors.{checkSplines, checkDistances, colorSplines}
+use Rattle.graph.specs.Refusal.{require, andThen}
 use Rattle.coloring.specs.declared.outline.Colored.{Colored}
 use Rattle.coloring.specs.declared.outline.Colored.the-variants.{Edges, Refused}
 use Rattle.coloring.specs.declared.settings.Marking.the-variants.{Numbers}
-use Rattle.coloring.specs.PairOrder.{distancesValid}
-use Rattle.coloring.specs.SplineColors.{colorSplines}
 use Rattle.coloring.specs.Corners.{Cornered, searchCorners}
 use Rattle.coloring.specs.Splines.{splineTotal}
-use Rattle.coloring.specs.Outline.{Outline, Result, Outcome, contours, require, andThen, check, deliver}
-use Rattle.coloring.specs.Shape.{noSpline, painted, countsOf, deliverFound}
-
--- ---- the checks, after those of a colouring
-
-unfoldable pub maxSplines : ℕ
-maxSplines = 64
-
-unfoldable pub maxDistances : ℕ
-maxDistances = 2016
-
--- splines 4
-abbrev pub checkSplines : ℕ → Checked → Checked
-checkSplines splines next = require (leb splines maxSplines) TooMany next
-
--- one distance a pair, else 8; each of them finite and not below zero, else 9
-abbrev pub checkDistances : ℕ → List Float → Checked
-checkDistances splines distances =
-    require (eqb (length distances) (splines * (splines - 1) / 2)) LengthMismatch (require (distancesValid distances) BadDistance Passed)
+use Rattle.coloring.specs.Outline.{Outline, Result, Outcome, contours, check, deliver}
+use Rattle.coloring.specs.Shape.{noSpline, painted, countsOf}
+use Rattle.coloring.specs.EdgeColoring.{edgeColoring}
 
 -- ---- the collecting pass: the split outline, each edge with the number of its spline
 
-abbrev pub collectAfter : Checked → List Cornered → Result → Outcome
-collectAfter checked found = deliverFound (andThen checked (checkSplines (splineTotal found) Passed)) Numbers found
-
-unfoldable pub collectSplines : Outline → Float → Result → Outcome
-unfolding searchCorners contours check deliver painted countsOf maxSplines
-collectSplines o threshold = collectAfter (check o threshold) (map (searchCorners threshold) (contours o))
+abbrev pub collectSplines : Outline → Float → Result → Outcome
+collectSplines o threshold = edgeColoring (record { marking = Numbers; threshold = threshold }) o
 
 -- ---- the colouring
+
+unfoldable pub maxDistances : ℕ
+maxDistances = 2016
 
 -- the colour of an edge by its spline's number: Yellow, Cyan, Magenta for the splines' colours 0, 1, 2; White without a spline
 unfoldable pub splineColor : List ℕ → ℕ → EdgeColor
@@ -76,7 +58,7 @@ byDistanceAfter checked found seed distances old =
 
 -- too many distances count with too many contours and edges
 unfoldable pub edgeColoringByDistance : Outline → Float → ℕ → List Float → Result → Outcome
-unfolding searchCorners contours check deliver painted countsOf maxSplines maxDistances splineColor
+unfolding searchCorners contours check deliver painted countsOf maxDistances splineColor
 edgeColoringByDistance o threshold seed distances =
     byDistanceAfter (require (leb (length distances) maxDistances) TooMany (check o threshold)) (map (searchCorners threshold) (contours o)) seed distances
 

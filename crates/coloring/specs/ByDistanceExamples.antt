@@ -6,17 +6,15 @@ use lib.Ieee as Ieee
 use Rattle.math.specs.Sqrt.{sqrtOf}
 use Rattle.math.specs.Vector2.{sub, dot, cross, divScalar, squaredLength, lengthOf, normalize}
 use Rattle.geometry.specs.EdgeSegment.{direction, toStored, fromStored}
-use Rattle.coloring.specs.declared.refusal.Refusal.the-variants.{TooMany, LengthMismatch, BadDistance}
-use Rattle.coloring.specs.declared.outline.Checked.the-variants.{Failed}
-use Rattle.coloring.specs.SplineTable.{offer}
-use Rattle.coloring.specs.PairOrder.{validDistance}
-use Rattle.coloring.specs.SplineColors.{offerSplines}
+use Rattle.graph.specs.SplineTable.{offer}
+use Rattle.graph.specs.PairOrder.{validDistance}
+use Rattle.graph.specs.SplineColors.{offerSplines}
+use Rattle.graph.specs.SplineColorsExamples.{squareDistances}
 use Rattle.coloring.specs.Corners.{cornerCount, firstCorner}
-use Rattle.coloring.specs.Outline.{all}
 use Rattle.coloring.specs.Shape.{numberContours}
-use Rattle.coloring.specs.ByDistance.{maxSplines, checkSplines, checkDistances, splineByte, splineColor, collectSplines, edgeColoringByDistance}
+use Rattle.coloring.specs.EdgeColoring.{edgeColoring}
+use Rattle.coloring.specs.ByDistance.{splineByte, splineColor, collectSplines, edgeColoringByDistance}
 use Rattle.coloring.specs.Examples.{square, fourEdges, eighth}
-use Rattle.coloring.specs.SplineColorsExamples.{squareDistances}
 
 -- ---- P7: the square by distance, seed 0; its splines' colours and offers are in SplineColorsExamples
 
@@ -24,7 +22,7 @@ use Rattle.coloring.specs.SplineColorsExamples.{squareDistances}
 pub square-edges :
     (collectSplines square eighth fourEdges .buffers .colors ≡ (0 ∷ 1 ∷ 2 ∷ 3 ∷ []))
     × (edgeColoringByDistance square eighth 0 squareDistances fourEdges .buffers .colors ≡ (3 ∷ 6 ∷ 5 ∷ 6 ∷ []))
-unfolding square collectSplines edgeColoringByDistance validDistance cornerCount firstCorner offerSplines offer direction sub dot cross divScalar squaredLength lengthOf normalize sqrtOf toStored fromStored Ieee.add Ieee.sub Ieee.mul Ieee.div Ieee.neg Ieee.ne Ieee.le Ieee.lt Ieee.eq Ieee.ofBits
+unfolding square edgeColoring edgeColoringByDistance validDistance cornerCount firstCorner offerSplines offer direction sub dot cross divScalar squaredLength lengthOf normalize sqrtOf toStored fromStored Ieee.add Ieee.sub Ieee.mul Ieee.div Ieee.neg Ieee.ne Ieee.le Ieee.lt Ieee.eq Ieee.ofBits
 square-edges = (refl, refl)
 
 -- ---- numbers
@@ -40,15 +38,3 @@ numbers-go-on = refl
 pub white-stays : map (splineByte (2 ∷ 1 ∷ [])) (0 ∷ 255 ∷ 1 ∷ []) ≡ (5 ∷ 7 ∷ 6 ∷ [])
 unfolding splineColor
 white-stays = refl
-
--- ---- the order of refusals
-
--- refutes one that counts the distances first: 65 splines and no distance give 4
-pub splines-first : (checkSplines 65 (checkDistances 65 []) ≡ Failed TooMany) × (checkSplines 64 (checkDistances 64 []) ≡ Failed LengthMismatch)
-unfolding maxSplines
-splines-first = (refl, refl)
-
--- refutes one that looks at the distances before their count
-pub count-first : (checkDistances 3 (Ieee.nan ∷ []) ≡ Failed LengthMismatch) × (checkDistances 2 (Ieee.nan ∷ []) ≡ Failed BadDistance)
-unfolding all validDistance Ieee.le Ieee.lt Ieee.ofBits
-count-first = (refl, refl)

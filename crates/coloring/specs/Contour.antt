@@ -8,6 +8,7 @@ use lib.Dec.{eqb, ltb}
 use Rattle.geometry.specs.EdgeColor.{bitsOf}
 use Rattle.geometry.specs.declared.edge_color.EdgeColor.{EdgeColor}
 use Rattle.geometry.specs.declared.edge_color.EdgeColor.the-variants.{White}
+use Rattle.graph.specs.Lists.{overFrom}
 use Rattle.coloring.specs.declared.switching.Pen.{Pen}
 use Rattle.coloring.specs.declared.settings.Strategy.{Strategy}
 use Rattle.coloring.specs.declared.settings.Strategy.the-variants.{Simple, InkTrap}
@@ -16,7 +17,6 @@ use Rattle.coloring.specs.Corners.{Cornered, cornerCount}
 use Rattle.coloring.specs.Splines.{paint}
 use Rattle.coloring.specs.Simple.{simpleColors}
 use Rattle.coloring.specs.InkTrap.{inkTrapColors}
-use Rattle.coloring.specs.Outline.{overFrom}
 
 -- two corners or more
 abbrev pub byStrategy : Strategy → Pen → Cornered → SplineColors

@@ -15,10 +15,12 @@ use Rattle.geometry.specs.declared.edge_segment.EdgeSegment.{EdgeSegment}
 use Rattle.geometry.specs.declared.edge_segment.EdgeSegment.the-variants.{Line}
 use Rattle.geometry.specs.declared.edge_segment.Decoded.{Decoded}
 use Rattle.geometry.specs.declared.edge_segment.Decoded.the-variants.{Edge, UnknownKind as NoKind}
-use Rattle.coloring.specs.declared.refusal.Refusal.{Refusal}
-use Rattle.coloring.specs.declared.refusal.Refusal.the-variants.{TooMany, UnknownKind, BadThreshold, BadCoordinate, LengthMismatch, ResultTooShort}
-use Rattle.coloring.specs.declared.outline.Checked.{Checked}
-use Rattle.coloring.specs.declared.outline.Checked.the-variants.{Passed, Failed}
+use Rattle.graph.specs.declared.refusal.Refusal.{Refusal}
+use Rattle.graph.specs.declared.refusal.Refusal.the-variants.{TooMany, UnknownKind, BadThreshold, BadCoordinate, LengthMismatch, ResultTooShort}
+use Rattle.graph.specs.declared.refusal.Checked.{Checked}
+use Rattle.graph.specs.declared.refusal.Checked.the-variants.{Passed, Failed}
+use Rattle.graph.specs.Refusal.{require}
+use Rattle.graph.specs.Lists.{all, over, overFrom}
 use Rattle.coloring.specs.declared.outline.Counts.{Counts}
 use Rattle.coloring.specs.declared.outline.Colored.{Colored}
 use Rattle.coloring.specs.declared.outline.Colored.the-variants.{Edges, Refused}
@@ -88,15 +90,6 @@ encode edges bytes =
       colors = concat bytes;
     }
 
--- a written part, and what stood beyond it
-unfoldable pub over : {A : Type 0} → List A → List A → List A
-over written old = written ++ drop (length written) old
-
--- the same from place n on
-unfoldable pub overFrom : {A : Type 0} → ℕ → List A → List A → List A
-unfolding over
-overFrom n written old = take n old ++ over written (drop n old)
-
 -- ---- the checks, in document 01's order
 
 unfoldable pub maxContours : ℕ
@@ -104,10 +97,6 @@ maxContours = 64
 
 unfoldable pub maxEdges : ℕ
 maxEdges = 256
-
-unfoldable pub all : {A : Type 0} → (A → Bool) → List A → Bool
-all test [] = true
-all test (x ∷ xs) = test x && all test xs
 
 abbrev pub knownKind : ℕ → Bool
 knownKind kind = leb 1 kind && leb kind 3
@@ -138,16 +127,6 @@ unfolding all
 coordinatesFit [] points = true
 coordinatesFit (kind ∷ kinds) points =
     all inRange (take (usedPlaces kind) points) && coordinatesFit kinds (drop 8 points)
-
--- what follows where a test passes, else the refusal
-abbrev pub require : Bool → Refusal → Checked → Checked
-require true refusal next = next
-require false refusal next = Failed refusal
-
--- the first refusal of two checks one after the other
-abbrev pub andThen : Checked → Checked → Checked
-andThen Passed next = next
-andThen (Failed refusal) next = Failed refusal
 
 -- 4, 8, 5, 7, 6: the first that applies
 unfoldable pub check : Outline → Float → Checked

@@ -1,12 +1,7 @@
--- Lists by place: ranges, a list from a place on and around, and back; lists joined, numbers added up.
-use Prim.Native.Nat.{ℕ, zero, suc, _+_, _-_}
+-- Lists by place: a list from a place on and around, and back; lists joined, numbers added up.
+use Prim.Native.Nat.{ℕ, _+_, _-_}
 use mathlib.Core.List.{List, [], _∷_, _++_}
 use lib.ListN.{length, take, drop}
-
--- i, i + 1, .., k of them
-unfoldable pub range : ℕ → ℕ → List ℕ
-range i zero = []
-range i (suc k) = i ∷ range (suc i) k
 
 -- the list from place k on, then what stands before it
 unfoldable pub rotate : {A : Type 0} → ℕ → List A → List A

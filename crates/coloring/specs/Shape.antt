@@ -1,23 +1,28 @@
 -- The result of a whole shape, contour by contour: its edges, and a byte for each of them.
-use Prim.Native.Nat.{ℕ, _+_, _≤_}
-use mathlib.Core.Bool.{Bool}
+use Prim.Native.Nat.{ℕ, _+_}
+use mathlib.Core.Bool.{Bool, true}
 use mathlib.Core.List.{List, [], _∷_, map}
 use lib.ListN.{length}
+use lib.Dec.{leb}
 use Rattle.geometry.specs.EdgeColor.{bitsOf}
 use Rattle.geometry.specs.declared.edge_color.EdgeColor.{EdgeColor}
+use Rattle.graph.specs.declared.refusal.Refusal.the-variants.{TooMany}
+use Rattle.graph.specs.declared.refusal.Checked.{Checked}
+use Rattle.graph.specs.declared.refusal.Checked.the-variants.{Passed}
+use Rattle.graph.specs.Refusal.{require, andThen}
+use Rattle.graph.specs.Lists.{range}
+use Rattle.graph.specs.SplineColors.{maxSplines}
 use Rattle.coloring.specs.declared.switching.Pen.{Pen}
 use Rattle.coloring.specs.declared.settings.Strategy.{Strategy}
 use Rattle.coloring.specs.declared.settings.Marking.{Marking}
 use Rattle.coloring.specs.declared.settings.Marking.the-variants.{Colors, Numbers}
 use Rattle.coloring.specs.declared.outline.Counts.{Counts}
-use Rattle.coloring.specs.declared.outline.Checked.{Checked}
-use Rattle.coloring.specs.Places.{range, total}
 use Rattle.coloring.specs.Switching.{initColor}
 use Rattle.coloring.specs.Corners.{Cornered, flagsOf}
 use Rattle.coloring.specs.Layout.{layout}
 use Rattle.coloring.specs.Splines.{splineCount, splineTotal, paint}
 use Rattle.coloring.specs.Contour.{colorContour}
-use Rattle.coloring.specs.Outline.{Result, Outcome, cut, encode, deliver}
+use Rattle.coloring.specs.Outline.{Result, Outcome, encode, deliver}
 
 -- the colours: the contours in order, each with the pen that the one before left
 unfoldable pub colorContours : Strategy → Pen → List Cornered → List (List EdgeColor)
@@ -53,15 +58,13 @@ unfoldable pub countsOf : List Cornered → Result → Counts
 unfolding splineTotal
 countsOf found written = record { edges = length (written .kinds); splines = splineTotal found }
 
--- the outcome of an entry, once its checks are made and its corners found
+-- numbers are given to at most 64 splines
+abbrev pub markable : Marking → ℕ → Bool
+markable (Colors strategy seed) splines = true
+markable Numbers splines = leb splines maxSplines
+
+-- the outcome of an entry, once its checks are made and its corners found: too many splines 4, after the checks
 abbrev pub deliverFound : Checked → Marking → List Cornered → Result → Outcome
 deliverFound checked marking found old =
     let written = painted marking found in
-    deliver checked (countsOf found written) written old
-
--- ---- what the functions behind it ask of each other
-
--- numbers are given to at most 64 splines
-abbrev pub Markable : Marking → List ℕ → List Bool → Type 0
-Markable (Colors strategy seed) lengths flags = Unit {0}
-Markable Numbers lengths flags = total (map splineCount (cut lengths flags)) ≤ 64
+    deliver (andThen checked (require (markable marking (splineTotal found)) TooMany Passed)) (countsOf found written) written old

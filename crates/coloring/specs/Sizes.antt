@@ -15,12 +15,14 @@ use Rattle.geometry.specs.EdgeSegment.{direction, toStored}
 use Rattle.geometry.specs.declared.edge_color.EdgeColor.the-variants.{White}
 use Rattle.geometry.specs.declared.edge_segment.EdgeSegment.{EdgeSegment}
 use Rattle.geometry.specs.declared.edge_segment.EdgeSegment.the-variants.{Line, Quadratic, Cubic}
+use Rattle.graph.specs.Bools.{and-left, and-right, branch-true, branch-false}
+use Rattle.graph.specs.Lists.{range}
+use Rattle.graph.proofs.Lists.{length-range}
 use Rattle.coloring.specs.declared.switching.Pen.{Pen}
 use Rattle.coloring.specs.declared.settings.Strategy.{Strategy}
 use Rattle.coloring.specs.declared.settings.Marking.{Marking}
 use Rattle.coloring.specs.declared.settings.Marking.the-variants.{Colors, Numbers}
-use Rattle.coloring.specs.Bools.{and-left, and-right, branch-true, branch-false}
-use Rattle.coloring.specs.Places.{range, rotate, byPlace, concat, total}
+use Rattle.coloring.specs.Places.{rotate, byPlace, concat, total}
 use Rattle.coloring.specs.Switching.{initColor}
 use Rattle.coloring.specs.Corners.{Cornered, lastEdge, flagsFrom, cornerFlags, searchCorners, flagsOf, cornerCount, firstCorner}
 use Rattle.coloring.specs.Layout.{thirds, splits, layout, resultEdges, resultCorner}
@@ -35,11 +37,6 @@ use Rattle.coloring.specs.Shape.{colorContours, noSpline, numberContours
 -- the lengths of lists
 abbrev pub sizes : {A : Type 0} → List (List A) → List ℕ
 sizes {A} xss = map (λ (xs : List A). length xs) xss
-
-pub length-range : (i k : ℕ) → length (range i k) ≡ k
-unfolding range
-length-range i zero = refl
-length-range i (suc k) = ap suc (length-range (suc i) k)
 
 module _ {A : Type 0} where
   pub length-rotate : (k : ℕ) (xs : List A) → length (rotate k xs) ≡ length xs

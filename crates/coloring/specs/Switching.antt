@@ -1,4 +1,4 @@
--- Seed draws and colour switching, after `seed_extract2` to `switch_color_banned` of coloring/mod.rs (document 01, leaf 6).
+-- Colour switching, after `init_color` to `switch_color_banned` of coloring/mod.rs (document 01, leaf 6).
 use Prim.Native.Nat.{ℕ, zero, suc, _+_, _-_, _*_, _/_, _%_, _^_}
 use mathlib.Core.Bool.{Bool, _||_, cond}
 use mathlib.Core.Path.{_≡_}
@@ -8,16 +8,8 @@ use lib.Dec.{eqb}
 use Rattle.geometry.specs.EdgeColor.{bitsOf, fromBits}
 use Rattle.geometry.specs.declared.edge_color.EdgeColor.{EdgeColor}
 use Rattle.geometry.specs.declared.edge_color.EdgeColor.the-variants.{Black, Yellow, Magenta, Cyan}
+use Rattle.graph.specs.Seed.{seedExtract2, seedExtract3}
 use Rattle.coloring.specs.declared.switching.Pen.{Pen}
-use Rattle.coloring.specs.declared.switching.Draw.{Draw}
-
--- the seed mod 2, and its half
-abbrev pub seedExtract2 : ℕ → Draw
-seedExtract2 seed = record { value = seed % 2; seed = seed / 2 }
-
--- the seed mod 3, and its third
-abbrev pub seedExtract3 : ℕ → Draw
-seedExtract3 seed = record { value = seed % 3; seed = seed / 3 }
 
 -- the first colour, by the seed mod 3: Cyan, Magenta, Yellow
 unfoldable pub initColor : ℕ → Pen

@@ -3,8 +3,9 @@ use Prim.Native.Nat.{ℕ, zero, suc}
 use mathlib.Core.Bool.{Bool}
 use mathlib.Core.List.{List, map}
 use lib.IntN.{ℤ, pos, negsuc}
+use Rattle.graph.specs.Lists.{range}
 use Rattle.coloring.specs.Trichotomy.{symmetricalTrichotomy}
-use Rattle.coloring.specs.Places.{range, byPlace}
+use Rattle.coloring.specs.Places.{byPlace}
 use Rattle.coloring.specs.Layout.{resultEdges, resultCorner}
 
 abbrev pub thirdOf : {A : Type 0} → A → A → A → ℤ → A

@@ -1,63 +1,26 @@
 // By-distance colouring of an outline, after coloring/by_distance.rs with its distances given, and the collecting pass that numbers the splines.
 use crate::corners::find_corners;
-use crate::outline::Checked;
+use crate::edge_coloring::edge_coloring;
 use crate::outline::Colored;
 use crate::outline::check;
-use crate::pair_order::distances_valid;
-use crate::refusal::Refusal;
 use crate::settings::Marking;
+use crate::settings::Settings;
 use crate::shape::count_shape;
 use crate::shape::paint_shape;
-use crate::spline_colors::color_splines;
 use geometry::edge_color::EdgeColor;
+use graph::refusal::Checked;
+use graph::refusal::Refusal;
+use graph::spline_colors::color_splines;
 ghost use mathlib.Core.Path.{_≡_};
 ghost use mathlib.Core.List.{map};
-ghost use Prim.Native.Nat.{_*_, _-_, _/_, _≤_};
 ghost use lib.ListN.{length};
-ghost use Rattle.coloring.specs.declared.outline.Checked.the-variants.{Passed};
-ghost use Rattle.coloring.specs.PairOrder.{Distances};
-ghost use Rattle.coloring.specs.SplineColors.{colorSplines};
+ghost use Rattle.graph.specs.declared.refusal.Checked.the-variants.{Passed};
 ghost use Rattle.coloring.specs.Places.{total};
 ghost use Rattle.coloring.specs.Corners.{searchCorners};
 ghost use Rattle.coloring.specs.Outline.{contours, outline, result, outcome, Matching};
-ghost use Rattle.coloring.specs.ByDistance.{collectAfter, collectSplines, splineColor, splineByte, recolored, byDistanceAfter, edgeColoringByDistance, Recolorable};
+ghost use Rattle.coloring.specs.ByDistance.{collectSplines, splineColor, splineByte, recolored, byDistanceAfter, edgeColoringByDistance, Recolorable};
 
 // ---- the collecting pass
-
-// An outline that passed its checks, with a place for a flag an edge.
-fn collect_outline(
-    lengths: &[u16],
-    kinds: &[u8],
-    points: &[f64],
-    threshold: f64,
-    flags: &mut [bool],
-    out_lengths: &mut [u16],
-    out_kinds: &mut [u8],
-    out_points: &mut [f64],
-    out_splines: &mut [u8],
-) -> Colored
-    requires { ⌜ Matching (now kinds) (now points) (now flags) × (total (now lengths) ≡ length (now kinds)) ⌝ }
-    ensures { λ r. ⌜ outcome r (result (now («out_lengths» .exit)) (now («out_kinds» .exit)) (now («out_points» .exit)) (now («out_splines» .exit))) ≡
-        collectAfter Passed (map (searchCorners threshold) (contours (outline (now (lengths .entry)) (now (kinds .entry)) (now (points .entry)))))
-        (result (now («out_lengths» .entry)) (now («out_kinds» .entry)) (now («out_points» .entry)) (now («out_splines» .entry))) ⌝ }
-{
-    find_corners(lengths, kinds, points, threshold, flags);
-    let counts = count_shape(lengths, flags);
-    if counts.splines > 64 {
-        return Colored::Refused(Refusal::TooMany);
-    }
-    paint_shape(
-        Marking::Numbers,
-        lengths,
-        kinds,
-        points,
-        flags,
-        out_lengths,
-        out_kinds,
-        out_points,
-        out_splines,
-    )
-}
 
 // The split outline, each edge with the number of its spline, or 255 where it is White.
 pub fn collect_splines(
@@ -74,18 +37,15 @@ pub fn collect_splines(
         collectSplines (outline (now (lengths .entry)) (now (kinds .entry)) (now (points .entry))) threshold
         (result (now («out_lengths» .entry)) (now («out_kinds» .entry)) (now («out_points» .entry)) (now («out_splines» .entry))) ⌝ }
 {
-    let checked = check(lengths, kinds, points, threshold);
-    if let Checked::Failed(refusal) = checked {
-        return Colored::Refused(refusal);
-    }
-    let n = kinds.len();
-    let mut flags = [false; 256];
-    collect_outline(
+    let settings = Settings {
+        marking: Marking::Numbers,
+        threshold,
+    };
+    edge_coloring(
+        settings,
         lengths,
         kinds,
         points,
-        threshold,
-        &mut flags[..n],
         out_lengths,
         out_kinds,
         out_points,
@@ -126,37 +86,18 @@ fn color_numbers(coloring: &[u8], numbers: &mut [u8])
     }
 }
 
-// What was collected, with the colours of its splines; there is a place for each of these.
-fn color_collected(
-    collected: Colored,
-    distances: &[f64],
-    seed: u64,
-    coloring: &mut [u8],
-    out: &mut [u8],
-)
-    requires { ⌜ Distances (length (now coloring)) (now distances) × Recolorable collected (now out) ⌝ }
-    ensures { λ _. ⌜ now (out .exit) ≡
-        recolored (splineByte (colorSplines (length (now (coloring .entry))) (now (distances .entry)) seed)) collected (now (out .entry)) ⌝ }
+// What was collected, with the colours of its splines.
+fn color_collected(collected: Colored, coloring: &[u8], out: &mut [u8])
+    requires { ⌜ Recolorable collected (now out) ⌝ }
+    ensures { λ _. ⌜ now (out .exit) ≡ recolored (splineByte (now (coloring .entry))) collected (now (out .entry)) ⌝ }
 {
     if let Colored::Edges(counts) = collected {
         let edges = counts.edges;
-        color_splines(distances, seed, coloring);
         color_numbers(coloring, &mut out[..edges]);
     }
 }
 
-// How many pairs there are.
-fn pair_count(splines: usize) -> usize
-    requires { ⌜ splines ≤ 64 ⌝ }
-    ensures { λ r. ⌜ r ≡ splines * (splines - 1) / 2 ⌝ }
-{
-    if splines == 0 {
-        return 0;
-    }
-    splines * (splines - 1) / 2
-}
-
-// An outline that passed its checks, with a place for a flag an edge and for the colour of a spline.
+// An outline that passed its checks, with a place for a flag an edge.
 fn color_outline_by_distance(
     lengths: &[u16],
     kinds: &[u8],
@@ -182,11 +123,10 @@ fn color_outline_by_distance(
     if splines > 64 {
         return Colored::Refused(Refusal::TooMany);
     }
-    if distances.len() != pair_count(splines) {
-        return Colored::Refused(Refusal::LengthMismatch);
-    }
-    if !distances_valid(distances) {
-        return Colored::Refused(Refusal::BadDistance);
+    let mut coloring = [0u8; 64];
+    let checked = color_splines(distances, seed, &mut coloring[..splines]);
+    if let Checked::Failed(refusal) = checked {
+        return Colored::Refused(refusal);
     }
     let collected = paint_shape(
         Marking::Numbers,
@@ -199,14 +139,7 @@ fn color_outline_by_distance(
         out_points,
         out_colors,
     );
-    let mut coloring = [0u8; 64];
-    color_collected(
-        collected,
-        distances,
-        seed,
-        &mut coloring[..splines],
-        out_colors,
-    );
+    color_collected(collected, &coloring[..splines], out_colors);
     collected
 }
 

@@ -9,8 +9,9 @@ ghost use mathlib.Core.List.{map};
 ghost use Prim.Native.Nat.{_-_};
 ghost use lib.Ieee.{lt};
 ghost use lib.ListN.{length, take, drop};
+ghost use Rattle.graph.specs.Lists.{overFrom};
 ghost use Rattle.coloring.specs.Corners.{abs, isCorner, estimateEdgeLength, startsAtCorner, cornerFlags, searchCorners, cornered, cornerCount, firstCorner};
-ghost use Rattle.coloring.specs.Outline.{edgesOf, contours, outline, overFrom, Matching, Part};
+ghost use Rattle.coloring.specs.Outline.{edgesOf, contours, outline, Matching, Part};
 ghost use Rattle.coloring.specs.Places.{total};
 
 // Whether the magnitude of x is above the threshold.

@@ -1,66 +1,29 @@
 // Simple and ink-trap colouring of an outline, after `edge_coloring_simple` and `edge_coloring_ink_trap` of coloring/mod.rs.
 use crate::corners::find_corners;
-use crate::outline::Checked;
 use crate::outline::Colored;
 use crate::outline::check;
 use crate::settings::Marking;
 use crate::settings::Settings;
 use crate::settings::Strategy;
 use crate::shape::paint_shape;
+use graph::refusal::Checked;
 ghost use mathlib.Core.Path.{_≡_};
-ghost use lib.ListN.{length};
-ghost use Rattle.coloring.specs.declared.outline.Checked.the-variants.{Passed};
-ghost use Rattle.coloring.specs.Places.{total};
-ghost use Rattle.coloring.specs.Outline.{contours, outline, result, outcome, Matching};
-ghost use Rattle.coloring.specs.EdgeColoring.{edgeColoring, coloredAfter, edgeColoringSimple, edgeColoringInkTrap};
+ghost use Rattle.coloring.specs.Outline.{outline, result, outcome};
+ghost use Rattle.coloring.specs.EdgeColoring.{edgeColoring, edgeColoringSimple, edgeColoringInkTrap};
 
-// An outline that passed its checks, with a place for a flag an edge.
-fn color_outline(
+// The checks; the corners, once; then the edges of the result and the byte of each.
+pub(crate) fn edge_coloring(
     settings: Settings,
     lengths: &[u16],
     kinds: &[u8],
     points: &[f64],
-    seed: u64,
-    flags: &mut [bool],
-    out_lengths: &mut [u16],
-    out_kinds: &mut [u8],
-    out_points: &mut [f64],
-    out_colors: &mut [u8],
-) -> Colored
-    requires { ⌜ Matching (now kinds) (now points) (now flags) × (total (now lengths) ≡ length (now kinds)) ⌝ }
-    ensures { λ r. ⌜ outcome r (result (now («out_lengths» .exit)) (now («out_kinds» .exit)) (now («out_points» .exit)) (now («out_colors» .exit))) ≡
-        coloredAfter Passed settings (contours (outline (now (lengths .entry)) (now (kinds .entry)) (now (points .entry)))) seed
-        (result (now («out_lengths» .entry)) (now («out_kinds» .entry)) (now («out_points» .entry)) (now («out_colors» .entry))) ⌝ }
-{
-    let strategy = settings.strategy;
-    find_corners(lengths, kinds, points, settings.threshold, flags);
-    paint_shape(
-        Marking::Colors(strategy, seed),
-        lengths,
-        kinds,
-        points,
-        flags,
-        out_lengths,
-        out_kinds,
-        out_points,
-        out_colors,
-    )
-}
-
-// The checks, then the colouring.
-fn edge_coloring(
-    settings: Settings,
-    lengths: &[u16],
-    kinds: &[u8],
-    points: &[f64],
-    seed: u64,
     out_lengths: &mut [u16],
     out_kinds: &mut [u8],
     out_points: &mut [f64],
     out_colors: &mut [u8],
 ) -> Colored
     ensures { λ r. ⌜ outcome r (result (now («out_lengths» .exit)) (now («out_kinds» .exit)) (now («out_points» .exit)) (now («out_colors» .exit))) ≡
-        edgeColoring settings (outline (now (lengths .entry)) (now (kinds .entry)) (now (points .entry))) seed
+        edgeColoring settings (outline (now (lengths .entry)) (now (kinds .entry)) (now (points .entry)))
         (result (now («out_lengths» .entry)) (now («out_kinds» .entry)) (now («out_points» .entry)) (now («out_colors» .entry))) ⌝ }
 {
     let checked = check(lengths, kinds, points, settings.threshold);
@@ -68,14 +31,15 @@ fn edge_coloring(
         return Colored::Refused(refusal);
     }
     let n = kinds.len();
+    let marking = settings.marking;
     let mut flags = [false; 256];
-    color_outline(
-        settings,
+    find_corners(lengths, kinds, points, settings.threshold, &mut flags[..n]);
+    paint_shape(
+        marking,
         lengths,
         kinds,
         points,
-        seed,
-        &mut flags[..n],
+        &flags[..n],
         out_lengths,
         out_kinds,
         out_points,
@@ -100,7 +64,7 @@ pub fn edge_coloring_simple(
         (result (now («out_lengths» .entry)) (now («out_kinds» .entry)) (now («out_points» .entry)) (now («out_colors» .entry))) ⌝ }
 {
     let settings = Settings {
-        strategy: Strategy::Simple,
+        marking: Marking::Colors(Strategy::Simple, seed),
         threshold,
     };
     edge_coloring(
@@ -108,7 +72,6 @@ pub fn edge_coloring_simple(
         lengths,
         kinds,
         points,
-        seed,
         out_lengths,
         out_kinds,
         out_points,
@@ -133,7 +96,7 @@ pub fn edge_coloring_ink_trap(
         (result (now («out_lengths» .entry)) (now («out_kinds» .entry)) (now («out_points» .entry)) (now («out_colors» .entry))) ⌝ }
 {
     let settings = Settings {
-        strategy: Strategy::InkTrap,
+        marking: Marking::Colors(Strategy::InkTrap, seed),
         threshold,
     };
     edge_coloring(
@@ -141,7 +104,6 @@ pub fn edge_coloring_ink_trap(
         lengths,
         kinds,
         points,
-        seed,
         out_lengths,
         out_kinds,
         out_points,

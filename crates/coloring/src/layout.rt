@@ -10,10 +10,11 @@ ghost use mathlib.Core.Path.{_≡_};
 ghost use mathlib.Core.List.{map};
 ghost use Prim.Native.Nat.{_+_, _*_, _-_, _≤_, _<_};
 ghost use lib.ListN.{length, take, drop};
+ghost use Rattle.graph.specs.Lists.{overFrom};
 ghost use Rattle.coloring.specs.Places.{rotate, concat, total};
 ghost use Rattle.coloring.specs.Corners.{cornered};
 ghost use Rattle.coloring.specs.Layout.{thirds, splits, layout, resultEdges, resultCorner};
-ghost use Rattle.coloring.specs.Outline.{edgesOf, kindOf, placesOf, overFrom, Matching, whole, Part, part, Stored, StoredFrom, Room, LaidOut};
+ghost use Rattle.coloring.specs.Outline.{edgesOf, kindOf, placesOf, Matching, whole, Part, part, Stored, StoredFrom, Room, LaidOut};
 
 // ---- one contour
 

@@ -1,4 +1,4 @@
-// The colouring itself, after the source's coloring/: simple, ink-trap and by-distance colouring of outlines, and the spline table.
+// The colouring itself, after the source's coloring/: simple, ink-trap and by-distance colouring of outlines.
 pub mod by_distance;
 mod contour;
 mod corners;
@@ -6,15 +6,9 @@ pub mod edge_coloring;
 mod ink_trap;
 mod layout;
 pub mod outline;
-mod pair_order;
-mod recolor;
-pub mod refusal;
-mod second_degree;
 pub mod settings;
 mod shape;
 mod simple;
-mod spline_colors;
-pub mod spline_table;
 mod splines;
 mod switching;
 mod teardrop;

@@ -1,20 +1,16 @@
 // Outline buffers: contour lengths, the kind of each edge, eight point places an edge. Their checks, and an edge read or written.
-use crate::refusal::Refusal;
 use geometry::edge_segment::Decoded;
 use geometry::edge_segment::EdgeSegment;
+use graph::refusal::Checked;
+use graph::refusal::Refusal;
 use math::vector2::Vector2;
 ghost use mathlib.Core.Path.{_≡_};
 ghost use mathlib.Core.Bool.{true};
 ghost use Prim.Native.Nat.{_≤_, _<_, _*_};
 ghost use lib.ListN.{length, getD, set};
-ghost use Rattle.coloring.specs.Outline.{all, knownKind, between, inRange, usedPlaces, coordinatesFit, check, anyEdge, edgesOf, kindOf, placesOf, outline, overFrom, Stored};
+ghost use Rattle.graph.specs.Lists.{all, overFrom};
+ghost use Rattle.coloring.specs.Outline.{knownKind, between, inRange, usedPlaces, coordinatesFit, check, anyEdge, edgesOf, kindOf, placesOf, outline, Stored};
 ghost use Rattle.coloring.specs.Places.{total};
-
-// What the checks of an outline find.
-pub enum Checked {
-    Passed,
-    Failed(Refusal),
-}
 
 // What a colouring wrote: how many edges, and how many splines they belong to.
 pub struct Counts {

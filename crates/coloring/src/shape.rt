@@ -4,7 +4,6 @@ use crate::layout::lay_out;
 use crate::layout::part_edges;
 use crate::outline::Colored;
 use crate::outline::Counts;
-use crate::refusal::Refusal;
 use crate::settings::Marking;
 use crate::settings::Strategy;
 use crate::splines::paint;
@@ -12,22 +11,24 @@ use crate::splines::part_splines;
 use crate::splines::spline_count;
 use crate::switching::Pen;
 use crate::switching::init_color;
+use graph::refusal::Refusal;
 ghost use mathlib.Core.Path.{_≡_};
-ghost use mathlib.Core.Bool.{_&&_};
+ghost use mathlib.Core.Bool.{true, _&&_};
 ghost use mathlib.Core.List.{map};
 ghost use Prim.Native.Nat.{_+_, _*_, _-_, _≤_, _<_};
 ghost use lib.Dec.{leb};
 ghost use lib.ListN.{length, take, drop};
 ghost use Rattle.geometry.specs.EdgeColor.{bitsOf};
-ghost use Rattle.coloring.specs.declared.outline.Checked.the-variants.{Passed};
+ghost use Rattle.graph.specs.declared.refusal.Checked.the-variants.{Passed};
+ghost use Rattle.graph.specs.Lists.{range, over, overFrom};
 ghost use Rattle.coloring.specs.Switching.{initColor};
-ghost use Rattle.coloring.specs.Places.{range, total, concat};
+ghost use Rattle.coloring.specs.Places.{total, concat};
 ghost use Rattle.coloring.specs.Corners.{cornered};
 ghost use Rattle.coloring.specs.Layout.{resultEdges};
 ghost use Rattle.coloring.specs.Splines.{splineCount, paint};
 ghost use Rattle.coloring.specs.Contour.{colorContour, PaintedFrom};
-ghost use Rattle.coloring.specs.Outline.{edgesOf, cut, result, outcome, over, overFrom, Matching, Part, part};
-ghost use Rattle.coloring.specs.Shape.{colorContours, noSpline, numberContours, markContours, deliverFound, Markable};
+ghost use Rattle.coloring.specs.Outline.{edgesOf, cut, result, outcome, Matching, Part, part};
+ghost use Rattle.coloring.specs.Shape.{colorContours, noSpline, numberContours, markContours, markable, deliverFound};
 
 // ---- colours
 
@@ -215,6 +216,16 @@ fn has_room(
     edges <= colors
 }
 
+// Whether so many splines can be marked: numbers go to 64 at most.
+fn can_mark(marking: Marking, splines: usize) -> bool
+    ensures { λ r. ⌜ r ≡ markable marking splines ⌝ }
+{
+    match marking {
+        Marking::Colors(_, _) => true,
+        Marking::Numbers => splines <= 64,
+    }
+}
+
 // The byte of each edge.
 fn mark_contours(
     marking: Marking,
@@ -225,7 +236,8 @@ fn mark_contours(
     out: &mut [u8],
 )
     requires { ⌜ Matching (now kinds) (now points) (now flags) × (total (now lengths) ≡ length (now kinds)) ⌝ }
-    requires { ⌜ Markable marking (now lengths) (now flags) × (total (map resultEdges (cut (now lengths) (now flags))) ≤ length (now out)) ⌝ }
+    requires { ⌜ markable marking (total (map splineCount (cut (now lengths) (now flags)))) ≡ true ⌝ }
+    requires { ⌜ total (map resultEdges (cut (now lengths) (now flags))) ≤ length (now out) ⌝ }
     ensures { λ _. ⌜ now (out .exit) ≡ over (concat (markContours marking
         (cornered (now (lengths .entry)) (edgesOf (now (kinds .entry)) (now (points .entry))) (now (flags .entry))))) (now (out .entry)) ⌝ }
 {
@@ -239,7 +251,7 @@ fn mark_contours(
     }
 }
 
-// Contours with their corners: 11 where the counted result is longer than a buffer; then the edges and a byte for each.
+// Contours with their corners: 4 where their splines are too many for numbers; 11 where the counted result is longer than a buffer; then the edges and a byte for each.
 pub(crate) fn paint_shape(
     marking: Marking,
     lengths: &[u16],
@@ -251,12 +263,15 @@ pub(crate) fn paint_shape(
     out_points: &mut [f64],
     out_colors: &mut [u8],
 ) -> Colored
-    requires { ⌜ Matching (now kinds) (now points) (now flags) × (total (now lengths) ≡ length (now kinds)) × Markable marking (now lengths) (now flags) ⌝ }
+    requires { ⌜ Matching (now kinds) (now points) (now flags) × (total (now lengths) ≡ length (now kinds)) ⌝ }
     ensures { λ r. ⌜ outcome r (result (now («out_lengths» .exit)) (now («out_kinds» .exit)) (now («out_points» .exit)) (now («out_colors» .exit))) ≡
         deliverFound Passed marking (cornered (now (lengths .entry)) (edgesOf (now (kinds .entry)) (now (points .entry))) (now (flags .entry)))
         (result (now («out_lengths» .entry)) (now («out_kinds» .entry)) (now («out_points» .entry)) (now («out_colors» .entry))) ⌝ }
 {
     let counts = count_shape(lengths, flags);
+    if !can_mark(marking, counts.splines) {
+        return Colored::Refused(Refusal::TooMany);
+    }
     let room = has_room(
         lengths.len(),
         counts.edges,

@@ -1,37 +1,15 @@
-// Seed draws and colour switching of coloring/mod.rs. Colour and seed pass through by value, as one `Pen`.
+// Colour switching of coloring/mod.rs. Colour and seed pass through by value, as one `Pen`.
 use geometry::edge_color::EdgeColor;
+use graph::seed::seed_extract2;
+use graph::seed::seed_extract3;
 ghost use mathlib.Core.Path.{_≡_};
 ghost use lib.ListN.{length};
-ghost use Rattle.coloring.specs.Switching.{seedExtract2, seedExtract3, initColor, switchColor, oneChannel, switchColorBanned, bannedBefore, switchEach, Drawn};
+ghost use Rattle.coloring.specs.Switching.{initColor, switchColor, oneChannel, switchColorBanned, bannedBefore, switchEach, Drawn};
 
 // The colour that is being drawn with, and the seed that is left.
 pub struct Pen {
     pub color: EdgeColor,
     pub seed: u64,
-}
-
-// A draw from a seed: the number drawn, and the seed that is left.
-pub struct Draw {
-    pub value: u64,
-    pub seed: u64,
-}
-
-pub(crate) fn seed_extract2(seed: u64) -> Draw
-    ensures { λ r. ⌜ r ≡ seedExtract2 seed ⌝ }
-{
-    Draw {
-        value: seed % 2,
-        seed: seed / 2,
-    }
-}
-
-pub(crate) fn seed_extract3(seed: u64) -> Draw
-    ensures { λ r. ⌜ r ≡ seedExtract3 seed ⌝ }
-{
-    Draw {
-        value: seed % 3,
-        seed: seed / 3,
-    }
 }
 
 pub(crate) fn init_color(seed: u64) -> Pen

@@ -9,16 +9,17 @@ use lib.ListN.{length, take, drop, length-append, length-map}
 use lib.Seq.{take-at}
 use borrow.Author.Tests.{le-leb, lt-leb}
 use Rattle.geometry.specs.declared.edge_segment.EdgeSegment.{EdgeSegment}
-use Rattle.coloring.specs.declared.outline.Checked.{Checked}
-use Rattle.coloring.specs.declared.outline.Checked.the-variants.{Passed, Failed}
+use Rattle.graph.specs.declared.refusal.Checked.{Checked}
+use Rattle.graph.specs.declared.refusal.Checked.the-variants.{Passed, Failed}
+use Rattle.graph.specs.declared.refusal.Refusal.{Refusal}
+use Rattle.graph.specs.declared.refusal.Refusal.the-variants.{Truncated, UnknownMark, MisplacedMark, TooMany, UnknownKind, BadThreshold, BadCoordinate, LengthMismatch, BadDistance, BadTable, ResultTooShort}
+use Rattle.graph.specs.Refusal.{refusalNumber}
+use Rattle.graph.specs.Lists.{over}
 use Rattle.coloring.specs.declared.outline.Counts.{Counts}
 use Rattle.coloring.specs.declared.outline.Colored.the-variants.{Edges, Refused}
-use Rattle.coloring.specs.declared.refusal.Refusal.{Refusal}
-use Rattle.coloring.specs.declared.refusal.Refusal.the-variants.{Truncated, UnknownMark, MisplacedMark, TooMany, UnknownKind, BadThreshold, BadCoordinate, LengthMismatch, BadDistance, BadTable, ResultTooShort}
-use Rattle.coloring.specs.Refusal.{refusalNumber}
 use Rattle.coloring.specs.Places.{concat, total}
 use Rattle.coloring.specs.Sizes.{sizes, sizes-map, concat-length}
-use Rattle.coloring.specs.Outline.{kindOf, cut, encode, Result, Outcome, outcome, over, fits, delivered, deliver}
+use Rattle.coloring.specs.Outline.{kindOf, cut, encode, Result, Outcome, outcome, fits, delivered, deliver}
 use Rattle.coloring.specs.Shape.{countsOf}
 use Rattle.job.specs.Job.{Job, Reading, reads, refuses, readJob}
 use Rattle.job.specs.Color.{foundIn, checkJob, coloredEdges, edgeColors, colored, colorJob, colorReading, colorFile, answered, checkReading, checkFile, HoldsResults}

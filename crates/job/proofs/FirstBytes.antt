@@ -9,9 +9,11 @@ use lib.ListN.{length, getD, take, drop, length-append, length-drop, take-append
 use lib.Seq.{drop-drop, take-all, take-append-le, drop-append-le, length-take-le}
 use lib.Ieee.{binary64, ofBits}
 use borrow.Author.Tests.{le-leb, leb-true, leb-false}
-use Rattle.coloring.specs.declared.refusal.Refusal.{Refusal}
-use Rattle.coloring.specs.declared.refusal.Refusal.the-variants.{Truncated, MisplacedMark, TooMany, UnknownKind, BadThreshold, BadCoordinate, BadDistance}
-use Rattle.coloring.specs.Bools.{and-left}
+use Rattle.graph.specs.declared.refusal.Refusal.{Refusal}
+use Rattle.graph.specs.declared.refusal.Refusal.the-variants.{Truncated, MisplacedMark, TooMany, UnknownKind, BadThreshold, BadCoordinate, BadDistance}
+use Rattle.graph.specs.Bools.{and-left}
+use Rattle.graph.specs.Lists.{all}
+use Rattle.coloring.specs.Outline.{Result}
 use Rattle.job.specs.declared.records.Kind.{Kind}
 use Rattle.job.specs.declared.records.Mark.{Mark}
 use Rattle.job.specs.declared.records.Mark.the-variants.{Header, Contour, Edge, Distances, End}
@@ -23,7 +25,6 @@ use Rattle.job.specs.declared.records.State.{State}
 use Rattle.job.specs.declared.progress.Progress.{Progress}
 use Rattle.job.specs.Patterns.{number, words, floats, isThreshold, isCoordinate, isDistance}
 use Rattle.job.specs.Records.{Record, header, edge, distances, Step, next, ends, fails, require, knownStrategy, controls, bodySize, allowed, fits, closing, among, byDistance, edgeOf, itemOf, recordSize, markOf, readHeader, readEdge, readDistances, readEnd, readBody, readMarked, readRecord, after, Records, _then_, recordsFrom}
-use Rattle.coloring.specs.Outline.{all, Result}
 use Rattle.job.specs.Job.{noJob, jobFrom, Reading, reads, refuses, readJob}
 use Rattle.job.specs.Color.{colorReading, colorFile, acceptedReading, accepted}
 use Rattle.job.specs.Part.{contourPart}

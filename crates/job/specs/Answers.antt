@@ -6,15 +6,15 @@ use mathlib.Core.Bool.{Bool, true, false, cond}
 use mathlib.Core.List.{List, [], _∷_, _++_, append-nil}
 use lib.Dec.{leb, eqb}
 use lib.ListN.{length}
-use Rattle.coloring.specs.Refusal.{refusalNumber}
-use Rattle.coloring.specs.declared.refusal.Refusal.{Refusal}
-use Rattle.coloring.specs.declared.outline.Checked.{Checked}
-use Rattle.coloring.specs.declared.outline.Checked.the-variants.{Passed, Failed}
+use Rattle.graph.specs.Refusal.{refusalNumber}
+use Rattle.graph.specs.declared.refusal.Refusal.{Refusal}
+use Rattle.graph.specs.declared.refusal.Checked.{Checked}
+use Rattle.graph.specs.declared.refusal.Checked.the-variants.{Passed, Failed}
+use Rattle.graph.specs.SplineColors.{checkSplines, checkDistances}
 use Rattle.coloring.specs.Answers.{Answer, values, refusal, Check, unless, firstOf, coloredAnswer, distanceChecks, told-distances, told-after, told-refused, told-passed}
 use Rattle.coloring.specs.Splines.{splineTotal}
 use Rattle.coloring.specs.Outline.{Result, fits}
 use Rattle.coloring.specs.Shape.{countsOf}
-use Rattle.coloring.specs.ByDistance.{checkSplines, checkDistances}
 use Rattle.job.specs.declared.progress.Read.{Read}
 use Rattle.job.specs.declared.progress.Read.the-variants as read
 use Rattle.job.specs.declared.progress.Numbers.{Numbers}

@@ -6,22 +6,22 @@ use lib.Dec.{eqb}
 use lib.Ieee.{Float}
 use lib.ListN.{length}
 use Rattle.geometry.specs.declared.edge_segment.EdgeSegment.{EdgeSegment}
-use Rattle.coloring.specs.declared.outline.Checked.{Checked}
-use Rattle.coloring.specs.declared.outline.Checked.the-variants.{Passed, Failed}
+use Rattle.graph.specs.declared.refusal.Checked.{Checked}
+use Rattle.graph.specs.declared.refusal.Checked.the-variants.{Passed, Failed}
+use Rattle.graph.specs.Refusal.{refusalNumber}
+use Rattle.graph.specs.SplineColors.{colorSplines, check}
 use Rattle.coloring.specs.declared.outline.Counts.{Counts}
-use Rattle.coloring.specs.Refusal.{refusalNumber}
 use Rattle.coloring.specs.declared.outline.Colored.{Colored}
 use Rattle.coloring.specs.declared.outline.Colored.the-variants.{Edges, Refused}
 use Rattle.coloring.specs.declared.settings.Strategy.the-variants.{Simple, InkTrap}
 use Rattle.coloring.specs.declared.settings.Marking.the-variants.{Colors, Numbers}
 use Rattle.coloring.specs.Corners.{Cornered, searchCorners}
 use Rattle.coloring.specs.Splines.{splineTotal}
-use Rattle.coloring.specs.SplineColors.{colorSplines}
 use Rattle.coloring.specs.Layout.{layout}
 use Rattle.coloring.specs.Outline.{Outline, Result, Outcome, encode, deliver}
 use Rattle.coloring.specs.Shape.{markContours, countsOf}
 use Rattle.coloring.specs.EdgeColoring.{edgeColoringSimple, edgeColoringInkTrap}
-use Rattle.coloring.specs.ByDistance.{maxSplines, checkSplines, checkDistances, splineColor, splineByte, edgeColoringByDistance}
+use Rattle.coloring.specs.ByDistance.{splineColor, splineByte, edgeColoringByDistance}
 use Rattle.job.specs.Job.{Job, Reading, reads, refuses, readJob}
 use Rattle.job.specs.Buffers.{Buffers}
 
@@ -38,10 +38,10 @@ foundIn job = map (searchCorners (job .threshold)) (job .contours)
 
 -- what is left to check of a job that was read, for strategy 3 only: splines 4, then the distances
 unfoldable pub checkJob : Job → Checked
-unfolding foundIn splineTotal maxSplines
+unfolding foundIn splineTotal
 checkJob job =
     let splines = splineTotal (foundIn job) in
-    byStrategy (job .strategy) Passed Passed (checkSplines splines (checkDistances splines (job .distances)))
+    byStrategy (job .strategy) Passed Passed (check splines (job .distances))
 
 -- the edges of its coloured shape, contour by contour
 unfoldable pub coloredEdges : Job → List (List EdgeSegment)

@@ -11,12 +11,10 @@ use Rattle.math.specs.Sqrt.{sqrtOf}
 use Rattle.math.specs.Vector2.{new, sub, divScalar, dot, cross, squaredLength, lengthOf, normalize}
 use Rattle.geometry.specs.EdgeSegment.{direction, toStored}
 use Rattle.geometry.specs.declared.edge_segment.EdgeSegment.the-variants.{Line}
-use Rattle.coloring.specs.declared.refusal.Refusal.the-variants.{Truncated, UnknownMark, MisplacedMark, TooMany, UnknownKind, BadThreshold, BadCoordinate, LengthMismatch, BadDistance, ResultTooShort}
-use Rattle.coloring.specs.declared.outline.Checked.the-variants.{Failed}
+use Rattle.graph.specs.declared.refusal.Refusal.the-variants.{Truncated, UnknownMark, MisplacedMark, TooMany, UnknownKind, BadThreshold, BadCoordinate, LengthMismatch, BadDistance, ResultTooShort}
 use Rattle.coloring.specs.declared.outline.Colored.the-variants.{Edges, Refused}
 use Rattle.coloring.specs.Corners.{searchCorners, cornerCount, firstCorner}
 use Rattle.coloring.specs.Outline.{Result, result, outcome}
-use Rattle.coloring.specs.ByDistance.{maxSplines, checkSplines, checkDistances}
 use Rattle.job.specs.declared.records.Phase.the-variants.{Inside, Closing}
 use Rattle.job.specs.declared.records.State.{State}
 use Rattle.job.specs.Records.{fails, start, readRecord}
@@ -217,16 +215,11 @@ pub no-part : (contourPart squareFile 1 ≡ []) × (contourPart (opening 1 (CT [
 unfolding contourPart ofBits
 no-part = (refl, refl)
 
--- ---- after reading: splines 4, 8, 11
+-- ---- after reading: 8, 11
 
 -- buffers without a place
 abbrev noPlaces : Result
 noPlaces = result [] [] [] []
-
--- 65 splines and no distances
-pub too-many-splines-before-miscounted : checkSplines 65 (checkDistances 65 []) ≡ Failed TooMany
-unfolding maxSplines
-too-many-splines-before-miscounted = refl
 
 -- the square by distance, without a distance and without a place for it
 abbrev squareAlone : List ℕ

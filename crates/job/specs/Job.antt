@@ -4,7 +4,7 @@ use mathlib.Core.List.{List, [], _∷_, _++_}
 use lib.Ieee.{Float}
 use Rattle.math.specs.Scalar.{f0}
 use Rattle.geometry.specs.declared.edge_segment.EdgeSegment.{EdgeSegment}
-use Rattle.coloring.specs.declared.refusal.Refusal.{Refusal}
+use Rattle.graph.specs.declared.refusal.Refusal.{Refusal}
 use Rattle.job.specs.Records.{Record, header, contour, edge, distances, Records, complete, fault, _then_, start, recordsFrom}
 
 pub record Job : Type 0 where

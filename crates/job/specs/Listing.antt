@@ -7,13 +7,14 @@ use mathlib.Core.List.{List, [], _∷_, _++_, map}
 use lib.ListN.{length, take, drop}
 use lib.Dec.{leb, ltb}
 use Rattle.geometry.specs.declared.edge_segment.EdgeSegment.{EdgeSegment}
-use Rattle.coloring.specs.Refusal.{refusalNumber}
-use Rattle.coloring.specs.declared.refusal.Refusal.{Refusal}
-use Rattle.coloring.specs.declared.refusal.Refusal.the-variants.{ResultTooShort}
-use Rattle.coloring.specs.declared.outline.Checked.{Checked}
-use Rattle.coloring.specs.declared.outline.Checked.the-variants.{Passed, Failed}
+use Rattle.graph.specs.Refusal.{refusalNumber}
+use Rattle.graph.specs.declared.refusal.Refusal.{Refusal}
+use Rattle.graph.specs.declared.refusal.Refusal.the-variants.{ResultTooShort}
+use Rattle.graph.specs.declared.refusal.Checked.{Checked}
+use Rattle.graph.specs.declared.refusal.Checked.the-variants.{Passed, Failed}
+use Rattle.graph.specs.Lists.{over}
 use Rattle.coloring.specs.Places.{concat}
-use Rattle.coloring.specs.Outline.{kindOf, over}
+use Rattle.coloring.specs.Outline.{kindOf}
 use Rattle.job.specs.declared.listing.Listed.{Listed}
 use Rattle.job.specs.declared.listing.Listed.the-variants.{Bytes, Refused}
 use Rattle.job.specs.Job.{Reading, reads, refuses, readJob}

@@ -8,8 +8,9 @@ use lib.Ieee.{Float, binary64, ofBits, toBits}
 use Rattle.geometry.specs.EdgeSegment.{pointAt}
 use Rattle.geometry.specs.declared.edge_segment.EdgeSegment.{EdgeSegment}
 use Rattle.geometry.specs.declared.edge_segment.EdgeSegment.the-variants as segment
-use Rattle.coloring.specs.declared.refusal.Refusal.{Refusal}
-use Rattle.coloring.specs.declared.refusal.Refusal.the-variants.{Truncated, UnknownMark, MisplacedMark, TooMany, UnknownKind, BadThreshold, BadCoordinate, BadDistance}
+use Rattle.graph.specs.declared.refusal.Refusal.{Refusal}
+use Rattle.graph.specs.declared.refusal.Refusal.the-variants.{Truncated, UnknownMark, MisplacedMark, TooMany, UnknownKind, BadThreshold, BadCoordinate, BadDistance}
+use Rattle.graph.specs.Lists.{all}
 use Rattle.job.specs.declared.records.Kind.{Kind}
 use Rattle.job.specs.declared.records.Kind.the-variants.{Line, Quadratic, Cubic}
 use Rattle.job.specs.declared.records.Mark.{Mark}
@@ -23,7 +24,6 @@ use Rattle.job.specs.declared.records.Item.{Item}
 use Rattle.job.specs.declared.records.Item.the-variants as item
 use Rattle.job.specs.declared.records.Found.{Found}
 use Rattle.job.specs.declared.records.Found.the-variants as found
-use Rattle.coloring.specs.Outline.{all}
 use Rattle.job.specs.Patterns.{number, words, floats, isThreshold, isCoordinate, isDistance}
 
 -- ---- marks

@@ -4,7 +4,7 @@ use crate::records::Found;
 use crate::records::Item;
 use crate::records::Phase;
 use crate::records::State;
-use coloring::refusal::Refusal;
+use graph::refusal::Refusal;
 ghost use mathlib.Core.Path.{_≡_};
 ghost use Rattle.job.specs.Job.{readJob};
 ghost use Rattle.job.specs.Progress.{begin, advanced, numbersAt, answerOf, Counts};

@@ -5,7 +5,7 @@ use crate::progress::Numbers;
 use crate::progress::Read;
 use crate::records;
 use crate::records::Found;
-use coloring::refusal::Refusal;
+use graph::refusal::Refusal;
 ghost use mathlib.Core.Path.{_≡_};
 ghost use Prim.Native.Nat.{_≤_};
 ghost use Rattle.job.specs.Job.{readJob};

@@ -1,7 +1,7 @@
 // The records of a job file, one after another: a mark of two letters, then its fields (document 01, "Trays and the job file").
 use crate::patterns;
 use crate::patterns::Range;
-use coloring::refusal::Refusal;
+use graph::refusal::Refusal;
 ghost use mathlib.Core.Path.{_≡_};
 ghost use mathlib.Core.List.{[]};
 ghost use lib.ListN.{length};

@@ -6,9 +6,10 @@ use Prim.Native.Nat.{ℕ}
 use native.Mathlib.Omega.{arith}
 use lib.ListN.{length, take, drop, length-map, length-append}
 use lib.Seq.{take-at, drop-at}
+use Rattle.graph.specs.declared.refusal.Checked.the-variants.{Passed}
+use Rattle.graph.specs.Lists.{over}
 use Rattle.coloring.specs.declared.outline.Counts.{Counts}
-use Rattle.coloring.specs.declared.outline.Checked.the-variants.{Passed}
-use Rattle.coloring.specs.Outline.{Result, Outcome, result, outcome, over, fits, delivered, deliver}
+use Rattle.coloring.specs.Outline.{Result, Outcome, result, outcome, fits, delivered, deliver}
 use Rattle.coloring.specs.ByDistance.{withBytes, recolored, Recolorable}
 use Rattle.coloring.proofs.shape.DeliverLaws.{deliver-fits, deliver-short}
 

@@ -8,12 +8,13 @@ use lib.Ieee.{Float}
 use lib.ListN.{length, getD, take, drop, set, length-map, length-drop}
 use lib.Seq.{length-take-le}
 use Rattle.geometry.specs.declared.edge_segment.EdgeSegment.{EdgeSegment}
+use Rattle.graph.specs.Lists.{overFrom}
+use Rattle.graph.proofs.Writing.{over-nothing, over-more, over-next}
 use Rattle.coloring.specs.Places.{concat}
 use Rattle.coloring.specs.Corners.{Cornered, cornered}
 use Rattle.coloring.specs.Layout.{layout, resultEdges}
-use Rattle.coloring.specs.Outline.{Result, kindOf, placesOf, encode, overFrom}
+use Rattle.coloring.specs.Outline.{Result, kindOf, placesOf, encode}
 use Rattle.coloring.specs.Sizes.{layout-length, points-length}
-use Rattle.coloring.proofs.Writing.{over-nothing, over-more, over-next}
 use Rattle.coloring.proofs.outline.StoreLaws.{points-append}
 use Rattle.coloring.proofs.outline.CutLaws.{Along, along-room, along-next, cornered-step, cornered-end, left, left-step}
 

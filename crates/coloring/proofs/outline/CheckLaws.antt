@@ -1,4 +1,4 @@
--- The checks of an outline, along a buffer: the sum of lengths, a test of all elements, the coordinates of the edges from a place on.
+-- The checks of an outline, along a buffer: the sum of lengths, the coordinates of the edges from a place on.
 use mathlib.Core.Path.{_≡_}
 use mathlib.Core.Bool.{Bool, true, false}
 use mathlib.Core.List.{List, [], _∷_}
@@ -10,9 +10,11 @@ use borrow.Author.Tests.{leb-true}
 use lib.Ieee.{Float}
 use lib.ListN.{length, take, drop, getD, drop-of-length-le}
 use lib.Seq.{drop-cons, drop-drop}
+use Rattle.graph.specs.Bools.{and-right}
+use Rattle.graph.specs.Lists.{all}
+use Rattle.graph.proofs.Lists.{all-at}
 use Rattle.coloring.specs.Places.{total}
-use Rattle.coloring.specs.Outline.{all, knownKind, inRange, usedPlaces, coordinatesFit}
-use Rattle.coloring.specs.Bools.{and-left, and-right}
+use Rattle.coloring.specs.Outline.{knownKind, inRange, usedPlaces, coordinatesFit}
 
 pub total-step : (lengths : List ℕ) (i : ℕ) → i < length lengths → total (drop i lengths) ≡ getD lengths i 0 + total (drop (i + 1) lengths)
 unfolding total
@@ -22,29 +24,7 @@ pub total-end : (lengths : List ℕ) (i : ℕ) → length lengths ≤ i → tota
 unfolding total
 total-end lengths i h = rw (drop-of-length-le lengths h)
 
-module _ {A : Type 0} (test : A → Bool) (d : A) where
-  -- a scan that has passed i elements: one that fails, one that passes, the end
-  pub scan-fail : (xs : List A) (i : ℕ) → all test xs ≡ all test (drop i xs) → i < length xs → test (getD xs i d) ≡ false → false ≡ all test xs
-  unfolding all
-  scan-fail xs i e h t = rw (e, drop-cons xs i d, t)
-
-  pub scan-more : (xs : List A) (i : ℕ) → all test xs ≡ all test (drop i xs) → i < length xs → test (getD xs i d) ≡ true
-      → all test xs ≡ all test (drop (i + 1) xs)
-  unfolding all
-  scan-more xs i e h t = rw (e, add-one, drop-cons xs i d, t)
-
-  pub scan-end : (xs : List A) (i : ℕ) → all test xs ≡ all test (drop i xs) → length xs ≤ i → true ≡ all test xs
-  unfolding all
-  scan-end xs i e h = rw (e, drop-of-length-le xs h)
-
-  -- what passes as a whole passes at each place
-  all-at : (xs : List A) (i : ℕ) → all test xs ≡ true → i < length xs → test (getD xs i d) ≡ true
-  unfolding all
-  all-at [] i e h = absurd (omega arith)
-  all-at (x ∷ xs) zero e h = and-left (test x) (all test xs) e
-  all-at (x ∷ xs) (suc i) e h = all-at xs i (and-right (test x) (all test xs) e) (omega arith)
-
--- the same for the edges of two buffers
+-- a scan of the edges of two buffers that has passed i of them: one that fails, one that passes, the end
 module _ (kinds : List ℕ) (points : List Float) (i : ℕ) (e : coordinatesFit kinds points ≡ coordinatesFit (drop i kinds) (drop (8 * i) points)) where
   pub fit-fail : i < length kinds → all inRange (take (usedPlaces (getD kinds i 0)) (drop (8 * i) points)) ≡ false → false ≡ coordinatesFit kinds points
   unfolding coordinatesFit

@@ -1,16 +1,21 @@
 -- Edges that are being stored in two buffers: kinds, and eight point places an edge.
 use mathlib.Core.Path.{_≡_, refl, sym, ap, _∙_}
-use mathlib.Core.List.{List, [], _∷_, _++_, map, map-append}
+use mathlib.Core.List.{List, [], _∷_, _++_, map, map-append, append-assoc}
 use Prim.Native.Nat.{ℕ, _+_, _*_, _≤_}
 use native.Mathlib.Omega.{arith}
 use lib.Ieee.{Float}
 use lib.ListN.{length, set, length-append, length-set, length-map}
 use Rattle.geometry.specs.declared.edge_segment.EdgeSegment.{EdgeSegment}
+use Rattle.graph.specs.Lists.{overFrom}
+use Rattle.graph.proofs.Writing.{over-length, over-nothing, over-more, over-next, over-all}
 use Rattle.coloring.specs.Places.{concat}
-use Rattle.coloring.specs.Outline.{kindOf, placesOf, overFrom}
+use Rattle.coloring.specs.Outline.{kindOf, placesOf}
 use Rattle.coloring.specs.Sizes.{places-length, points-length}
-use Rattle.coloring.proofs.Lists.{concat-append}
-use Rattle.coloring.proofs.Writing.{over-length, over-nothing, over-more, over-next, over-all}
+
+concat-append : {A : Type 0} (xs ys : List (List A)) → concat (xs ++ ys) ≡ concat xs ++ concat ys
+unfolding concat
+concat-append [] ys = refl
+concat-append (x ∷ xs) ys = rw (concat-append xs ys, append-assoc)
 
 -- the places of some edges and then others
 pub points-append : (xs ys : List EdgeSegment) → concat (map placesOf (xs ++ ys)) ≡ concat (map placesOf xs) ++ concat (map placesOf ys)

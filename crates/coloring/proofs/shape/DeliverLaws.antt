@@ -8,24 +8,21 @@ use lib.Ieee.{Float}
 use lib.ListN.{length, take, drop, length-take, length-drop}
 use borrow.Author.Tests.{leb-true, eqb-true}
 use Rattle.geometry.specs.declared.edge_segment.EdgeSegment.{EdgeSegment}
+use Rattle.graph.specs.declared.refusal.Refusal.{Refusal}
+use Rattle.graph.specs.declared.refusal.Refusal.the-variants.{ResultTooShort}
+use Rattle.graph.specs.declared.refusal.Checked.{Checked}
+use Rattle.graph.specs.declared.refusal.Checked.the-variants.{Passed}
+use Rattle.graph.specs.Bools.{and-left, and-right}
+use Rattle.graph.specs.Refusal.{required}
 use Rattle.coloring.specs.declared.outline.Counts.{Counts}
-use Rattle.coloring.specs.declared.refusal.Refusal.{Refusal}
-use Rattle.coloring.specs.declared.refusal.Refusal.the-variants.{ResultTooShort}
 use Rattle.coloring.specs.declared.outline.Colored.the-variants.{Refused}
-use Rattle.coloring.specs.declared.outline.Checked.{Checked}
-use Rattle.coloring.specs.declared.outline.Checked.the-variants.{Passed}
 use Rattle.coloring.specs.Places.{total}
 use Rattle.coloring.specs.Corners.{flagsOf, cornered}
-use Rattle.coloring.specs.Outline.{Outline, Result, cut, maxContours, maxEdges, require, check, fits, delivered, deliver, outcome, Agrees}
+use Rattle.coloring.specs.Outline.{Outline, Result, cut, maxContours, maxEdges, check, fits, delivered, deliver, outcome, Agrees}
 use Rattle.coloring.specs.Splines.{splineCount, splineTotal}
 use Rattle.coloring.specs.Sizes.{Flagged, counted, Sized}
-use Rattle.coloring.specs.Bools.{and-left, and-right}
 
 -- ---- an outline that passed
-
-required : (b : Bool) (refusal : Refusal) (next : Checked) → require b refusal next ≡ Passed → (b ≡ true) × (next ≡ Passed)
-required true refusal next e = (refl, e)
-required false refusal next e = (cc, cc)
 
 pub passed-agrees : (o : Outline) (threshold : Float) → check o threshold ≡ Passed → Agrees o
 unfolding check maxContours maxEdges

@@ -9,8 +9,8 @@ use lib.Dec.{eqb, ltb}
 use lib.IntN.{ℤ, pos, negsuc}
 use lib.ListN.{length, length-map, List·getD-map}
 use borrow.Author.Tests.{lt-ltb, le-ltb}
+use Rattle.graph.specs.Lists.{range}
 use Rattle.coloring.specs.Trichotomy.{symmetricalTrichotomy}
-use Rattle.coloring.specs.Places.{range}
 use Rattle.coloring.specs.Corners.{cornerCount}
 use Rattle.coloring.specs.Layout.{resultCorner}
 use Rattle.coloring.specs.Teardrop.{thirdOf, runs}

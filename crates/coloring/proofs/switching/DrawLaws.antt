@@ -6,10 +6,10 @@ use native.Mathlib.Omega.{arith}
 use lib.ListN.{length, set, length-set, length-map}
 use Rattle.geometry.specs.EdgeColor.{bitsOf}
 use Rattle.geometry.specs.declared.edge_color.EdgeColor.{EdgeColor}
+use Rattle.graph.specs.Lists.{overFrom}
+use Rattle.graph.proofs.Writing.{over-all, over-next, over-nothing}
 use Rattle.coloring.specs.declared.switching.Pen.{Pen}
 use Rattle.coloring.specs.Switching.{SplineColors, Drawn}
-use Rattle.coloring.specs.Outline.{overFrom}
-use Rattle.coloring.proofs.Writing.{over-all, over-next, over-nothing}
 
 -- The bytes will be the colours `all`: i of n are there already, and `rest` is still to be drawn.
 pub record Drawing (all : SplineColors) (n i : ℕ) (bytes : List ℕ) (rest : SplineColors) : Type 0 where

@@ -12,30 +12,31 @@ use borrow.Author.Tests.{le-leb, eq-eqb}
 use Rattle.geometry.specs.EdgeSegment.{toStored, fromStored}
 use Rattle.geometry.specs.declared.edge_segment.EdgeSegment.{EdgeSegment}
 use Rattle.geometry.specs.declared.edge_segment.EdgeSegment.the-variants as segment
-use Rattle.coloring.specs.declared.outline.Checked.{Checked}
-use Rattle.coloring.specs.declared.outline.Checked.the-variants.{Passed, Failed}
+use Rattle.graph.specs.declared.refusal.Checked.{Checked}
+use Rattle.graph.specs.declared.refusal.Checked.the-variants.{Passed, Failed}
+use Rattle.graph.specs.declared.refusal.Refusal.the-variants.{TooMany, LengthMismatch, BadDistance, ResultTooShort}
+use Rattle.graph.specs.Refusal.{refusalNumber, require}
+use Rattle.graph.specs.PairOrder.{distancesValid}
+use Rattle.graph.specs.SplineColors.{colorSplines, maxSplines, checkSplines, checkDistances}
+use Rattle.graph.specs.declared.refusal.Refusal.{Refusal}
+use Rattle.graph.specs.Lists.{all, over}
 use Rattle.coloring.specs.declared.outline.Counts.{Counts}
 use Rattle.coloring.specs.declared.outline.Colored.{Colored}
-use Rattle.coloring.specs.declared.refusal.Refusal.the-variants.{TooMany, LengthMismatch, BadDistance, ResultTooShort}
-use Rattle.coloring.specs.Refusal.{refusalNumber}
-use Rattle.coloring.specs.PairOrder.{distancesValid}
 use Rattle.coloring.specs.declared.settings.Strategy.the-variants.{Simple, InkTrap}
 use Rattle.coloring.specs.declared.settings.Strategy.{Strategy}
 use Rattle.coloring.specs.declared.settings.Marking.the-variants.{Colors, Numbers}
 use Rattle.coloring.specs.Places.{concat}
 use Rattle.coloring.specs.Splines.{splineTotal}
-use Rattle.coloring.specs.SplineColors.{colorSplines}
 use Rattle.coloring.specs.Outline as outline
 use Rattle.coloring.specs.declared.outline.Colored.the-variants as color
-use Rattle.coloring.specs.Outline.{all, Result, Outcome, outcome, over, cut, encode, edgeOf, contours, knownKind, coordinatesFit, maxContours, maxEdges, check, fits, delivered, deliver}
+use Rattle.coloring.specs.Outline.{Result, Outcome, outcome, cut, encode, edgeOf, contours, knownKind, coordinatesFit, maxContours, maxEdges, check, fits, delivered, deliver}
 use Rattle.coloring.specs.Shape.{markContours, painted, countsOf}
 use Rattle.coloring.specs.Sizes.{sizes, concat-length, points-length}
 use Rattle.coloring.specs.EdgeColoring.{edgeColoring}
-use Rattle.coloring.specs.ByDistance.{maxSplines, maxDistances, checkSplines, checkDistances, splineByte, withBytes, edgeColoringByDistance}
+use Rattle.coloring.specs.ByDistance.{maxDistances, splineByte, withBytes, edgeColoringByDistance}
 use Rattle.job.specs.declared.progress.Numbers.{Numbers as JobNumbers}
 use Rattle.job.specs.declared.progress.Read.{Read}
 use Rattle.job.specs.declared.progress.Read.the-variants as read
-use Rattle.coloring.specs.declared.refusal.Refusal.{Refusal}
 use Rattle.job.specs.Job.{Job, Reading, reads, refuses, readJob}
 use Rattle.job.specs.Progress.{edgeCount, numbersOf}
 use Rattle.job.specs.Buffers.{Buffers, buffers, kindsOf, placesOf, stored, overEach, roomFor, hasRoom, Hold}
@@ -119,7 +120,7 @@ module _ (job : Job) (so : Sound job) (contours-fit : length (job .contours) ≤
     abbrev delivered-with : Checked → List (List ℕ) → Outcome
     delivered-with checked colors = deliver checked (countsOf (foundIn job) (with colors)) (with colors) old
 
-    by-colors : (strategy : Strategy) → edgeColoring (record { strategy = strategy; threshold = job .threshold }) (outlineOf (stored job)) (job .seed) old
+    by-colors : (strategy : Strategy) → edgeColoring (record { marking = Colors strategy (job .seed); threshold = job .threshold }) (outlineOf (stored job)) old
         ≡ delivered-with Passed (markContours (Colors strategy (job .seed)) (foundIn job))
     unfolding edgeColoring foundIn coloredEdges painted
     by-colors strategy = rw (passes, contours-again job)
@@ -284,7 +285,7 @@ checks-early job =
     (required (eqb (length (job .distances)) (splines * (splines - 1) / 2)) LengthMismatch _ refl
     (required (distancesValid (job .distances)) BadDistance Passed refl tt)))
   where
-    required : (b : Bool) (refusal : Refusal) (rest : Checked) → eqb (refusalNumber refusal) 11 ≡ false → Early rest → Early (outline.require b refusal rest)
+    required : (b : Bool) (refusal : Refusal) (rest : Checked) → eqb (refusalNumber refusal) 11 ≡ false → Early rest → Early (require b refusal rest)
     required true refusal rest h k = k
     required false refusal rest h k = h
 

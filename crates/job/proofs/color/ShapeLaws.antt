@@ -10,6 +10,7 @@ use lib.ListN.{length, length-map}
 use Rattle.geometry.specs.EdgeColor.{bitsOf, bits-below}
 use Rattle.geometry.specs.declared.edge_color.EdgeColor.{EdgeColor}
 use Rattle.geometry.specs.declared.edge_segment.EdgeSegment.{EdgeSegment}
+use Rattle.graph.specs.SplineColors.{colorSplines}
 use Rattle.coloring.specs.declared.settings.Strategy.{Strategy}
 use Rattle.coloring.specs.declared.settings.Strategy.the-variants.{Simple, InkTrap}
 use Rattle.coloring.specs.declared.settings.Marking.the-variants.{Colors, Numbers}
@@ -18,7 +19,6 @@ use Rattle.coloring.specs.Switching.{initColor}
 use Rattle.coloring.specs.Corners.{Cornered, searchCorners}
 use Rattle.coloring.specs.Layout.{splits, layout, resultEdges}
 use Rattle.coloring.specs.Splines.{splineTotal}
-use Rattle.coloring.specs.SplineColors.{colorSplines}
 use Rattle.coloring.specs.Shape.{colorContours, markContours}
 use Rattle.coloring.specs.ByDistance.{splineColor, splineByte}
 use Rattle.coloring.specs.Sizes.{sizes, sizes-map, concat-length, flags-length, edges-split, edges-same, split-few, search-flagged, counted, laid-lengths, mark-lengths, Sized, encoded-sized}

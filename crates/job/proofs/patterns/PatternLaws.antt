@@ -11,7 +11,7 @@ use borrow.Author.Tests.{le-ltb, leb-true}
 use lib.Dec.{T}
 use lib.Ieee.{Float, binary64, isNan, nanBits, ofBits, toBits}
 use lib.Ieee.Bits.{nanBits-is, nanBits-above, toBits-ofBits}
-use Rattle.coloring.specs.Outline.{all}
+use Rattle.graph.specs.Lists.{all}
 use Rattle.job.specs.Patterns.{number, words, floats, isThreshold, signBit}
 
 -- ---- the number of some bytes

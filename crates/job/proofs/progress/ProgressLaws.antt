@@ -9,13 +9,14 @@ use lib.Seq.{drop-drop}
 use lib.Ieee as Ieee
 use lib.Ieee.{binary64, ofBits, toBits}
 use borrow.Author.Tests.{ltb-true}
-use Rattle.geometry.specs.declared.edge_segment.EdgeSegment.{EdgeSegment}
 use Rattle.math.specs.Scalar.{f1}
+use Rattle.geometry.specs.declared.edge_segment.EdgeSegment.{EdgeSegment}
+use Rattle.graph.specs.declared.refusal.Refusal.{Refusal}
+use Rattle.graph.specs.Bools.{and-left}
+use Rattle.graph.specs.Lists.{all}
 use Rattle.coloring.specs.Outline as outline
-use Rattle.coloring.specs.Outline.{all, between}
+use Rattle.coloring.specs.Outline.{between}
 use Rattle.coloring.specs.Places.{concat}
-use Rattle.coloring.specs.declared.refusal.Refusal.{Refusal}
-use Rattle.coloring.specs.Bools.{and-left}
 use Rattle.job.specs.declared.records.Phase.{Phase}
 use Rattle.job.specs.declared.records.Phase.the-variants.{Start, Outside, Inside, Closing}
 use Rattle.job.specs.declared.records.State.{State}

@@ -7,8 +7,9 @@ use native.Mathlib.Omega.{arith}
 use lib.Dec.{leb}
 use lib.ListN.{length, getD, take, drop, length-drop}
 use lib.Seq.{take-all}
-use Rattle.coloring.specs.declared.refusal.Refusal.{Refusal}
-use Rattle.coloring.specs.declared.refusal.Refusal.the-variants.{Truncated, MisplacedMark, UnknownKind, BadThreshold, BadCoordinate}
+use Rattle.graph.specs.declared.refusal.Refusal.{Refusal}
+use Rattle.graph.specs.declared.refusal.Refusal.the-variants.{Truncated, MisplacedMark, UnknownKind, BadThreshold, BadCoordinate}
+use Rattle.graph.specs.Lists.{all}
 use Rattle.job.specs.declared.records.Found.the-variants as found
 use lib.Ieee.{Float, binary64, ofBits}
 use Rattle.job.specs.declared.records.Kind.{Kind}
@@ -18,7 +19,6 @@ use Rattle.job.specs.declared.records.Mark.{Mark}
 use Rattle.job.specs.declared.records.Marked.the-variants.{Known}
 use borrow.Author.Tests.{le-leb}
 use Rattle.job.specs.declared.records.Item.the-variants as item
-use Rattle.coloring.specs.Outline.{all}
 use Rattle.job.specs.Patterns.{number, words, floats, isThreshold, isCoordinate}
 use Rattle.job.specs.Records.{Record, header, edge, next, fails, require, knownStrategy, controls, allowed, fits, bodySize, markOf, readBody, readMarked, readRecord, foundOf, readHeader, readEdge, readEnd, kindOf, edgeOf}
 use Rattle.job.proofs.patterns.PatternLaws.{threshold-back}

@@ -1,6 +1,8 @@
 -- `color_collected` meets its contract: where there is a result, its edges get their splines' colours.
 use borrow.Author.Needs.{needs}
 use mathlib.Core.Path.{sym, subst}
+use Prim.Native.Nat.{_≤_}
+use lib.ListN.{length}
 use lib.Seq.{length-take-le}
 use Rattle.coloring.specs.declared.outline.Colored.{Colored}
 use Rattle.coloring.specs.ByDistance.{Recolorable}
@@ -10,22 +12,19 @@ use Rattle.coloring.proofs.by_distance.color_collected.Tie as tie
 enum-known-collected : tie.Need-enum-known-collected
 enum-known-collected c = search needs
 
-color-splines-requires : tie.Need-color-splines-requires
-color-splines-requires c κs =
-    let start = c .before .before .before .before .before .before .before in
-    start .pre .0
+-- there is a result: its edges stand there
+module _ (c : tie.After-known-told) where
+  abbrev start : tie.Start
+  start = c .before .before .before .before .before
+
+  room : c .before .collected .given .0 .0 .edges ≤ length (start .args .out .now)
+  room = subst (λ (r : Colored). Recolorable r (start .args .out .now)) (c .before .collected .given .1) (start .pre)
 
 slice-relend-prefix-color-numbers : tie.Need-slice-relend-prefix-color-numbers
-slice-relend-prefix-color-numbers c =
-    let start = c .before .before .before .before .before .before .before .before .before .before .before in
-    let collected = c .before .before .before .before .before .before in
-    subst (λ (r : Colored). Recolorable r (start .args .out .now)) (collected .collected .given .1) (start .pre .1)
+slice-relend-prefix-color-numbers c = room c
 
 slice-aggregate-color-numbers : tie.Need-slice-aggregate-color-numbers
-slice-aggregate-color-numbers c =
-    let start = c .before .before .before .before .before .before .before .before .before .before .before .before in
-    let collected = c .before .before .before .before .before .before .before in
-    sym (length-take-le _ (start .args .out .now) (subst (λ (r : Colored). Recolorable r (start .args .out .now)) (collected .collected .given .1) (start .pre .1)))
+slice-aggregate-color-numbers c = sym (length-take-le _ (start (c .before) .args .out .now) (room (c .before)))
 
 color-numbers-requires : tie.Need-color-numbers-requires
 color-numbers-requires c κs = search needs
@@ -36,29 +35,21 @@ enum-told c = search needs
 same-length : tie.Need-same-length
 same-length c = search needs
 
-same-length-2 : tie.Need-same-length-2
-same-length-2 c = search needs
-
 returns : tie.Need-returns
-returns c =
-    let collected = c .before .before .before .before .before .before .before .before .before .before in
-    let color-splines = c .before .before .before .before .before .before .before in
-    rw (collected .collected .given .1, c .before .before .color-numbers .ensures, color-splines .color-splines .ensures)
+returns c = rw (c .before .before .before .before .before .collected .given .1, c .before .before .color-numbers .ensures)
 
 returns-2 : tie.Need-returns-2
-returns-2 c = rw (c .enum-told .given .1)
+returns-2 c = search needs
 
 pub color-collected-spec : {M : Type 1} → statement M
 color-collected-spec =
     tie.close
     (tie.spec
     enum-known-collected
-    color-splines-requires
     slice-relend-prefix-color-numbers
     slice-aggregate-color-numbers
     color-numbers-requires
     enum-told
     same-length
-    same-length-2
     returns
     returns-2)

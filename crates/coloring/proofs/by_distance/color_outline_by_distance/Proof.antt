@@ -2,17 +2,18 @@
 use borrow.Author.Needs.{needs}
 use mathlib.Core.Path.{_≡_, sym, ap, subst, _∙_}
 use mathlib.Core.Bool.{Bool}
-use mathlib.Core.List.{List, map}
+use mathlib.Core.List.{List, _++_, map}
 use Prim.Native.Nat.{ℕ, _≤_}
 use native.Mathlib.Omega.{arith}
-use lib.ListN.{length, take, replicate}
-use lib.Seq.{length-take-le}
-use borrow.Author.Tests.{not-true, not-false}
+use lib.ListN.{length, take, drop, replicate, length-append}
+use lib.Seq.{length-take-le, take-at}
+use Rattle.graph.specs.declared.refusal.Checked.{Checked}
+use Rattle.graph.specs.declared.refusal.Checked.the-variants.{Passed}
+use Rattle.graph.specs.SplineColors.{colorSplines, check, coloringAfter}
+use Rattle.graph.proofs.spline_colors.CheckLaws.{splines-many, splines-passed}
+use Rattle.graph.proofs.spline_colors.CheckLaws.{count-differs, distances-bad, distances-passed}
 use Rattle.coloring.specs.declared.outline.Counts.{Counts}
-use Rattle.coloring.specs.declared.outline.Checked.the-variants.{Passed}
 use Rattle.coloring.specs.declared.settings.Marking.the-variants.{Numbers}
-use Rattle.coloring.specs.PairOrder.{Distances}
-use Rattle.coloring.specs.SplineColors.{colorSplines}
 use Rattle.coloring.specs.Corners.{Cornered, searchCorners}
 use Rattle.coloring.specs.Splines.{splineTotal}
 use Rattle.coloring.specs.Outline.{Result, Outcome, edgesOf, contours, outline, result, outcome, deliver, Matching}
@@ -21,10 +22,12 @@ use Rattle.coloring.specs.ByDistance.{splineByte, Recolorable}
 use Rattle.coloring.specs.Sizes.{painted-sized}
 use Rattle.coloring.proofs.outline.EdgeLaws.{edges-length}
 use Rattle.coloring.proofs.shape.DeliverLaws.{cut-flagged, splines-cut}
-use Rattle.coloring.proofs.by_distance.CheckLaws.{splines-many, splines-passed, count-differs, distances-bad, distances-passed}
 use Rattle.coloring.proofs.by_distance.RecolorLaws.{replaced, replaced-delivered, replaceable}
 use Rattle.coloring.proofs.by_distance.color_outline_by_distance.Statement.{statement}
 use Rattle.coloring.proofs.by_distance.color_outline_by_distance.Tie as tie
+
+abbrev zeros : List ℕ
+zeros = replicate 64 0
 
 -- the contours with their corners, what they come to, the result buffers
 abbrev found : tie.Start → List Cornered
@@ -64,16 +67,10 @@ module _ (c : tie.After-count-shape) where
       ∙ splines-cut (a .lengths .now) (edgesOf (a .kinds .now) (a .points .now)) _
       ∙ sym (c .count-shape .ensures .1 .0)
 
--- the edges are laid out and numbered
-module _ (c : tie.After-paint-shape) where
-  abbrev tested : tie.Else3
-  tested = c .before .before .before .before .before .before
-
-  abbrev matched : tie.Else2
-  matched = tested .before .before
-
+-- the splines have their colours, or there is a refusal
+module _ (c : tie.After-color-splines) where
   abbrev counted : tie.After-count-shape
-  counted = matched .before .before .before
+  counted = c .before .before .before
 
   abbrev began : tie.Start
   began = start (searched counted)
@@ -81,43 +78,74 @@ module _ (c : tie.After-paint-shape) where
   abbrev count : ℕ
   count = counted .count-shape .result .splines
 
-  few : count ≤ 64
-  few = matched .before .before .if1 .left
+  abbrev total-splines : ℕ
+  total-splines = splineTotal (found began)
 
-  given : Distances count (began .args .distances .now)
-  given =
-      record {
-        few = few;
-        count = matched .if2 .left ∙ matched .before .pair-count .ensures;
-        valid = sym (tested .before .distances-valid .ensures) ∙ not-false (tested .before .distances-valid .result) (tested .if3 .left);
-      }
+  few : count ≤ 64
+  few = c .before .before .if1 .left
+
+  long : length (take count zeros) ≡ total-splines
+  long = length-take-le count zeros few ∙ sym (splines counted)
+
+  answer : c .color-splines .result ≡ check total-splines (began .args .distances .now)
+  answer = rw long at (c .color-splines .ensures .0)
+
+  abbrev coloring : List ℕ
+  coloring = c .color-splines .last .1 .1 .0
+
+  size : length coloring ≡ count
+  size = c .color-splines .kept .1 .1 .0 ∙ length-take-le count zeros few
+
+  -- the array with them, and its first part
+  within : count ≤ length (coloring ++ drop count zeros)
+  within = rw (length-append, size) (omega arith)
+
+  front : take count (coloring ++ drop count zeros) ≡ coloring
+  front = take-at coloring (drop count zeros) count size
+
+-- the edges are laid out and numbered
+module _ (c : tie.After-paint-shape) where
+  abbrev told : tie.After-enum-told
+  told = c .before .before .before .before .before .before
+
+  abbrev colored : tie.After-color-splines
+  colored = told .before .before .before
+
+  abbrev s : tie.Start
+  s = began colored
+
+  passed : check (total-splines colored) (s .args .distances .now) ≡ Passed
+  passed = sym (answer colored) ∙ told .enum-told .given .1
+
+  colors : coloring colored ≡ colorSplines (total-splines colored) (s .args .distances .now) (s .args .seed)
+  colors =
+      let after : Checked → ℕ → List ℕ = λ checked n. coloringAfter checked (colorSplines n (s .args .distances .now) (s .args .seed)) (take (count colored) zeros) in
+      colored .color-splines .ensures .1 ∙ ap (λ checked. after checked (length (take (count colored) zeros))) (told .enum-told .given .1) ∙ ap (after Passed) (long colored)
 
   -- what was painted
   plain : outcome (c .paint-shape .result)
       (result (c .paint-shape .last .1 .1 .1 .1 .1 .0) (c .paint-shape .last .1 .1 .1 .1 .1 .1 .0) (c .paint-shape .last .1 .1 .1 .1 .1 .1 .1 .0)
       (c .paint-shape .last .1 .1 .1 .1 .1 .1 .1 .1 .0))
-      ≡ deliver Passed (counts began) (collected began) (old began)
-  plain = rw (searched counted .find-corners .ensures) at (c .paint-shape .ensures)
+      ≡ deliver Passed (counts s) (collected s) (old s)
+  plain =
+      rw (searched (counted colored) .find-corners .ensures, splines-passed (total-splines colored) Passed (rw (splines (counted colored)) (few colored)))
+      at (c .paint-shape .ensures)
 
-  sized : counts began .edges ≡ length (collected began .colors)
+  sized : counts s .edges ≡ length (collected s .colors)
   unfolding countsOf
   sized =
-      let a = began .args in
-      let same = matching (searched counted) .flagged ∙ sym (edges-length (a .kinds .now) (a .points .now)) in
-      let flagged = cut-flagged (a .lengths .now) (edgesOf (a .kinds .now) (a .points .now)) (flags (searched counted)) same in
-      let s = painted-sized Numbers (found began) (rw (searched counted .find-corners .ensures) at flagged) in
-      s .kinds-long ∙ sym (s .colors-long)
+      let a = s .args in
+      let searched = searched (counted colored) in
+      let same = matching searched .flagged ∙ sym (edges-length (a .kinds .now) (a .points .now)) in
+      let flagged = cut-flagged (a .lengths .now) (edgesOf (a .kinds .now) (a .points .now)) (flags searched) same in
+      let sizes = painted-sized Numbers (found s) (rw (searched .find-corners .ensures) at flagged) in
+      sizes .kinds-long ∙ sym (sizes .colors-long)
 
 find-corners-requires : tie.Need-find-corners-requires
-find-corners-requires c κs =
-    let start = c .before .before .before .before .before .before .before .before .before .before in
-    start .pre
+find-corners-requires c κs = search needs
 
 count-shape-requires : tie.Need-count-shape-requires
-count-shape-requires c κs =
-    let searched = c .before .before .before in
-    let m = matching searched in
-    (start searched .pre .1 ∙ sym (m .flagged), omega (arith, m .flagged, m .few))
+count-shape-requires c κs = search needs
 
 same-length : tie.Need-same-length
 same-length c = search needs
@@ -126,8 +154,17 @@ returns : tie.Need-returns
 unfolding deliver
 returns c = rw (splines-many (splineTotal (found (start (searched (c .before))))) _ (rw (splines (c .before)) (c .if1 .taken)))
 
-pair-count-requires : tie.Need-pair-count-requires
-pair-count-requires c κs = c .if1 .left
+array-borrow-prefix-coloring : tie.Need-array-borrow-prefix-coloring
+array-borrow-prefix-coloring c = search needs
+
+slice-aggregate-color-splines : tie.Need-slice-aggregate-color-splines
+slice-aggregate-color-splines c = sym (length-take-le (c .before .before .count-shape .result .splines) zeros (c .before .if1 .left))
+
+color-splines-requires : tie.Need-color-splines-requires
+color-splines-requires c κs = search needs
+
+enum-known-checked : tie.Need-enum-known-checked
+enum-known-checked c = search needs
 
 same-length-2 : tie.Need-same-length-2
 same-length-2 c = search needs
@@ -135,47 +172,30 @@ same-length-2 c = search needs
 returns-2 : tie.Need-returns-2
 unfolding deliver
 returns-2 c =
-    let counted = c .before .before .before in
-    let s = start (searched counted) in
-    let n = splineTotal (found s) in
-    rw (splines-passed n _ (rw (splines counted) (c .before .before .if1 .left)), count-differs n (s .args .distances .now) (rw (splines counted, ← c .before .pair-count .ensures) (c .if2 .taken)))
+    let failed = sym (answer (c .before .before .before .before)) ∙ c .before .checked .given .1 in
+    rw failed
 
-distances-valid-requires : tie.Need-distances-valid-requires
-distances-valid-requires c κs = search needs
-
-same-length-3 : tie.Need-same-length-3
-same-length-3 c = search needs
-
-returns-3 : tie.Need-returns-3
-unfolding deliver
-returns-3 c =
-    let matched = c .before .before in
-    let counted = matched .before .before .before in
-    let s = start (searched counted) in
-    let n = splineTotal (found s) in
-    let valid = sym (c .before .distances-valid .ensures) ∙ not-true (c .before .distances-valid .result) (c .if3 .taken) in
-    rw (splines-passed n _ (rw (splines counted) (matched .before .before .if1 .left)), distances-bad n (s .args .distances .now) (rw (splines counted, ← matched .before .pair-count .ensures) (matched .if2 .left)) valid)
+enum-told : tie.Need-enum-told
+enum-told c = search needs
 
 paint-shape-requires : tie.Need-paint-shape-requires
-paint-shape-requires c κs =
-    let few = c .before .before .before .before .before .before .before .before .before in
-    let counted = few .before in
-    (matching (searched counted), start (searched counted) .pre .1, rw (← counted .count-shape .ensures .1 .0) (few .if1 .left))
+paint-shape-requires c κs = search needs
 
-array-borrow-prefix-coloring : tie.Need-array-borrow-prefix-coloring
-array-borrow-prefix-coloring c =
-    let painted = c .before .before .before .before .before .before .before .before in
-    few painted
+array-share-prefix-coloring : tie.Need-array-share-prefix-coloring
+array-share-prefix-coloring c = within (colored (c .before .before .before .before .before .before .before .before))
 
 slice-aggregate-color-collected : tie.Need-slice-aggregate-color-collected
 slice-aggregate-color-collected c =
-    let painted = c .before .before .before .before .before .before .before .before .before in
-    sym (length-take-le (count painted) _ (few painted))
+    let colored = colored (c .before .before .before .before .before .before .before .before .before) in
+    sym (ap length (front colored) ∙ size colored)
 
 color-collected-requires : tie.Need-color-collected-requires
 color-collected-requires c κs =
     let p = c .before .before .before .before .before .before .before .before .before .before in
-    (rw (length-take-le (count p) _ (few p)) (given p), subst (λ (o : Outcome). Recolorable (o .answer) (o .buffers .colors)) (sym (plain p)) (replaceable (λ b. b) _ _ (old (began p)) (sized p)))
+    subst (λ (o : Outcome). Recolorable (o .answer) (o .buffers .colors)) (sym (plain p)) (replaceable (λ b. b) _ _ (old (s p)) (sized p))
+
+same-length-3 : tie.Need-same-length-3
+same-length-3 c = search needs
 
 same-length-4 : tie.Need-same-length-4
 same-length-4 c = search needs
@@ -189,21 +209,12 @@ same-length-6 c = search needs
 same-length-7 : tie.Need-same-length-7
 same-length-7 c = search needs
 
-same-length-8 : tie.Need-same-length-8
-same-length-8 c = search needs
-
-returns-4 : tie.Need-returns-4
-returns-4 c =
-    let p = c .before .before .before .before .before .before .before .before .before .before .before .before .before .before in
-    let s = began p in
-    let n = splineTotal (found s) in
-    let same = splines (counted p) in
-    let all = given p in
-    let byte = splineByte (colorSplines n (s .args .distances .now) (s .args .seed)) in
-    let zeros : List ℕ = replicate 64 0 in
-    let long : length (take (count p) zeros) ≡ n = length-take-le (count p) zeros (few p) ∙ sym same in
-    rw (splines-passed n _ (rw same (few p)), distances-passed n (s .args .distances .now) (rw same (all .count)) (all .valid))
-    (rw (c .before .before .before .color-collected .ensures, long) (ap (replaced byte (counts s) (collected s) (old s) (sized p)) (plain p) ∙ replaced-delivered byte (counts s) (collected s) (old s) (sized p)))
+returns-3 : tie.Need-returns-3
+returns-3 c =
+    let p = c .before .before .before .before .before .before .before .before .before .before .before .before .before in
+    let byte = splineByte (colorSplines (total-splines (colored p)) (s p .args .distances .now) (s p .args .seed)) in
+    rw (passed p, c .before .before .color-collected .ensures, front (colored p), colors p)
+    (ap (replaced byte (counts (s p)) (collected (s p)) (old (s p)) (sized p)) (plain p) ∙ replaced-delivered byte (counts (s p)) (collected (s p)) (old (s p)) (sized p))
 
 pub color-outline-by-distance-spec : {M : Type 1} → statement M
 color-outline-by-distance-spec =
@@ -213,19 +224,20 @@ color-outline-by-distance-spec =
     count-shape-requires
     same-length
     returns
-    pair-count-requires
+    array-borrow-prefix-coloring
+    slice-aggregate-color-splines
+    color-splines-requires
+    enum-known-checked
     same-length-2
     returns-2
-    distances-valid-requires
-    same-length-3
-    returns-3
+    enum-told
     paint-shape-requires
-    array-borrow-prefix-coloring
+    array-share-prefix-coloring
     slice-aggregate-color-collected
     color-collected-requires
+    same-length-3
     same-length-4
     same-length-5
     same-length-6
     same-length-7
-    same-length-8
-    returns-4)
+    returns-3)

@@ -4,7 +4,7 @@ use mathlib.Core.Path.{_≡_, sym, _∙_}
 use lib.ListN.{length}
 use lib.Seq.{length-take-le}
 use borrow.Author.Tests.{le-leb, lt-leb}
-use Rattle.coloring.specs.declared.outline.Checked.the-variants.{Passed}
+use Rattle.graph.specs.declared.refusal.Checked.the-variants.{Passed}
 use Rattle.coloring.specs.Outline.{Outline, outline, check, deliver, Agrees}
 use Rattle.coloring.specs.ByDistance.{maxDistances, edgeColoringByDistance}
 use Rattle.coloring.proofs.shape.DeliverLaws.{passed-agrees}

@@ -1,14 +1,21 @@
--- `edge_coloring` meets its contract: a refusal of the checks, or the colouring.
+-- `edge_coloring` meets its contract: a refusal of the checks, or the corners and then the edges and their colours.
 use borrow.Author.Needs.{needs}
-use mathlib.Core.Path.{_≡_, sym, _∙_}
-use lib.ListN.{length}
-use lib.Seq.{length-take-le}
-use Rattle.coloring.specs.declared.outline.Checked.the-variants.{Passed}
+use mathlib.Core.Path.{_≡_, sym, ap, _∙_}
+use mathlib.Core.Bool.{Bool, false}
+use mathlib.Core.List.{List, _++_}
+use Prim.Native.Nat.{ℕ, _≤_}
+use native.Mathlib.Omega.{arith}
+use lib.ListN.{length, take, drop, replicate, length-append}
+use lib.Seq.{length-take-le, take-at}
+use Rattle.graph.specs.declared.refusal.Checked.the-variants.{Passed}
 use Rattle.coloring.specs.Outline.{Outline, outline, check, deliver, Agrees}
 use Rattle.coloring.specs.EdgeColoring.{edgeColoring}
 use Rattle.coloring.proofs.shape.DeliverLaws.{passed-agrees}
 use Rattle.coloring.proofs.edge_coloring.edge_coloring.Statement.{statement}
 use Rattle.coloring.proofs.edge_coloring.edge_coloring.Tie as tie
+
+abbrev none : List Bool
+none = replicate 256 false
 
 -- the checks are passed
 module _ (c : tie.After-enum-told) where
@@ -23,6 +30,30 @@ module _ (c : tie.After-enum-told) where
 
   agrees : Agrees given
   agrees = passed-agrees _ _ passed
+
+-- the corners are searched
+module _ (c : tie.After-find-corners) where
+  abbrev told : tie.After-enum-told
+  told = c .before .before
+
+  abbrev s : tie.Start
+  s = start told
+
+  abbrev n : ℕ
+  n = length (s .args .kinds .now)
+
+  abbrev flags : List Bool
+  flags = c .find-corners .last .1 .1 .1 .1 .0
+
+  size : length flags ≡ n
+  size = c .find-corners .kept .1 .1 .1 .1 .0 ∙ length-take-le n none (agrees told .few)
+
+  -- the array with them, and its first part
+  within : n ≤ length (flags ++ drop n none)
+  within = rw (length-append, size) (omega arith)
+
+  front : take n (flags ++ drop n none) ≡ flags
+  front = take-at flags (drop n none) n size
 
 check-requires : tie.Need-check-requires
 check-requires c κs = search needs
@@ -42,14 +73,25 @@ enum-told c = search needs
 array-borrow-prefix-flags : tie.Need-array-borrow-prefix-flags
 array-borrow-prefix-flags c = agrees c .few
 
-slice-aggregate-color-outline : tie.Need-slice-aggregate-color-outline
-slice-aggregate-color-outline c = sym (length-take-le (length (start (c .before) .args .kinds .now)) _ (agrees (c .before) .few))
+slice-aggregate-find-corners : tie.Need-slice-aggregate-find-corners
+slice-aggregate-find-corners c = sym (length-take-le (length (start (c .before) .args .kinds .now)) none (agrees (c .before) .few))
 
-color-outline-requires : tie.Need-color-outline-requires
-color-outline-requires c κs =
-    let told = c .before .before .before .before .before in
-    let a = agrees told in
-    (record { places = a .places; flagged = length-take-le (length (start told .args .kinds .now)) _ (a .few); few = a .few }, sym (a .edges))
+find-corners-requires : tie.Need-find-corners-requires
+find-corners-requires c κs =
+    let a = agrees (c .before) in
+    (record { places = a .places; flagged = length-take-le (length (start (c .before) .args .kinds .now)) none (a .few); few = a .few }, sym (a .edges))
+
+array-share-prefix-flags : tie.Need-array-share-prefix-flags
+array-share-prefix-flags c = within (c .before)
+
+slice-aggregate-paint-shape : tie.Need-slice-aggregate-paint-shape
+slice-aggregate-paint-shape c = sym (ap length (front (c .before .before)) ∙ size (c .before .before))
+
+paint-shape-requires : tie.Need-paint-shape-requires
+paint-shape-requires c κs =
+    let searched = c .before .before .before .before .before .before in
+    let a = agrees (told searched) in
+    (record { places = a .places; flagged = ap length (front searched) ∙ size searched; few = a .few }, sym (a .edges))
 
 same-length : tie.Need-same-length
 same-length c = search needs
@@ -66,9 +108,9 @@ same-length-4 c = search needs
 returns-2 : tie.Need-returns-2
 unfolding edgeColoring
 returns-2 c =
-    let color-outline = c .before .before .before .before .before .before .before .before .before in
-    let told = color-outline .before .before .before .before .before .before in
-    rw (passed told) (color-outline .color-outline .ensures)
+    let painted = c .before .before .before .before .before .before .before .before in
+    let searched = painted .before .before .before .before .before .before .before in
+    rw (passed (told searched), ← searched .find-corners .ensures) (rw (front searched) at (painted .paint-shape .ensures))
 
 pub edge-coloring-spec : {M : Type 1} → statement M
 edge-coloring-spec =
@@ -79,8 +121,11 @@ edge-coloring-spec =
     returns
     enum-told
     array-borrow-prefix-flags
-    slice-aggregate-color-outline
-    color-outline-requires
+    slice-aggregate-find-corners
+    find-corners-requires
+    array-share-prefix-flags
+    slice-aggregate-paint-shape
+    paint-shape-requires
     same-length
     same-length-2
     same-length-3

@@ -7,10 +7,11 @@ use Prim.Native.Nat.{ℕ, _+_, _-_, _≤_}
 use lib.Ieee.{Float}
 use lib.ListN.{length, getD, take, drop, length-set, length-drop}
 use lib.Seq.{length-take-le}
+use Rattle.graph.specs.Lists.{over, overFrom}
 use Rattle.coloring.specs.Places.{total}
 use Rattle.coloring.specs.Layout.{resultEdges}
 use Rattle.coloring.specs.Corners.{Cornered, cornered}
-use Rattle.coloring.specs.Outline.{edgesOf, cut, over, overFrom, Result, result}
+use Rattle.coloring.specs.Outline.{edgesOf, cut, Result, result}
 use Rattle.coloring.specs.Sizes.{edges-bound}
 use Rattle.coloring.proofs.outline.EdgeLaws.{edges-length}
 use Rattle.coloring.proofs.outline.CutLaws.{along-starts, along-room, left, left-step}

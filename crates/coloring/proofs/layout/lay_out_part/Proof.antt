@@ -5,11 +5,11 @@ use mathlib.Core.List.{map}
 use Prim.Native.Nat.{_*_, _-_}
 use native.Mathlib.Omega.{arith}
 use lib.ListN.{length, length-take, length-drop, length-map}
+use Rattle.graph.proofs.Writing.{over-part}
 use Rattle.coloring.specs.Places.{concat}
 use Rattle.coloring.specs.Layout.{layout}
 use Rattle.coloring.specs.Outline.{kindOf, placesOf, part}
 use Rattle.coloring.specs.Sizes.{layout-length, points-length}
-use Rattle.coloring.proofs.Writing.{over-part}
 use Rattle.coloring.proofs.outline.EdgeLaws.{edges-length, edges-between, part-matching}
 use Rattle.coloring.proofs.layout.lay_out_part.Statement.{statement}
 use Rattle.coloring.proofs.layout.lay_out_part.Tie as tie

@@ -6,8 +6,9 @@ use native.Mathlib.Omega.{arith}
 use lib.Dec.{leb, eqb}
 use lib.ListN.{length}
 use borrow.Author.Tests.{le-leb, lt-leb, eq-eqb, ne-eqb, not-true, not-false}
+use Rattle.graph.specs.Lists.{all}
 use Rattle.coloring.specs.Places.{total}
-use Rattle.coloring.specs.Outline.{check, maxContours, maxEdges, all, knownKind, coordinatesFit}
+use Rattle.coloring.specs.Outline.{check, maxContours, maxEdges, knownKind, coordinatesFit}
 use borrow.Author.Needs.{needs}
 use Rattle.coloring.proofs.outline.check.Statement.{statement}
 use Rattle.coloring.proofs.outline.check.Tie as tie

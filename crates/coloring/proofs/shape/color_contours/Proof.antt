@@ -7,16 +7,17 @@ use mathlib.Core.List.{List, _∷_, _++_, map}
 use Prim.Native.Nat.{ℕ, _+_, _-_, _≤_}
 use lib.ListN.{length, getD, take, drop, length-map}
 use Rattle.geometry.specs.EdgeColor.{bitsOf}
+use Rattle.graph.specs.Lists.{over, overFrom}
+use Rattle.graph.proofs.Writing.{over-more, over-nothing}
 use Rattle.coloring.specs.declared.switching.Pen.{Pen}
 use Rattle.coloring.specs.declared.settings.Strategy.{Strategy}
 use Rattle.coloring.specs.Places.{total, concat}
 use Rattle.coloring.specs.Layout.{resultEdges}
 use Rattle.coloring.specs.Corners.{Cornered, cornered}
-use Rattle.coloring.specs.Outline.{edgesOf, cut, over, overFrom}
+use Rattle.coloring.specs.Outline.{edgesOf, cut}
 use Rattle.coloring.specs.Contour.{colorContour}
 use Rattle.coloring.specs.Shape.{colorContours}
 use Rattle.coloring.specs.Sizes.{contour-length}
-use Rattle.coloring.proofs.Writing.{over-more, over-nothing}
 use Rattle.coloring.proofs.outline.CutLaws.{Along, along-starts, along-room, along-next, cornered-step, cornered-end, left, left-step}
 use Rattle.coloring.proofs.shape.color_contours.Statement.{statement}
 use Rattle.coloring.proofs.shape.color_contours.Tie as tie

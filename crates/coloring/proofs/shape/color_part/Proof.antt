@@ -6,10 +6,10 @@ use Prim.Native.Nat.{_-_}
 use native.Mathlib.Omega.{arith}
 use lib.ListN.{length, length-take, length-drop, length-map}
 use Rattle.geometry.specs.EdgeColor.{bitsOf}
+use Rattle.graph.proofs.Writing.{over-part}
 use Rattle.coloring.specs.Outline.{part}
 use Rattle.coloring.specs.Contour.{colorContour}
 use Rattle.coloring.specs.Sizes.{contour-length}
-use Rattle.coloring.proofs.Writing.{over-part}
 use Rattle.coloring.proofs.outline.EdgeLaws.{edges-between, part-matching}
 use Rattle.coloring.proofs.shape.color_part.Statement.{statement}
 use Rattle.coloring.proofs.shape.color_part.Tie as tie

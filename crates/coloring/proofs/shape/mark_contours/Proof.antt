@@ -1,9 +1,15 @@
 -- `mark_contours` meets its contract: colours, or numbers.
 use borrow.Author.Needs.{needs}
-use mathlib.Core.Path.{sym, subst, _∙_}
+use mathlib.Core.Path.{_≡_, sym, subst, _∙_}
+use mathlib.Core.Bool.{true}
+use mathlib.Core.List.{map}
 use native.Mathlib.Omega.{arith}
+use borrow.Author.Tests.{leb-true}
 use Rattle.coloring.specs.declared.settings.Marking.{Marking}
-use Rattle.coloring.specs.Shape.{markContours, Markable}
+use Rattle.coloring.specs.Places.{total}
+use Rattle.coloring.specs.Splines.{splineCount}
+use Rattle.coloring.specs.Outline.{cut}
+use Rattle.coloring.specs.Shape.{markContours, markable}
 use Rattle.coloring.proofs.shape.DeliverLaws.{flags-cut}
 use Rattle.coloring.proofs.shape.mark_contours.Statement.{statement}
 use Rattle.coloring.proofs.shape.mark_contours.Tie as tie
@@ -23,8 +29,9 @@ number-contours-requires : tie.Need-number-contours-requires
 number-contours-requires c κs =
     let start = c .before .before .before .before .before .before .before .before in
     let m = start .pre .0 .0 in
-    let few = subst (λ (marking : Marking). Markable marking (start .args .lengths .now) (start .args .flags .now)) (c .before .enum-told .given .1) (start .pre .1 .0) in
-    ((start .pre .0 .1 ∙ sym (m .flagged), omega (arith, m .flagged, m .few), few), start .pre .1 .1)
+    let splines = total (map splineCount (cut (start .args .lengths .now) (start .args .flags .now))) in
+    let few = subst (λ (marking : Marking). markable marking splines ≡ true) (c .before .enum-told .given .1) (start .pre .1 .0) in
+    ((start .pre .0 .1 ∙ sym (m .flagged), omega (arith, m .flagged, m .few), leb-true splines 64 few), start .pre .1 .1)
 
 same-length : tie.Need-same-length
 same-length c = search needs

@@ -5,13 +5,14 @@ use mathlib.Core.Bool.{Bool}
 use mathlib.Core.List.{List, map}
 use Prim.Native.Nat.{ℕ, _+_, _-_, _≤_}
 use lib.ListN.{length, getD, take, drop}
-use Rattle.coloring.specs.Places.{range, total, concat}
+use Rattle.graph.specs.Lists.{range, over, overFrom}
+use Rattle.graph.proofs.Writing.{over-more, over-nothing}
+use Rattle.coloring.specs.Places.{total, concat}
 use Rattle.coloring.specs.Layout.{resultEdges}
 use Rattle.coloring.specs.Splines.{splineCount, paint}
-use Rattle.coloring.specs.Outline.{cut, over, overFrom}
+use Rattle.coloring.specs.Outline.{cut}
 use Rattle.coloring.specs.Shape.{noSpline, numberContours}
 use Rattle.coloring.specs.Sizes.{paint-length}
-use Rattle.coloring.proofs.Writing.{over-more, over-nothing}
 use Rattle.coloring.proofs.outline.CutLaws.{Along, along-starts, along-room, along-next, cut-step, cut-end, left, left-step}
 use Rattle.coloring.proofs.shape.number_contours.Statement.{statement}
 use Rattle.coloring.proofs.shape.number_contours.Tie as tie

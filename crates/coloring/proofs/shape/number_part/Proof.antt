@@ -4,11 +4,11 @@ use mathlib.Core.Path.{_≡_, _∙_}
 use Prim.Native.Nat.{_-_}
 use native.Mathlib.Omega.{arith}
 use lib.ListN.{length, take, drop, length-take, length-drop}
-use Rattle.coloring.specs.Places.{range}
+use Rattle.graph.specs.Lists.{range}
+use Rattle.graph.proofs.Writing.{over-part}
 use Rattle.coloring.specs.Splines.{splineCount, paint}
 use Rattle.coloring.specs.Shape.{noSpline}
 use Rattle.coloring.specs.Sizes.{paint-length}
-use Rattle.coloring.proofs.Writing.{over-part}
 use Rattle.coloring.proofs.shape.number_part.Statement.{statement}
 use Rattle.coloring.proofs.shape.number_part.Tie as tie
 

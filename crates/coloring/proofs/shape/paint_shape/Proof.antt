@@ -1,16 +1,19 @@
--- `paint_shape` meets its contract: 11 where the count says so, or the edges laid out and marked.
+-- `paint_shape` meets its contract: 4 where the splines are too many, 11 where the count says so, or the edges laid out and marked.
 use borrow.Author.Needs.{needs}
 use mathlib.Core.Path.{_≡_, sym, ap, subst, _∙_}
+use mathlib.Core.Bool.{Bool, true}
 use mathlib.Core.List.{List, map}
 use Prim.Native.Nat.{ℕ, _*_, _≤_}
 use native.Mathlib.Omega.{arith}
 use lib.ListN.{length}
 use borrow.Author.Tests.{not-true, not-false}
+use Rattle.coloring.specs.declared.outline.Counts.{Counts}
 use Rattle.coloring.specs.Places.{total}
 use Rattle.coloring.specs.Corners.{Cornered, cornered}
 use Rattle.coloring.specs.Layout.{resultEdges}
-use Rattle.coloring.specs.Outline.{Result, edgesOf, cut, encode, result, fits, delivered}
-use Rattle.coloring.specs.Shape.{painted, countsOf}
+use Rattle.coloring.specs.Splines.{splineTotal}
+use Rattle.coloring.specs.Outline.{Result, edgesOf, cut, encode, result, fits, delivered, deliver}
+use Rattle.coloring.specs.Shape.{painted, countsOf, markable}
 use Rattle.coloring.specs.Sizes.{counted, Sized, painted-sized}
 use Rattle.coloring.proofs.outline.EdgeLaws.{edges-length}
 use Rattle.coloring.proofs.shape.DeliverLaws.{cut-flagged, counted-cut, splines-cut, cornered-length, sized-fits, room-fits, deliver-fits, deliver-short}
@@ -48,18 +51,36 @@ module _ (c : tie.After-count-shape) where
       let splines = splines-cut (a .lengths .now) (edgesOf (a .kinds .now) (a .points .now)) (a .flags .now) ∙ sym (c .count-shape .ensures .1 .0) in
       rw (sized .kinds-long, splines)
 
--- the answer on room is that for the result
-fit : (c : tie.After-has-room) → fits (written (start (c .before))) (old (start (c .before))) ≡ c .has-room .result
-fit c = sized-fits (old (start (c .before))) (sized (c .before)) ∙ sym (c .has-room .ensures)
+-- the splines may be marked
+module _ (c : tie.Else1) where
+  abbrev counting : tie.After-count-shape
+  counting = c .before .before
 
-room : (c : tie.Else1)
-    → let s = start (c .before .before) in
+  can-mark : markable (start counting .args .marking) (counting .count-shape .result .splines) ≡ true
+  can-mark = sym (c .before .can-mark .ensures) ∙ not-false (c .before .can-mark .result) (c .if1 .left)
+
+-- the definition's test gives the same answer
+module _ (c : tie.After-count-shape) where
+  abbrev splines : ℕ
+  splines = splineTotal (found (start c))
+
+  marked : {b : Bool} → markable (start c .args .marking) (c .count-shape .result .splines) ≡ b → markable (start c .args .marking) splines ≡ b
+  unfolding splineTotal countsOf
+  marked e = ap (λ (k : Counts). markable (start c .args .marking) (k .splines)) (sym (counts c)) ∙ e
+
+-- the answer on room is that for the result
+fit : (c : tie.After-has-room) → fits (written (start (counting (c .before)))) (old (start (counting (c .before)))) ≡ c .has-room .result
+fit c = sized-fits (old (start (counting (c .before)))) (sized (counting (c .before))) ∙ sym (c .has-room .ensures)
+
+room : (c : tie.Else2)
+    → let s = start (counting (c .before .before)) in
     let n = total (map resultEdges (cut (s .args .lengths .now) (s .args .flags .now))) in
     (length (s .args .lengths .now) ≤ length (s .args .out-lengths .now)) × (n ≤ length (s .args .out-kinds .now))
     × (8 * n ≤ length (s .args .out-points .now)) × (n ≤ length (s .args .out-colors .now))
 room c =
-    rw (← c .before .before .count-shape .ensures .0 .0)
-    (room-fits _ _ (old (start (c .before .before))) (sym (c .before .has-room .ensures) ∙ not-false (c .before .has-room .result) (c .if1 .left)))
+    let counted = counting (c .before .before) in
+    rw (← counted .count-shape .ensures .0 .0)
+    (room-fits _ _ (old (start counted)) (sym (c .before .has-room .ensures) ∙ not-false (c .before .has-room .result) (c .if2 .left)))
 
 count-shape-requires : tie.Need-count-shape-requires
 count-shape-requires c κs =
@@ -67,24 +88,36 @@ count-shape-requires c κs =
     let m = start .pre .0 in
     (start .pre .1 ∙ sym (m .flagged), omega (arith, m .flagged, m .few))
 
+can-mark-requires : tie.Need-can-mark-requires
+can-mark-requires c κs = search needs
+
+returns : tie.Need-returns
+unfolding deliver
+returns c =
+    let counted = c .before .before in
+    rw (marked counted (sym (c .before .can-mark .ensures) ∙ not-true (c .before .can-mark .result) (c .if1 .taken)))
+
 has-room-requires : tie.Need-has-room-requires
 has-room-requires c κs = search needs
 
-returns : tie.Need-returns
-returns c = sym (deliver-short _ _ _ (fit (c .before) ∙ not-true (c .before .has-room .result) (c .if1 .taken)))
+returns-2 : tie.Need-returns-2
+returns-2 c =
+    let tested = c .before .before in
+    rw (marked (counting tested) (can-mark tested)) (sym (deliver-short _ _ _ (fit (c .before) ∙ not-true (c .before .has-room .result) (c .if2 .taken))))
 
 lay-out-requires : tie.Need-lay-out-requires
 lay-out-requires c κs =
     let fitting = c .before .before .before in
-    let s = start (fitting .before .before) in
+    let s = start (counting (fitting .before .before)) in
     let r = room fitting in
     ((s .pre .0, s .pre .1), record { lengths-fit = r .0; kinds-fit = r .1; points-fit = r .2 })
 
 mark-contours-requires : tie.Need-mark-contours-requires
 mark-contours-requires c κs =
     let fitting = c .before .before .before .before .before .before .before .before .before .before .before in
-    let s = start (fitting .before .before) in
-    ((s .pre .0, s .pre .1), (s .pre .2, room fitting .3))
+    let tested = fitting .before .before in
+    let s = start (counting tested) in
+    ((s .pre .0, s .pre .1), (rw (← counting tested .count-shape .ensures .1 .0) (can-mark tested), room fitting .3))
 
 same-length : tie.Need-same-length
 same-length c = search needs
@@ -98,28 +131,30 @@ same-length-3 c = search needs
 same-length-4 : tie.Need-same-length-4
 same-length-4 c = search needs
 
-returns-2 : tie.Need-returns-2
+returns-3 : tie.Need-returns-3
 unfolding delivered encode painted countsOf
-returns-2 c =
+returns-3 c =
     let lay-out = c .before .before .before .before .before .before .before .before .before .before in
     let fitting = lay-out .before .before .before .before in
-    let counting = fitting .before .before in
-    let s = start counting in
+    let tested = fitting .before .before in
+    let s = start (counting tested) in
     let laid = lay-out .lay-out .ensures in
-    let whole = deliver-fits (countsOf (found s) (written s)) (written s) (old s) (fit (fitting .before) ∙ not-false (fitting .before .has-room .result) (fitting .if1 .left)) in
-    rw (laid .lengths-are, laid .kinds-are, laid .points-are, c .before .before .mark-contours .ensures, counts counting) (sym whole)
+    let whole = deliver-fits (countsOf (found s) (written s)) (written s) (old s) (fit (fitting .before) ∙ not-false (fitting .before .has-room .result) (fitting .if2 .left)) in
+    rw (marked (counting tested) (can-mark tested), laid .lengths-are, laid .kinds-are, laid .points-are, c .before .before .mark-contours .ensures, counts (counting tested)) (sym whole)
 
 pub paint-shape-spec : {M : Type 1} → statement M
 paint-shape-spec =
     tie.close
     (tie.spec
     count-shape-requires
-    has-room-requires
+    can-mark-requires
     returns
+    has-room-requires
+    returns-2
     lay-out-requires
     mark-contours-requires
     same-length
     same-length-2
     same-length-3
     same-length-4
-    returns-2)
+    returns-3)

@@ -7,9 +7,9 @@ use Prim.Native.Nat.{suc, _-_}
 use lib.Dec.{eqb}
 use lib.ListN.{length}
 use borrow.Author.Tests.{eq-eqb, ne-eqb}
+use Rattle.graph.proofs.Lists.{getD-any}
 use Rattle.coloring.specs.Corners.{cornerCount}
 use Rattle.coloring.specs.Sizes.{unsplit, paint-one, paint-spread}
-use Rattle.coloring.proofs.Lists.{getD-any}
 use Rattle.coloring.proofs.layout.CountLaws.{corner-within, edges-few}
 use Rattle.coloring.proofs.splines.PaintLaws.{splines-few, splines-positive}
 use Rattle.coloring.proofs.splines.paint.Statement.{statement}

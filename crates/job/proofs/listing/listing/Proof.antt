@@ -5,7 +5,7 @@ use Prim.Native.Nat.{ℕ, _≤_}
 use native.Mathlib.Omega.{arith}
 use lib.ListN.{length}
 use lib.Seq.{length-take-le}
-use Rattle.coloring.specs.Outline.{over}
+use Rattle.graph.specs.Lists.{over}
 use Rattle.job.specs.Listing.{fileText}
 use Rattle.job.proofs.listing.PasteLaws.{pasted-front, pasted-over}
 use Rattle.job.proofs.AnswerLaws.{text-few, list-short, list-fits}

@@ -1,7 +1,7 @@
 -- `job::records::read_edge` meets its contract: the coordinates decide.
 use mathlib.Core.Path.{_≡_, ap, _∙_}
 use Prim.Native.Nat.{ℕ, _*_}
-use Rattle.coloring.specs.Outline.{all}
+use Rattle.graph.specs.Lists.{all}
 use Rattle.job.specs.Patterns.{words, isCoordinate}
 use Rattle.job.specs.Records.{readEdge, controls}
 use Rattle.job.proofs.records.RecordLaws.{kind-of-edge}

@@ -1,3 +1,0 @@
--- The colours of the splines: laws and theorems.
-pub mod OrderLaws
-pub mod KeptPairs
