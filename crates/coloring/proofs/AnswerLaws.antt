@@ -14,7 +14,7 @@ use Rattle.graph.specs.declared.refusal.Refusal.the-variants.{TooMany, UnknownK
 use Rattle.graph.specs.declared.refusal.Checked.{Checked}
 use Rattle.graph.specs.declared.refusal.Checked.the-variants.{Passed, Failed}
 use Rattle.graph.specs.Refusal.{refusalNumber, andThen}
-use Rattle.graph.specs.SplineColors.{colorSplines, maxSplines, checkSplines, checkDistances}
+use Rattle.graph.specs.SplineColors.{colorSplines, checkSplines, checkDistances}
 use Rattle.graph.specs.SplineTable.{Table, sound, tryAddEdge, offer}
 use Rattle.graph.specs.Bools.{split}
 use Rattle.graph.specs.Lists.{all}

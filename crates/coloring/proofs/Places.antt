@@ -1,8 +1,8 @@
 -- Places of a contour in walking order, from a start and around: rotated lists, and a list that is written place by place in that order.
-use Prim.Native.Nat.{ℕ, zero, suc, _+_, _-_, _%_, _≤_, _<_}
+use Prim.Native.Nat.{ℕ, _+_, _-_, _%_, _≤_, _<_}
 use mathlib.Core.Path.{_≡_, sym, ap, _∙_}
 use mathlib.Core.Logic.{_⊎_, inl, inr, ⊎-elim}
-use mathlib.Core.List.{List, [], _∷_, _++_, map, map-append}
+use mathlib.Core.List.{List, _++_, map, map-append}
 use native.Mathlib.Nat.{mod-lt, mod-eq-of-lt, mod-eq-sub-mod}
 use native.Mathlib.Decide.{decLt}
 use native.Mathlib.Omega.{arith}

@@ -15,7 +15,7 @@ use Rattle.graph.specs.declared.refusal.Refusal.{Refusal}
 use Rattle.graph.specs.declared.refusal.Refusal.the-variants.{TooMany, LengthMismatch, BadDistance}
 use Rattle.graph.specs.Refusal.{refusalNumber, require}
 use Rattle.graph.specs.PairOrder.{distancesValid}
-use Rattle.graph.specs.SplineColors.{maxSplines, checkSplines, checkDistances}
+use Rattle.graph.specs.SplineColors.{checkSplines, checkDistances}
 use Rattle.coloring.specs.declared.outline.Colored.{Colored}
 use Rattle.coloring.specs.declared.outline.Colored.the-variants as colored
 use Rattle.coloring.specs.declared.outline.Counts.{Counts}

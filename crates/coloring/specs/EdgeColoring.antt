@@ -1,7 +1,7 @@
 -- Simple and ink-trap colouring of an outline, after `edge_coloring_simple` and `edge_coloring_ink_trap` of coloring/mod.rs, their first line
 -- replaced by the given threshold.
 use Prim.Native.Nat.{ℕ}
-use mathlib.Core.List.{List, map}
+use mathlib.Core.List.{map}
 use lib.Ieee.{Float}
 use Rattle.coloring.specs.declared.settings.Strategy.the-variants.{Simple, InkTrap}
 use Rattle.coloring.specs.declared.settings.Marking.the-variants.{Colors}

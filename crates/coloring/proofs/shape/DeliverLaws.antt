@@ -8,9 +8,7 @@ use lib.Ieee.{Float}
 use lib.ListN.{length, take, drop, length-take, length-drop}
 use borrow.Author.Tests.{leb-true, eqb-true}
 use Rattle.geometry.specs.declared.edge_segment.EdgeSegment.{EdgeSegment}
-use Rattle.graph.specs.declared.refusal.Refusal.{Refusal}
 use Rattle.graph.specs.declared.refusal.Refusal.the-variants.{ResultTooShort}
-use Rattle.graph.specs.declared.refusal.Checked.{Checked}
 use Rattle.graph.specs.declared.refusal.Checked.the-variants.{Passed}
 use Rattle.graph.specs.Bools.{and-left, and-right}
 use Rattle.graph.specs.Refusal.{required}

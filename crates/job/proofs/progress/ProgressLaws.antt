@@ -14,7 +14,6 @@ use Rattle.geometry.specs.declared.edge_segment.EdgeSegment.{EdgeSegment}
 use Rattle.graph.specs.declared.refusal.Refusal.{Refusal}
 use Rattle.graph.specs.Bools.{and-left}
 use Rattle.graph.specs.Lists.{all}
-use Rattle.coloring.specs.Outline as outline
 use Rattle.coloring.specs.Outline.{between}
 use Rattle.coloring.specs.Places.{concat}
 use Rattle.job.specs.declared.records.Phase.{Phase}

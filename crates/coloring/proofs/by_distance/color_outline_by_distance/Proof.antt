@@ -11,7 +11,6 @@ use Rattle.graph.specs.declared.refusal.Checked.{Checked}
 use Rattle.graph.specs.declared.refusal.Checked.the-variants.{Passed}
 use Rattle.graph.specs.SplineColors.{colorSplines, check, coloringAfter}
 use Rattle.graph.proofs.spline_colors.CheckLaws.{splines-many, splines-passed}
-use Rattle.graph.proofs.spline_colors.CheckLaws.{count-differs, distances-bad, distances-passed}
 use Rattle.coloring.specs.declared.outline.Counts.{Counts}
 use Rattle.coloring.specs.declared.settings.Marking.the-variants.{Numbers}
 use Rattle.coloring.specs.Corners.{Cornered, searchCorners}

@@ -1,11 +1,9 @@
 -- `graph::spline_colors::check` meets its contract: 4, 8, 9.
 use borrow.Author.Needs.{needs}
 use mathlib.Core.Path.{_≡_, sym, _∙_}
-use mathlib.Core.Bool.{true}
 use Prim.Native.Nat.{_*_, _-_, _/_}
 use lib.ListN.{length}
 use borrow.Author.Tests.{not-true, not-false}
-use Rattle.graph.specs.PairOrder.{distancesValid}
 use Rattle.graph.proofs.spline_colors.CheckLaws.{splines-many, splines-passed, count-differs, distances-bad, distances-passed}
 use Rattle.graph.proofs.spline_colors.check.Statement.{statement}
 use Rattle.graph.proofs.spline_colors.check.Tie as tie

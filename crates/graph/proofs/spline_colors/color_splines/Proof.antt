@@ -1,8 +1,7 @@
 -- `color_splines` meets its contract: the refusal of the checks, or the colours.
 use borrow.Author.Needs.{needs}
-use mathlib.Core.Path.{_≡_, sym, _∙_}
+use mathlib.Core.Path.{sym, _∙_}
 use lib.ListN.{length}
-use Rattle.graph.specs.PairOrder.{Distances}
 use Rattle.graph.proofs.spline_colors.CheckLaws.{check-passed}
 use Rattle.graph.proofs.spline_colors.color_splines.Statement.{statement}
 use Rattle.graph.proofs.spline_colors.color_splines.Tie as tie
