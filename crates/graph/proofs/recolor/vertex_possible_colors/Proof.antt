@@ -26,19 +26,20 @@ unless-used-requires-3 c κs = search needs
 
 returns : tie.Need-returns
 unfolding vertexPossibleColors
-returns c = cc
-
-add-result : tie.Need-add-result
-add-result c =
-    let first = c .before .before .before .before in
-    let args = first .before .before .before .before .args in
-    omega (arith, returns c, possible-below (args .coloring .now) (args .entries .now))
+returns c =
+    let second = c .before .before in
+    let first = second .before .before in
+    rw (first .unless-used .ensures, second .unless-used2 .ensures, c .unless-used3 .ensures)
+    (rw (first .before .uses .ensures, second .before .uses2 .ensures, c .before .uses3 .ensures))
 
 add-result-2 : tie.Need-add-result-2
 add-result-2 c =
     let first = c .before .before .before .before in
     let args = first .before .before .before .before .args in
     omega (arith, returns c, possible-below (args .coloring .now) (args .entries .now))
+
+add-result : tie.Need-add-result
+add-result c = omega (arith, add-result-2 c)
 
 pub vertex-possible-colors-spec : {M : Type 1} → statement M
 vertex-possible-colors-spec =
