@@ -1,5 +1,6 @@
 -- `lay_out_part` meets its contract: the parts passed on hold the contour, and take as many edges as it comes to.
 use borrow.Author.Needs.{needs}
+use borrow.Rule.Slice.PartMut.{mid-len}
 use mathlib.Core.Path.{_≡_, ap, _∙_}
 use mathlib.Core.List.{map}
 use Prim.Native.Nat.{_*_, _-_}
@@ -30,7 +31,7 @@ sub-lay-out-contour : tie.Need-sub-lay-out-contour
 sub-lay-out-contour c = search needs
 
 part-lay-out-contour-start : tie.Need-part-lay-out-contour-start
-part-lay-out-contour-start c = search needs
+part-lay-out-contour-start c = sub-lay-out-contour c
 
 part-lay-out-contour-end : tie.Need-part-lay-out-contour-end
 part-lay-out-contour-end c = search needs
@@ -42,16 +43,16 @@ sub-lay-out-contour-2 : tie.Need-sub-lay-out-contour-2
 sub-lay-out-contour-2 c = search needs
 
 part-lay-out-contour-start-2 : tie.Need-part-lay-out-contour-start-2
-part-lay-out-contour-start-2 c = search needs
+part-lay-out-contour-start-2 c = sub-lay-out-contour-2 c
 
 part-lay-out-contour-end-2 : tie.Need-part-lay-out-contour-end-2
 part-lay-out-contour-end-2 c = search needs
 
 sub-lay-out-contour-3 : tie.Need-sub-lay-out-contour-3
-sub-lay-out-contour-3 c = search needs
+sub-lay-out-contour-3 c = sub-lay-out-contour (c .before .before)
 
 part-lay-out-contour-start-3 : tie.Need-part-lay-out-contour-start-3
-part-lay-out-contour-start-3 c = search needs
+part-lay-out-contour-start-3 c = sub-lay-out-contour-3 c
 
 part-lay-out-contour-end-3 : tie.Need-part-lay-out-contour-end-3
 part-lay-out-contour-end-3 c = search needs
@@ -60,7 +61,7 @@ sub-lay-out-contour-4 : tie.Need-sub-lay-out-contour-4
 sub-lay-out-contour-4 c = search needs
 
 part-lay-out-contour-start-4 : tie.Need-part-lay-out-contour-start-4
-part-lay-out-contour-start-4 c = search needs
+part-lay-out-contour-start-4 c = sub-lay-out-contour-4 c
 
 part-lay-out-contour-end-4 : tie.Need-part-lay-out-contour-end-4
 part-lay-out-contour-end-4 c = search needs
@@ -69,10 +70,10 @@ mul-lay-out-contour-2 : tie.Need-mul-lay-out-contour-2
 mul-lay-out-contour-2 c = search needs
 
 sub-lay-out-contour-5 : tie.Need-sub-lay-out-contour-5
-sub-lay-out-contour-5 c = search needs
+sub-lay-out-contour-5 c = omega (arith, sub-lay-out-contour-4 (c .before))
 
 part-lay-out-contour-start-5 : tie.Need-part-lay-out-contour-start-5
-part-lay-out-contour-start-5 c = search needs
+part-lay-out-contour-start-5 c = sub-lay-out-contour-5 c
 
 part-lay-out-contour-end-5 : tie.Need-part-lay-out-contour-end-5
 part-lay-out-contour-end-5 c = search needs
@@ -81,13 +82,15 @@ lay-out-contour-requires : tie.Need-lay-out-contour-requires
 lay-out-contour-requires c κs =
     let start = c .before .before .before .before .before .before .before .before .before .before in
     let a = start .args in
-    (part-matching (start .pre .0 .0), (simp (length-take, length-drop) (omega (arith, start .pre .0 .1)), simp (length-take, length-drop) (omega arith)))
+    let kinds = mid-len (a .to) (a .next) (a .out-kinds .now) (start .pre .1 .0) in
+    let points = mid-len (8 * a .to) (8 * a .next) (a .out-points .now) (start .pre .1 .1) in
+    (part-matching (start .pre .0 .0), (kinds ∙ omega (arith, start .pre .0 .1), points ∙ omega arith))
 
 same-length : tie.Need-same-length
-same-length c = search needs
+same-length c = c .before .before .before .out-kinds .given .1
 
 same-length-2 : tie.Need-same-length-2
-same-length-2 c = search needs
+same-length-2 c = c .before .out-points .given .1
 
 returns : tie.Need-returns
 returns c =
