@@ -132,10 +132,11 @@ module _ (i n : ℕ) (old cs : List InkTrapCorner) (h : i < n) (fits : n ≤ len
   unfolding isMinor
   flagged = rw (at (i + 1), at (i + 2), ap estimate here-marked)
 
-  pub mark-turn : take n (set cs i (withMinor flag (getD cs i noCorner))) ≡ marking (i + 1) (take n old)
-  mark-turn =
+  pub mark-turn : {minor : Bool} {k : InkTrapCorner} → minor ≡ flag → k ≡ withMinor minor (getD cs i noCorner)
+      → take n (set cs i k) ≡ marking (i + 1) (take n old)
+  mark-turn f k =
       take-set-lt n cs i _ h
-      ∙ rw (← flagged, ← here-marked, so-far) (marking-turn i (take n old) (omega (arith, size)))
+      ∙ rw (k, f, ← flagged, ← here-marked, so-far) (marking-turn i (take n old) (omega (arith, size)))
 
 -- with more than three corners the marks are the definition's; with fewer there are none
 module _ (s : Float) (cs : List InkTrapCorner) where
@@ -197,6 +198,7 @@ major-here : (i k : ℕ) (color : EdgeColor) (cs : List InkTrapCorner) → aroun
 unfolding colorMinors
 major-here i k color cs e = branch-false (around cs i .minor) _ _ e
 
+-- a turn at place i: `mixed` and k are what the calls answer, color' and cs' what stands after it
 module _ (i n : ℕ) (color : EdgeColor) (cs : List InkTrapCorner) (h : i < n) (fits : n ≤ length cs) where
   left : n - i ≡ suc (n - suc i)
   left = omega arith
@@ -204,19 +206,19 @@ module _ (i n : ℕ) (color : EdgeColor) (cs : List InkTrapCorner) (h : i < n) (
   here : around (take n cs) i ≡ getD cs i noCorner
   here = around-take n i cs (omega arith) fits ∙ ap (λ (j : ℕ). getD cs j noCorner) (mod-eq-of-lt h)
 
-  pub minor-turn : getD cs i noCorner .minor ≡ true
-      → colorMinors i (n - i) color (take n cs)
-      ≡ colorMinors (i + 1) (n - (i + 1)) color
-      (take n (set cs i (withColor (fromBits (7 - shared color (getD cs ((i + 1) % n) noCorner .color))) (getD cs i noCorner))))
-  minor-turn e =
-      rw (add-one i, left)
+  pub minor-turn : {mixed color' : EdgeColor} {k : InkTrapCorner} {cs' : List InkTrapCorner} → getD cs i noCorner .minor ≡ true
+      → mixed ≡ fromBits (7 - shared color (getD cs ((i + 1) % n) noCorner .color)) → k ≡ withColor mixed (getD cs i noCorner)
+      → cs' ≡ set cs i k → color' ≡ color
+      → colorMinors i (n - i) color (take n cs) ≡ colorMinors (i + 1) (n - (i + 1)) color' (take n cs')
+  minor-turn e m k s c =
+      rw (s, c, k, m, add-one i, left)
       (minor-here i (n - suc i) color (take n cs) (ap (λ (k : InkTrapCorner). k .minor) here ∙ e)
       ∙ rw (here, around-take n (i + 1) cs (omega arith) fits, take-set-lt n cs i _ h, add-one i))
 
-  pub major-turn : getD cs i noCorner .minor ≡ false
-      → colorMinors i (n - i) color (take n cs) ≡ colorMinors (i + 1) (n - (i + 1)) (getD cs i noCorner .color) (take n cs)
-  major-turn e =
-      rw (add-one i, left)
+  pub major-turn : {color' : EdgeColor} {cs' : List InkTrapCorner} → getD cs i noCorner .minor ≡ false → cs' ≡ cs → color' ≡ getD cs i noCorner .color
+      → colorMinors i (n - i) color (take n cs) ≡ colorMinors (i + 1) (n - (i + 1)) color' (take n cs')
+  major-turn e s c =
+      rw (s, c, add-one i, left)
       (major-here i (n - suc i) color (take n cs) (ap (λ (k : InkTrapCorner). k .minor) here ∙ e) ∙ rw here)
 
 pub minors-done : (i n : ℕ) (color : EdgeColor) (cs : List InkTrapCorner) → n ≤ i → colorMinors i (n - i) color (take n cs) ≡ take n cs
@@ -231,7 +233,7 @@ ahead-cons i n cs h fits =
     drop-cons (take n cs) i noCorner (omega (arith, length-take-le n cs fits))
     ∙ rw (getD-take n cs i noCorner h, add-one i)
 
-pub ahead-set : (i n : ℕ) (cs : List InkTrapCorner) (k : InkTrapCorner) → i < n → drop (i + 1) (take n (set cs i k)) ≡ drop (i + 1) (take n cs)
+ahead-set : (i n : ℕ) (cs : List InkTrapCorner) (k : InkTrapCorner) → i < n → drop (i + 1) (take n (set cs i k)) ≡ drop (i + 1) (take n cs)
 ahead-set i n cs k h = rw (take-set-lt n cs i k h, drop-set-lt (i + 1) (take n cs) i k (omega arith))
 
 -- the corners coloured up to place i, and those ahead by the definition
@@ -248,10 +250,10 @@ majors-minor initial left pen k cs e = branch-true (k .minor) _ _ e
 
 module _ (initial : EdgeColor) (left : ℕ) (pen : Pen) where
   -- the pen after a major corner, and the first colour taken
-  abbrev pub nextPen : Pen
+  abbrev nextPen : Pen
   nextPen = switchColorBanned (bannedBefore initial (left - 1)) pen
 
-  abbrev pub nextInitial : EdgeColor
+  abbrev nextInitial : EdgeColor
   nextInitial = cond (isBlack initial) (nextPen .color) initial
 
   majors-major : (k : InkTrapCorner) (cs : List InkTrapCorner) → k .minor ≡ false
@@ -264,20 +266,25 @@ module _ (initial : EdgeColor) (left : ℕ) (pen : Pen) where
   majors-major k cs e = branch-false (k .minor) _ _ e
 
   module _ (i n : ℕ) (cs : List InkTrapCorner) (h : i < n) (fits : n ≤ length cs) where
-    pub going-major : getD cs i noCorner .minor ≡ false
-        → going i n initial left pen cs
-        ≡ going (i + 1) n nextInitial (left - 1) nextPen (set cs i (withColor (nextPen .color) (getD cs i noCorner)))
+    -- a major corner: what the calls answer, and what stands after the turn
+    pub going-major : {banned first initial' : EdgeColor} {next pen' : Pen} {k : InkTrapCorner} {left' : ℕ} {cs' : List InkTrapCorner}
+        → getD cs i noCorner .minor ≡ false → banned ≡ bannedBefore initial (left - 1) → next ≡ switchColorBanned banned pen
+        → k ≡ withColor (next .color) (getD cs i noCorner) → first ≡ cond (isBlack initial) (next .color) initial
+        → cs' ≡ set cs i k → left' ≡ left - 1 → pen' ≡ next → initial' ≡ first
+        → going i n initial left pen cs ≡ going (i + 1) n initial' left' pen' cs'
     unfolding going
-    going-major e =
-        let k = getD cs i noCorner in
-        rw (ahead-set i n cs (withColor (nextPen .color) k) h, ahead-cons i n cs h fits)
-        (rw (majors-major k (drop (i + 1) (take n cs)) e)
-        (rw (add-one i, take-suc-set cs i (withColor (nextPen .color) k) (omega arith), append-snoc)))
+    going-major e b s k f cs-is left-is pen-is initial-is =
+        let corner = getD cs i noCorner in
+        rw (cs-is, left-is, pen-is, initial-is, f, k, s, b, ahead-set i n cs (withColor (nextPen .color) corner) h, ahead-cons i n cs h fits)
+        (rw (majors-major corner (drop (i + 1) (take n cs)) e)
+        (rw (add-one i, take-suc-set cs i (withColor (nextPen .color) corner) (omega arith), append-snoc)))
 
-    pub going-minor : getD cs i noCorner .minor ≡ true → going i n initial left pen cs ≡ going (i + 1) n initial left pen cs
+    pub going-minor : {initial' : EdgeColor} {pen' : Pen} {left' : ℕ} {cs' : List InkTrapCorner} → getD cs i noCorner .minor ≡ true
+        → cs' ≡ cs → left' ≡ left → pen' ≡ pen → initial' ≡ initial → going i n initial left pen cs ≡ going (i + 1) n initial' left' pen' cs'
     unfolding going
-    going-minor e =
-        rw (ahead-cons i n cs h fits, majors-minor initial left pen (getD cs i noCorner) (drop (i + 1) (take n cs)) e, add-one i, take-suc cs i noCorner (omega arith), append-snoc)
+    going-minor e cs-is left-is pen-is initial-is =
+        rw (cs-is, left-is, pen-is, initial-is)
+        (rw (ahead-cons i n cs h fits, majors-minor initial left pen (getD cs i noCorner) (drop (i + 1) (take n cs)) e, add-one i, take-suc cs i noCorner (omega arith), append-snoc))
 
 pub going-begins : (n : ℕ) (initial : EdgeColor) (left : ℕ) (pen : Pen) (cs : List InkTrapCorner)
     → colorMajors initial left pen (take n cs) ≡ going 0 n initial left pen cs
@@ -297,32 +304,41 @@ module _ (i n : ℕ) (cs : List InkTrapCorner) (h : i < n) (fits : n ≤ length 
   unfolding majorCount
   majors-fall e = rw (ahead-cons i n cs h fits, e)
 
-  pub majors-stay : getD cs i noCorner .minor ≡ true → majorCount (drop i (take n cs)) ≡ majorCount (drop (i + 1) (take n cs))
+  pub left-falls : (k : InkTrapCorner) {left left' : ℕ} {cs' : List InkTrapCorner} → getD cs i noCorner .minor ≡ false
+      → left ≡ majorCount (drop i (take n cs)) → cs' ≡ set cs i k → left' ≡ left - 1 → left' ≡ majorCount (drop (i + 1) (take n cs'))
+  left-falls k e ahead cs-is left-is = rw (cs-is, ahead-set i n cs k h) (omega (arith, majors-fall e))
+
+  pub left-stays : {left left' : ℕ} {cs' : List InkTrapCorner} → getD cs i noCorner .minor ≡ true
+      → left ≡ majorCount (drop i (take n cs)) → cs' ≡ cs → left' ≡ left → left' ≡ majorCount (drop (i + 1) (take n cs'))
   unfolding majorCount
-  majors-stay e = rw (ahead-cons i n cs h fits, e, zero-add)
+  left-stays e ahead cs-is left-is = left-is ∙ ahead ∙ rw (cs-is, ahead-cons i n cs h fits, e, zero-add)
 
 -- ---- the colours of the corners, as bytes
 
 abbrev pub colorOf : InkTrapCorner → EdgeColor
 colorOf corner = corner .color
 
--- those up to place k are stored, and the next is, with the corner stored too or as it was
+-- those up to place k are stored, and the next is, the colour `last` of its corner, which is stored too or as it was
 module _ (k : ℕ) (cs : List InkTrapCorner) (bytes : List ℕ) (h : k < length cs) (l : k < length bytes) (e : take k bytes ≡ map bitsOf (map colorOf (take k cs))) where
-  pub bytes-set : (corner : InkTrapCorner) → take (k + 1) (set bytes k (bitsOf (colorOf corner))) ≡ map bitsOf (map colorOf (take (k + 1) (set cs k corner)))
-  bytes-set corner = rw (add-one k, take-suc-set bytes k (bitsOf (colorOf corner)) l, take-suc-set cs k corner h, map-append, map-append, e)
+  pub bytes-set : (corner : InkTrapCorner) {byte : ℕ} {last : EdgeColor} {cs' : List InkTrapCorner} → byte ≡ bitsOf last
+      → last ≡ colorOf corner → cs' ≡ set cs k corner → take (k + 1) (set bytes k byte) ≡ map bitsOf (map colorOf (take (k + 1) cs'))
+  bytes-set corner b c s = rw (b, c, s, add-one k, take-suc-set bytes k (bitsOf (colorOf corner)) l, take-suc-set cs k corner h, map-append, map-append, e)
 
-  pub bytes-same : take (k + 1) (set bytes k (bitsOf (colorOf (getD cs k noCorner)))) ≡ map bitsOf (map colorOf (take (k + 1) cs))
-  bytes-same = rw (add-one k, take-suc-set bytes k (bitsOf (colorOf (getD cs k noCorner))) l, take-suc cs k noCorner h, map-append, map-append, e)
+  pub bytes-same : {byte : ℕ} {last : EdgeColor} {cs' : List InkTrapCorner} → byte ≡ bitsOf last
+      → last ≡ colorOf (getD cs k noCorner) → cs' ≡ cs → take (k + 1) (set bytes k byte) ≡ map bitsOf (map colorOf (take (k + 1) cs'))
+  bytes-same b c s = rw (b, c, s, add-one k, take-suc-set bytes k (bitsOf (colorOf (getD cs k noCorner))) l, take-suc cs k noCorner h, map-append, map-append, e)
 
 module _ (k : ℕ) (cs : List InkTrapCorner) where
   before-next : k + 1 - 1 ≡ k
   before-next = omega arith
 
-  pub last-same : getD cs k noCorner ≡ getD (take (k + 1) cs) (k + 1 - 1) noCorner
-  last-same = rw (before-next, getD-take (k + 1) cs k noCorner (omega arith))
+  pub last-same : {last : EdgeColor} {cs' : List InkTrapCorner} → last ≡ colorOf (getD cs k noCorner) → cs' ≡ cs
+      → last ≡ colorOf (getD (take (k + 1) cs') (k + 1 - 1) noCorner)
+  last-same c s = rw (c, s, before-next, getD-take (k + 1) cs k noCorner (omega arith))
 
-  pub last-set : (corner : InkTrapCorner) → k < length cs → corner ≡ getD (take (k + 1) (set cs k corner)) (k + 1 - 1) noCorner
-  last-set corner h = rw (before-next, getD-take (k + 1) (set cs k corner) k noCorner (omega arith), getD-set-same cs k corner noCorner h)
+  pub last-set : (corner : InkTrapCorner) {last : EdgeColor} {cs' : List InkTrapCorner} → k < length cs → last ≡ colorOf corner → cs' ≡ set cs k corner
+      → last ≡ colorOf (getD (take (k + 1) cs') (k + 1 - 1) noCorner)
+  last-set corner h c s = rw (c, s, before-next, getD-take (k + 1) (set cs k corner) k noCorner (omega arith), getD-set-same cs k corner noCorner h)
 
 -- ---- the whole
 

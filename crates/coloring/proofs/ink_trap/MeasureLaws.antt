@@ -36,16 +36,22 @@ module _ (count index : ℕ) (s : Float) (array : List InkTrapCorner) (edges : L
   measuring-ends h = rw (drop-of-length-le edges {i = index} h, append-nil)
 
   module _ (h : index < length edges) (l : index < length flags) where
-    pub measuring-corner : count < length array → getD flags index false ≡ true
-        → measuring count index s array edges flags ≡ measuring (count + 1) (index + 1) (longer f0 (getD edges index anyEdge)) (set array count (cornerAt index s)) edges flags
+    -- k and `estimate` are what the calls answer, array', count' and s' what stands after them
+    pub measuring-corner : {k : InkTrapCorner} {array' : List InkTrapCorner} {count' : ℕ} {s' estimate : Float}
+        → count < length array → getD flags index false ≡ true → k ≡ cornerAt index s → array' ≡ set array count k → s' ≡ f0 → count' ≡ count + 1
+        → estimate ≡ estimateEdgeLength (getD edges index anyEdge)
+        → measuring count index s array edges flags ≡ measuring count' (index + 1) (Ieee.add binary64 s' estimate) array' edges flags
     unfolding measuring measureFrom
-    measuring-corner r t =
-        rw (drop-cons edges index anyEdge h, drop-cons flags index false l, t, add-one count, add-one index, take-suc-set array count (cornerAt index s) r, append-snoc)
+    measuring-corner r t k array-is s-is count-is estimate-is =
+        rw (array-is, s-is, count-is, estimate-is, k)
+        (rw (drop-cons edges index anyEdge h, drop-cons flags index false l, t, add-one count, add-one index, take-suc-set array count (cornerAt index s) r, append-snoc))
 
-    pub measuring-edge : getD flags index false ≡ false
-        → measuring count index s array edges flags ≡ measuring count (index + 1) (longer s (getD edges index anyEdge)) array edges flags
+    pub measuring-edge : {array' : List InkTrapCorner} {count' : ℕ} {s' estimate : Float} → getD flags index false ≡ false
+        → array' ≡ array → s' ≡ s → count' ≡ count → estimate ≡ estimateEdgeLength (getD edges index anyEdge)
+        → measuring count index s array edges flags ≡ measuring count' (index + 1) (Ieee.add binary64 s' estimate) array' edges flags
     unfolding measuring measureFrom
-    measuring-edge t = rw (drop-cons edges index anyEdge h, drop-cons flags index false l, t, add-one index)
+    measuring-edge t array-is s-is count-is estimate-is =
+        rw (array-is, s-is, count-is, estimate-is, drop-cons edges index anyEdge h, drop-cons flags index false l, t, add-one index)
 
 -- ---- what is known of measured corners
 

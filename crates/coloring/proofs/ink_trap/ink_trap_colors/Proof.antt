@@ -13,12 +13,12 @@ use borrow.Author.Tests.{not-true, not-false}
 use Rattle.geometry.specs.EdgeColor.{bitsOf}
 use Rattle.geometry.specs.declared.edge_color.EdgeColor.the-variants.{Black}
 use Rattle.coloring.specs.declared.ink_trap.InkTrapCorner.{InkTrapCorner}
-use Rattle.coloring.specs.Corners.{Cornered, cornerCount}
+use Rattle.coloring.specs.Corners.{Cornered, cornerCount, estimateEdgeLength}
 use Rattle.coloring.specs.Outline.{edgesOf, whole}
 use Rattle.coloring.specs.InkTrap.{Measured, measureCorners, noCorner, markMinors, majorCount, colorMajors, colorMinors, colorCorners}
 use Rattle.coloring.proofs.outline.EdgeLaws.{edges-length}
 use Rattle.coloring.proofs.ink_trap.MeasureLaws.{measuring, measuring-begins, measuring-corner, measuring-edge, measuring-ends, measured-count, measured-majors}
-use Rattle.coloring.proofs.ink_trap.CornerLaws.{close-first, marking, marking-none, mark-turn, marks-many, marks-few, majors-more, majors-same, going, going-begins, going-major, going-minor, going-ends, majors-fall, majors-stay, ahead-set, minor-turn, major-turn, minors-done, colorOf, bytes-set, bytes-same, last-set, last-same, colored, drawn}
+use Rattle.coloring.proofs.ink_trap.CornerLaws.{close-first, marking, marking-none, mark-turn, marks-many, marks-few, majors-more, majors-same, going, going-begins, going-major, going-minor, going-ends, majors-fall, left-falls, left-stays, minor-turn, major-turn, minors-done, colorOf, bytes-set, bytes-same, last-set, last-same, colored, drawn}
 use Rattle.coloring.proofs.ink_trap.ink_trap_colors.Statement.{statement}
 use Rattle.coloring.proofs.ink_trap.ink_trap_colors.Tie as tie
 
@@ -180,21 +180,21 @@ measure-again c =
     let edges = edgesOf (start .args .kinds .now) (start .args .points .now) in
     let h : at .index < length edges = omega (arith, edges-length (start .args .kinds .now) (start .args .points .now)) in
     let l : at .index < length flags = omega (arith, start .pre .0 .flagged) in
-    let estimate = c .estimate-edge-length .ensures in
-    let edge = c .before .edge-at .ensures in
+    let estimate = c .estimate-edge-length .ensures ∙ ap estimateEdgeLength (c .before .edge-at .ensures) in
     ⊎-elim
     (λ w. (
       omega arith,
       omega (arith, w .4),
       ap length (w .2) ∙ simp length-set (at .inv .2),
-      at .inv .3 ∙ measuring-corner (at .count) (at .index) (at .spline-length) (at .corners) edges flags h l (omega (arith, start .pre .0 .few)) (w .0 .taken)
-          ∙ (cc (w .1 .ensures, w .2, w .3, w .4, estimate, edge)),
+      at .inv .3
+          ∙ measuring-corner (at .count) (at .index) (at .spline-length) (at .corners) edges flags h l (omega (arith, start .pre .0 .few)) (w .0 .taken)
+          (w .1 .ensures) (w .2) (w .3) (w .4) estimate,
     ))
     (λ w. (
       omega arith,
       omega (arith, w .3),
       ap length (w .1) ∙ at .inv .2,
-      at .inv .3 ∙ measuring-edge (at .count) (at .index) (at .spline-length) (at .corners) edges flags h l (w .0 .left) ∙ (cc (w .1, w .2, w .3, estimate, edge)),
+      at .inv .3 ∙ measuring-edge (at .count) (at .index) (at .spline-length) (at .corners) edges flags h l (w .0 .left) (w .1) (w .2) (w .3) estimate,
     ))
     (c .before .before .if1 .came)
 
@@ -291,7 +291,7 @@ mark-again c =
           (λ w. omega (arith, at .inv .3, w .1, majors-same (at .i) (at .corners) (c .before .with-minor .result) (omega arith) (minor ∙ w .0 .taken)))
           (λ w. omega (arith, at .inv .3, w .1, majors-more (at .i) (at .corners) (c .before .with-minor .result) (omega arith) (minor ∙ w .0 .left)))
           (c .if3 .came),
-      rw (corner, flag) (mark-turn (at .i) n (set (array measured) 0 (closed .closed .result)) (at .corners) h fits same (at .inv .4)),
+      mark-turn (at .i) n (set (array measured) 0 (closed .closed .result)) (at .corners) h fits same (at .inv .4) flag corner,
     )
 
 majors-holds : tie.Need-majors-holds Inv-measure μ-measure Inv-mark μ-mark Inv-majors μ-majors Inv-minors μ-minors
@@ -342,21 +342,20 @@ majors-again c =
     let fits : n ≤ length (at .corners) = omega (arith, few measured) in
     ⊎-elim
     (λ w.
-    let major = not-true _ (w .0 .taken) in
-    let fall : at .left - 1 ≡ majorCount (drop (at .j + 1) (take n (at .corners))) = omega (arith, majors-fall (at .j) n (at .corners) h fits major) in (
+    let major = not-true _ (w .0 .taken) in (
       omega arith,
       ap length (w .5) ∙ simp length-set (at .inv .1),
-      cc (fall, ahead-set (at .j) n (at .corners) (w .3 .result) h, w .5, w .6),
+      left-falls (at .j) n (at .corners) h fits (w .3 .result) major (at .inv .2) (w .5) (w .6),
       at .inv .3
           ∙ going-major (at .initial) (at .left) (at .ink) (at .j) n (at .corners) h fits major
-          ∙ (cc (w .1 .ensures, w .2 .ensures, w .3 .ensures, w .4 .ensures, w .5, w .6, w .7, w .8)),
+          (w .1 .ensures) (w .2 .ensures) (w .3 .ensures) (w .4 .ensures) (w .5) (w .6) (w .7) (w .8),
     ))
     (λ w.
     let minor = not-false _ (w .0 .left) in (
       omega arith,
       ap length (w .1) ∙ at .inv .1,
-      cc (at .inv .2, majors-stay (at .j) n (at .corners) h fits minor, w .1, w .2),
-      at .inv .3 ∙ going-minor (at .initial) (at .left) (at .ink) (at .j) n (at .corners) h fits minor ∙ (cc (w .1, w .2, w .3, w .4)),
+      left-stays (at .j) n (at .corners) h fits minor (at .inv .2) (w .1) (w .2),
+      at .inv .3 ∙ going-minor (at .initial) (at .left) (at .ink) (at .j) n (at .corners) h fits minor (w .1) (w .2) (w .3) (w .4),
     ))
     (c .if4 .came)
 
@@ -424,22 +423,24 @@ minors-again c =
     let fits : n ≤ length (at .corners) = omega (arith, few measured) in
     let inside : at .k < length (at .corners) = omega arith in
     let room : at .k < length (at .colors) = omega (arith, at .inv .2) in
+    let long = length-set (at .colors) (at .k) (c .bits .result) ∙ at .inv .2 in
     ⊎-elim
-    (λ w. (
+    (λ w.
+    let last = w .6 ∙ sym (ap colorOf (w .3 .ensures)) in (
       omega arith,
       ap length (w .4) ∙ simp length-set (at .inv .1),
-      simp length-set (at .inv .2),
-      at .inv .3 ∙ minor-turn (at .k) n (at .color) (at .corners) h fits (w .0 .taken) ∙ rw (w .4, w .5, w .3 .ensures, w .2 .ensures),
-      rw (c .bits .ensures, w .4, w .6, w .3 .ensures) (bytes-set (at .k) (at .corners) (at .colors) inside room (at .inv .4) _),
-      rw (w .4, w .6, w .3 .ensures) (ap colorOf (last-set (at .k) (at .corners) _ inside)),
+      long,
+      at .inv .3 ∙ minor-turn (at .k) n (at .color) (at .corners) h fits (w .0 .taken) (w .2 .ensures) (w .3 .ensures) (w .4) (w .5),
+      bytes-set (at .k) (at .corners) (at .colors) inside room (at .inv .4) (w .3 .result) (c .bits .ensures) last (w .4),
+      last-set (at .k) (at .corners) (w .3 .result) inside last (w .4),
     ))
     (λ w. (
       omega arith,
       ap length (w .1) ∙ at .inv .1,
-      simp length-set (at .inv .2),
-      at .inv .3 ∙ major-turn (at .k) n (at .color) (at .corners) h fits (w .0 .left) ∙ rw (w .1, w .2),
-      rw (c .bits .ensures, w .1, w .3) (bytes-same (at .k) (at .corners) (at .colors) inside room (at .inv .4)),
-      rw (w .1, w .3) (ap colorOf (last-same (at .k) (at .corners))),
+      long,
+      at .inv .3 ∙ major-turn (at .k) n (at .color) (at .corners) h fits (w .0 .left) (w .1) (w .2),
+      bytes-same (at .k) (at .corners) (at .colors) inside room (at .inv .4) (c .bits .ensures) (w .3) (w .1),
+      last-same (at .k) (at .corners) (w .3) (w .1),
     ))
     (c .before .if5 .came)
 
