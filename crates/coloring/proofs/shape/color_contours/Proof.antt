@@ -3,7 +3,7 @@ use native.Mathlib.Omega.{arith}
 use borrow.Author.Needs.{needs}
 use mathlib.Core.Path.{_≡_, refl, sym, ap, _∙_}
 use mathlib.Core.Bool.{Bool}
-use mathlib.Core.List.{List, _∷_, _++_, map}
+use mathlib.Core.List.{List, _∷_, map}
 use Prim.Native.Nat.{ℕ, _+_, _-_, _≤_}
 use lib.ListN.{length, getD, take, drop, length-map}
 use Rattle.geometry.specs.EdgeColor.{bitsOf}
@@ -26,11 +26,16 @@ use Rattle.coloring.proofs.shape.color_contours.Tie as tie
 abbrev colorBytes : Strategy → Pen → List Cornered → List ℕ
 colorBytes strategy pen found = concat (map (map bitsOf) (colorContours strategy pen found))
 
-bytes-next : (strategy : Strategy) (pen : Pen) (contour : Cornered) (rest : List Cornered)
-    → let colored = colorContour strategy pen contour in
-    colorBytes strategy pen (contour ∷ rest) ≡ map bitsOf (colored .colors) ++ colorBytes strategy (colored .pen) rest
+-- the bytes of the first are stored, and the pen goes on
+bytes-next : (strategy : Strategy) (pen : Pen) (to : ℕ) (out : List ℕ) {contour : Cornered} {contours rest : List Cornered} {k : ℕ} {out' : List ℕ} {pen' : Pen}
+    → contours ≡ contour ∷ rest → k ≡ resultEdges (contour .corners) → to + k ≤ length out
+    → out' ≡ overFrom to (map bitsOf (colorContour strategy pen contour .colors)) out → pen' ≡ colorContour strategy pen contour .pen
+    → overFrom to (colorBytes strategy pen contours) out ≡ overFrom (to + k) (colorBytes strategy pen' rest) out'
 unfolding colorContours concat
-bytes-next strategy pen contour rest = refl
+bytes-next strategy pen to out {contour} {k = k} contours-are counted fit out-is pen-is =
+    let colors = colorContour strategy pen contour .colors in
+    rw (contours-are, out-is, pen-is)
+    (over-more to k (map bitsOf colors) _ out (length-map colors bitsOf ∙ contour-length strategy pen contour ∙ sym counted) fit)
 
 abbrev Inv-loop : tie.InvT-loop
 Inv-loop strategy lengths kinds points flags seed out₀ pen₀ at₀ to₀ i₀ out pen at to i =
@@ -124,18 +129,12 @@ loop-again c =
     let a = start turn .args in
     let at = turn .before .loop in
     let h = turn .loop-test .taken in
-    let n = n turn in
     let painted = rw (whole turn) at (c .before .before .color-part .ensures) in
-    let xs = edgesOf (a .kinds .now) (a .points .now) in
-    let here : Cornered = record { edges = take n (drop (at .at) xs); corners = take n (drop (at .at) (a .flags .now)) } in
-    let colors = colorContour (a .strategy) (at .pen) here .colors in
-    let long : length (map bitsOf colors) ≡ resultEdges (here .corners) = length-map colors bitsOf ∙ contour-length (a .strategy) (at .pen) here in (
+    let next = cornered-step (a .lengths .now) (edgesOf (a .kinds .now) (a .points .now)) (a .flags .now) (at .i) (at .at) h in (
       along-next _ _ _ _ (at .inv .0) h,
       c .before .before .color-part .kept .1 .1 .1 .1 .1 .1 .1 .1 .1 .0 ∙ at .inv .1,
       omega (arith, counted edges, at .inv .2, left-step resultEdges (a .lengths .now) (a .flags .now) (at .i) (at .at) h),
-      at .inv .3
-          ∙ rw (painted .colors-are, painted .pen-is, counted edges, cornered-step (a .lengths .now) xs (a .flags .now) (at .i) (at .at) h, bytes-next (a .strategy) (at .pen) here _)
-          (over-more (at .to) (resultEdges (here .corners)) (map bitsOf colors) _ (at .out) long (rw (counted edges) at (fit edges))),
+      at .inv .3 ∙ bytes-next (a .strategy) (at .pen) (at .to) (at .out) next (counted edges) (fit edges) (painted .colors-are) (painted .pen-is),
     )
 
 same-length : tie.Need-same-length Inv-loop μ-loop
