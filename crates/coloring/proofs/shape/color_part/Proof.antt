@@ -1,10 +1,11 @@
 -- `color_part` meets its contract: the parts passed on hold the contour, and take as many colours as it comes to edges.
 use borrow.Author.Needs.{needs}
+use borrow.Rule.Slice.PartMut.{mid-len}
 use mathlib.Core.Path.{_≡_, _∙_}
 use mathlib.Core.List.{map}
 use Prim.Native.Nat.{_-_}
 use native.Mathlib.Omega.{arith}
-use lib.ListN.{length, length-take, length-drop, length-map}
+use lib.ListN.{length, length-map}
 use Rattle.geometry.specs.EdgeColor.{bitsOf}
 use Rattle.graph.proofs.Writing.{over-part}
 use Rattle.coloring.specs.Outline.{part}
@@ -24,7 +25,7 @@ sub-color-contour : tie.Need-sub-color-contour
 sub-color-contour c = search needs
 
 part-color-contour-start : tie.Need-part-color-contour-start
-part-color-contour-start c = search needs
+part-color-contour-start c = sub-color-contour c
 
 part-color-contour-end : tie.Need-part-color-contour-end
 part-color-contour-end c = search needs
@@ -36,16 +37,16 @@ sub-color-contour-2 : tie.Need-sub-color-contour-2
 sub-color-contour-2 c = search needs
 
 part-color-contour-start-2 : tie.Need-part-color-contour-start-2
-part-color-contour-start-2 c = search needs
+part-color-contour-start-2 c = sub-color-contour-2 c
 
 part-color-contour-end-2 : tie.Need-part-color-contour-end-2
 part-color-contour-end-2 c = search needs
 
 sub-color-contour-3 : tie.Need-sub-color-contour-3
-sub-color-contour-3 c = search needs
+sub-color-contour-3 c = sub-color-contour (c .before .before)
 
 part-color-contour-start-3 : tie.Need-part-color-contour-start-3
-part-color-contour-start-3 c = search needs
+part-color-contour-start-3 c = sub-color-contour-3 c
 
 part-color-contour-end-3 : tie.Need-part-color-contour-end-3
 part-color-contour-end-3 c = search needs
@@ -54,7 +55,7 @@ sub-color-contour-4 : tie.Need-sub-color-contour-4
 sub-color-contour-4 c = search needs
 
 part-color-contour-start-4 : tie.Need-part-color-contour-start-4
-part-color-contour-start-4 c = search needs
+part-color-contour-start-4 c = sub-color-contour-4 c
 
 part-color-contour-end-4 : tie.Need-part-color-contour-end-4
 part-color-contour-end-4 c = search needs
@@ -62,10 +63,11 @@ part-color-contour-end-4 c = search needs
 color-contour-requires : tie.Need-color-contour-requires
 color-contour-requires c κs =
     let start = c .before .before .before .before .before .before .before .before in
-    (part-matching (start .pre .0), simp (length-take, length-drop) (omega (arith, start .pre .1 .0)))
+    let a = start .args in
+    (part-matching (start .pre .0), mid-len (a .to) (a .next) (a .out .now) (start .pre .1 .1) ∙ omega (arith, start .pre .1 .0))
 
 same-length : tie.Need-same-length
-same-length c = search needs
+same-length c = c .before .out .given .1
 
 returns : tie.Need-returns
 returns c =
