@@ -6,7 +6,6 @@ use mathlib.Core.Logic.{⊎-elim}
 use mathlib.Core.List.{List, map}
 use Prim.Native.Nat.{ℕ, _+_, _-_, _%_, _≤_, _<_}
 use native.Mathlib.Nat.{mod-lt}
-use lib.Ieee as Ieee
 use lib.ListN.{length, take, drop, getD, set, length-set, length-replicate}
 use lib.Seq.{length-take-le, take-all}
 use borrow.Author.Tests.{not-true, not-false}
