@@ -29,9 +29,6 @@ collectSplines o threshold = edgeColoring (record { marking = Numbers; threshold
 
 -- ---- the colouring
 
-unfoldable pub maxDistances : ℕ
-maxDistances = 2016
-
 -- the colour of an edge by its spline's number: Yellow, Cyan, Magenta for the splines' colours 0, 1, 2; White without a spline
 unfoldable pub splineColor : List ℕ → ℕ → EdgeColor
 unfolding noSpline
@@ -55,6 +52,9 @@ byDistanceAfter checked found seed distances old =
     let collected = painted Numbers found in
     deliver (andThen checked (checkSplines splines (checkDistances splines distances)))
     (countsOf found collected) (withBytes (splineByte (colorSplines splines distances seed)) collected) old
+
+unfoldable pub maxDistances : ℕ
+maxDistances = 2016
 
 -- too many distances count with too many contours and edges
 unfoldable pub edgeColoringByDistance : Outline → Float → ℕ → List Float → Result → Outcome

@@ -8,9 +8,9 @@ use lib.Ieee.{Float, nan, inf, fin}
 use lib.IntN.{pos}
 use Rattle.math.specs.Scalar.{f0, f1}
 use Rattle.graph.specs.declared.refusal.Refusal.the-variants.{TooMany, LengthMismatch, BadDistance}
-use Rattle.graph.specs.declared.refusal.Checked.the-variants.{Failed}
-use Rattle.graph.specs.Lists.{all}
+use Rattle.graph.specs.declared.refusal.Checked.the-variants.{Passed, Failed}
 use Rattle.graph.specs.declared.spline_table.Offer.the-variants.{Kept, Declined}
+use Rattle.graph.specs.Lists.{all}
 use Rattle.graph.specs.SplineTable.{offer}
 use Rattle.graph.specs.Sequence.{Pair}
 use Rattle.graph.specs.PairOrder.{validDistance, pairOrder}
@@ -85,7 +85,12 @@ pub no-pairs : (colorSplines 0 [] 5 ≡ []) × (colorSplines 1 [] 5 ≡ (2 ∷ [
 unfolding offerSplines
 no-pairs = (refl, refl)
 
--- ---- the order of refusals
+-- ---- the refusals, and their order
+
+-- refutes one that refuses always: the square's distances pass
+pub square-passes : check 4 squareDistances ≡ Passed
+unfolding all validDistance Ieee.le Ieee.lt Ieee.ofBits
+square-passes = refl
 
 -- refutes one that counts the distances first: 65 splines and no distance give 4
 pub splines-first : (check 65 [] ≡ Failed TooMany) × (check 64 [] ≡ Failed LengthMismatch)
