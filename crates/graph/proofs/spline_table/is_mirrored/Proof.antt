@@ -36,7 +36,7 @@ loop-again c =
     let args = at .before .before .args in
     let entries = entry (args .n) (args .edge-matrix .now) in
     let more = all-more (at .loop .j) (λ k. eqb (entries (args .i) k) (entries k (args .i))) in
-    (omega arith, cc (more, at .loop .inv .1, c .before .entry .ensures, c .entry2 .ensures))
+    (omega arith, rw (at .loop .inv .1, c .before .entry .ensures, c .entry2 .ensures, more))
 
 returns : tie.Need-returns Inv-loop μ-loop
 returns c =

@@ -16,7 +16,8 @@ is-symmetric-requires c κs = search needs
 returns : tie.Need-returns
 returns c =
     let start = c .before .before .before .before .before in
-    cc (sound-looked (start .args .coloring .now) (start .args .edge-matrix .now) (start .pre))
+    rw (c .before .before .at-most .ensures, c .before .at-most2 .ensures, c .is-symmetric .ensures)
+    (sound-looked (start .args .coloring .now) (start .args .edge-matrix .now) (start .pre))
 
 pub is-sound-spec : {M : Type 1} → statement M
 is-sound-spec = tie.close (tie.spec at-most-requires at-most-requires-2 is-symmetric-requires returns)

@@ -37,7 +37,7 @@ loop-again c =
     let args = at .before .before .args in
     let entries = entry (args .n) (args .edge-matrix .now) in
     let more = all-more (at .loop .i) (λ k. mirrored (args .n) (args .edge-matrix .now) k && eqb (entries k k) 0) in
-    (omega arith, cc (more, at .loop .inv .1, c .before .is-mirrored .ensures, c .entry .ensures))
+    (omega arith, rw (at .loop .inv .1, c .before .is-mirrored .ensures, c .entry .ensures, more))
 
 returns : tie.Need-returns Inv-loop μ-loop
 returns c =
