@@ -2,7 +2,7 @@
 use Prim.Native.Nat.{ℕ, _+_, _-_, _*_}
 use lib.ListN.{getD}
 use Rattle.graph.specs.declared.spline_table.Offer.{Offer}
-use Rattle.coloring.specs.Answers.{offerAnswer}
+use Rattle.graph.specs.Answers.{offerAnswer}
 use Rattle.capi.specs.Answers.{codeOf}
 
 -- 256 and the counter where the pair is kept, 512 and the counter where it is declined, 768 and the number of the refusal

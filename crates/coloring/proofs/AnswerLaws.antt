@@ -2,10 +2,10 @@
 -- the values.
 use Prim.Native.Nat.{ℕ, _*_}
 use mathlib.Core.Path.{_≡_, refl}
-use mathlib.Core.Bool.{not, _&&_}
+use mathlib.Core.Bool.{_&&_}
 use mathlib.Core.List.{List, [], _∷_, _++_, map}
 use lib.ListN.{length}
-use lib.Dec.{leb, ltb, eqb}
+use lib.Dec.{leb, eqb}
 use lib.Ieee as Ieee
 use lib.Ieee.{Float}
 use Rattle.math.specs.Scalar.{f1}
@@ -15,12 +15,11 @@ use Rattle.graph.specs.declared.refusal.Checked.{Checked}
 use Rattle.graph.specs.declared.refusal.Checked.the-variants.{Passed, Failed}
 use Rattle.graph.specs.Refusal.{refusalNumber, andThen}
 use Rattle.graph.specs.SplineColors.{colorSplines, checkSplines, checkDistances}
-use Rattle.graph.specs.SplineTable.{Table, sound, tryAddEdge, offer}
-use Rattle.graph.specs.Bools.{split}
 use Rattle.graph.specs.Lists.{all}
+use Rattle.graph.specs.Answers.{Answer, values, refusal, Check, unless, firstOf, checkedAnswer, distanceChecks, told-require, told-distances}
 use Rattle.coloring.specs.declared.settings.Strategy.{Strategy}
 use Rattle.coloring.specs.declared.settings.Marking.the-variants.{Colors, Numbers}
-use Rattle.coloring.specs.Answers.{Answer, values, refusal, Check, unless, firstOf, offerAnswer, coloredAnswer, checkedAnswer, distanceChecks, told-require, told-distances, told-after, told-refused, told-passed}
+use Rattle.coloring.specs.Answers.{coloredAnswer, told-after, told-refused, told-passed}
 use Rattle.coloring.specs.Places.{total}
 use Rattle.coloring.specs.Outline.{Outline, Result, contours, knownKind, between, coordinatesFit, maxContours, maxEdges, check, fits}
 use Rattle.coloring.specs.Shape.{painted, countsOf}
@@ -28,27 +27,6 @@ use Rattle.coloring.specs.Corners.{Cornered, searchCorners}
 use Rattle.coloring.specs.Splines.{splineTotal}
 use Rattle.coloring.specs.EdgeColoring.{edgeColoring}
 use Rattle.coloring.specs.ByDistance.{maxDistances, splineByte, withBytes, collectSplines, edgeColoringByDistance}
-
--- ---- an offer: 4, 8, 10
-
-abbrev pub offerChecks : Table → ℕ → ℕ → List Check
-offerChecks t a b =
-    let n = length (t .coloring) in
-    unless 4 (leb n 64)
-    ∷ unless 8 (eqb (length (t .edgeMatrix)) (n * n))
-    ∷ unless 10 (sound t && ltb a n && ltb b n && not (eqb a b))
-    ∷ []
-
-pub offer-in-numbers : (t : Table) (a b : ℕ) → offerAnswer (offer t a b .answer) ≡ firstOf (offerChecks t a b) (offerAnswer (tryAddEdge t a b .answer))
-unfolding offer firstOf
-offer-in-numbers t a b =
-    let n = length (t .coloring) in
-    split (leb n 64)
-    (λ e.
-    split (eqb (length (t .edgeMatrix)) (n * n))
-    (λ f. split (sound t && ltb a n && ltb b n && not (eqb a b)) (λ g. rw (e, f, g, offer)) (λ g. rw (e, f, g, offer)))
-    (λ f. rw (e, f, offer)))
-    (λ e. rw (e, offer))
 
 -- ---- colourings: 4, 8, 5, 7, 6, splines 4, distance count 8, 9, 11
 

@@ -1,85 +1,23 @@
--- The answers of entries in document 01's terms (its "Forms"): values, or the number of a refusal. Here for the enums of this crate: what became of
--- an offer, of a colouring, of the checks before one.
-use Prim.Native.Nat.{ℕ, _*_, _-_, _/_}
+-- The answers of colourings in document 01's terms, as graph's Answers has those of an offer.
 use mathlib.Core.Path.{_≡_, refl}
 use mathlib.Core.Bool.{Bool, true, false}
-use mathlib.Core.List.{List, [], _∷_, _++_}
-use lib.Dec.{leb, eqb}
-use lib.ListN.{length}
-use lib.Ieee.{Float}
-use Rattle.graph.specs.declared.spline_table.Offer.{Offer}
-use Rattle.graph.specs.declared.spline_table.Offer.the-variants as offer
+use mathlib.Core.List.{[], _∷_}
+use Rattle.graph.specs.declared.refusal.Refusal.{Refusal}
 use Rattle.graph.specs.declared.refusal.Checked.{Checked}
 use Rattle.graph.specs.declared.refusal.Checked.the-variants.{Passed, Failed}
-use Rattle.graph.specs.declared.refusal.Refusal.{Refusal}
-use Rattle.graph.specs.declared.refusal.Refusal.the-variants.{TooMany, LengthMismatch, BadDistance}
-use Rattle.graph.specs.Refusal.{refusalNumber, require}
-use Rattle.graph.specs.PairOrder.{distancesValid}
-use Rattle.graph.specs.SplineColors.{checkSplines, checkDistances}
+use Rattle.graph.specs.Refusal.{refusalNumber}
+use Rattle.graph.specs.Answers.{Answer, values, refusal, unless, firstOf}
 use Rattle.coloring.specs.declared.outline.Colored.{Colored}
-use Rattle.coloring.specs.declared.outline.Colored.the-variants as colored
+use Rattle.coloring.specs.declared.outline.Colored.the-variants.{Edges, Refused}
 use Rattle.coloring.specs.declared.outline.Counts.{Counts}
 use Rattle.coloring.specs.Outline.{Result, fits, deliver}
 
-pub data Answer : Type 0 where
-  values : List ℕ → Answer
-  refusal : ℕ → Answer
-
--- the pair's entry, 1 where it is kept and 0 where it is declined, and the counter
-abbrev pub offerAnswer : Offer → Answer
-offerAnswer (offer.Kept counter) = values (1 ∷ counter ∷ [])
-offerAnswer (offer.Declined counter) = values (0 ∷ counter ∷ [])
-offerAnswer (offer.Refused r) = refusal (refusalNumber r)
-
 -- the edges of the result and their splines
 abbrev pub coloredAnswer : Colored → Answer
-coloredAnswer (colored.Edges counts) = values (counts .edges ∷ counts .splines ∷ [])
-coloredAnswer (colored.Refused r) = refusal (refusalNumber r)
+coloredAnswer (Edges counts) = values (counts .edges ∷ counts .splines ∷ [])
+coloredAnswer (Refused r) = refusal (refusalNumber r)
 
-abbrev pub checkedAnswer : Checked → Answer
-checkedAnswer Passed = values []
-checkedAnswer (Failed r) = refusal (refusalNumber r)
-
--- ---- refusals in order
-
--- a refusal's number, and the test that keeps it away
-pub record Check : Type 0 where
-  pub number : ℕ
-  pub passes : Bool
-
-abbrev pub unless : ℕ → Bool → Check
-unless number passes = record { number = number; passes = passes }
-
--- the number of the first test that fails, else an answer
-unfoldable pub firstOf : List Check → Answer → Answer
-firstOf [] answer = answer
-firstOf (c ∷ checks) answer = elim (c .passes) [ true ↦ firstOf checks answer | false ↦ refusal (c .number) ]
-
--- an answer that hands on the refusal of its checks is told by a list: a check more, a number more
-pub told-require : (told : Checked → Answer) → ((r : Refusal) → told (Failed r) ≡ refusal (refusalNumber r))
-    → (b : Bool) (r : Refusal) (next : Checked) (checks : List Check) (answer : Answer)
-    → told next ≡ firstOf checks answer → told (require b r next) ≡ firstOf (unless (refusalNumber r) b ∷ checks) answer
-unfolding firstOf
-told-require told fails true r next checks answer e = e
-told-require told fails false r next checks answer e = fails r
-
--- the checks of distances, after those of an outline: splines 4, distance count 8, 9
-abbrev pub distanceChecks : ℕ → List Float → List Check
-distanceChecks splines distances =
-    unless 4 (leb splines 64)
-    ∷ unless 8 (eqb (length distances) (splines * (splines - 1) / 2))
-    ∷ unless 9 (distancesValid distances)
-    ∷ []
-
-pub told-distances : (told : Checked → Answer) → ((r : Refusal) → told (Failed r) ≡ refusal (refusalNumber r))
-    → (splines : ℕ) (distances : List Float) (checks : List Check) (answer : Answer)
-    → told Passed ≡ firstOf checks answer → told (checkSplines splines (checkDistances splines distances)) ≡ firstOf (distanceChecks splines distances ++ checks) answer
-told-distances told fails splines distances checks answer e =
-    told-require told fails _ TooMany _ _ answer
-    (told-require told fails _ LengthMismatch _ _ answer
-    (told-require told fails _ BadDistance Passed checks answer e))
-
--- so is what is delivered after checks; 11 last
+-- what is delivered after checks is told by a list: 11 last
 module _ (counts : Counts) (written old : Result) where
   abbrev pub told-after : Checked → Answer
   told-after checked = coloredAnswer (deliver checked counts written old .answer)

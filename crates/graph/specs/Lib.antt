@@ -13,5 +13,7 @@ pub mod PairNumbers
 pub mod SecondDegree
 pub mod SplineColors
 pub mod SplineColorsExamples
+-- the answers in document 01's numbers
+pub mod Answers
 -- laws on truth values
 pub mod Bools

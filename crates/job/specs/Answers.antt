@@ -1,5 +1,5 @@
--- The answers about a job file in document 01's terms, as coloring's Answers has those of a colouring; and what the contracts say of them in its
--- numbers: the file's first refusal, then those after reading, then the values.
+-- The answers about a job file in document 01's terms, as the Answers of graph and coloring have those of an offer and of a colouring; and what the
+-- contracts say of them in its numbers: the file's first refusal, then those after reading, then the values.
 use Prim.Native.Nat.{ℕ}
 use mathlib.Core.Path.{_≡_, refl}
 use mathlib.Core.Bool.{Bool, true, false, cond}
@@ -11,7 +11,8 @@ use Rattle.graph.specs.declared.refusal.Refusal.{Refusal}
 use Rattle.graph.specs.declared.refusal.Checked.{Checked}
 use Rattle.graph.specs.declared.refusal.Checked.the-variants.{Passed, Failed}
 use Rattle.graph.specs.SplineColors.{checkSplines, checkDistances}
-use Rattle.coloring.specs.Answers.{Answer, values, refusal, Check, unless, firstOf, coloredAnswer, distanceChecks, told-distances, told-after, told-refused, told-passed}
+use Rattle.graph.specs.Answers.{Answer, values, refusal, Check, unless, firstOf, distanceChecks, told-distances}
+use Rattle.coloring.specs.Answers.{coloredAnswer, told-after, told-refused, told-passed}
 use Rattle.coloring.specs.Splines.{splineTotal}
 use Rattle.coloring.specs.Outline.{Result, fits}
 use Rattle.coloring.specs.Shape.{countsOf}
