@@ -13,8 +13,8 @@ use Rattle.graph.specs.declared.refusal.Refusal.{Refusal}
 use Rattle.graph.specs.declared.refusal.Refusal.the-variants.{TooMany, UnknownKind, BadThreshold, BadCoordinate, LengthMismatch}
 use Rattle.graph.specs.declared.refusal.Checked.{Checked}
 use Rattle.graph.specs.declared.refusal.Checked.the-variants.{Passed, Failed}
-use Rattle.graph.specs.Refusal.{refusalNumber, andThen}
-use Rattle.graph.specs.SplineColors.{colorSplines, checkSplines, checkDistances}
+use Rattle.graph.specs.Refusal.{refusalNumber, require, andThen}
+use Rattle.graph.specs.SplineColors.{colorSplines, checkSplines}
 use Rattle.graph.specs.Lists.{all}
 use Rattle.graph.specs.Answers.{Answer, values, refusal, Check, unless, firstOf, checkedAnswer, distanceChecks, told-require, told-distances}
 use Rattle.coloring.specs.declared.settings.Strategy.{Strategy}
@@ -26,7 +26,7 @@ use Rattle.coloring.specs.Shape.{painted, countsOf}
 use Rattle.coloring.specs.Corners.{Cornered, searchCorners}
 use Rattle.coloring.specs.Splines.{splineTotal}
 use Rattle.coloring.specs.EdgeColoring.{edgeColoring}
-use Rattle.coloring.specs.ByDistance.{maxDistances, splineByte, withBytes, collectSplines, edgeColoringByDistance}
+use Rattle.coloring.specs.ByDistance.{splineByte, withBytes, collectSplines, edgeColoringByDistance}
 
 -- ---- colourings: 4, 8, 5, 7, 6, splines 4, distance count 8, 9, 11
 
@@ -41,8 +41,8 @@ outlineChecks o threshold =
     ∷ []
 
 -- the values: the edges of the result, and their splines
-abbrev pub counted : List Cornered → Result → Answer
-counted found written = values (length (written .kinds) ∷ splineTotal found ∷ [])
+abbrev pub countedAnswer : List Cornered → Result → Answer
+countedAnswer found written = values (length (written .kinds) ∷ splineTotal found ∷ [])
 
 told-check : (told : Checked → Answer) → ((r : Refusal) → told (Failed r) ≡ refusal (refusalNumber r))
     → (o : Outline) (threshold : Float) (checks : List Check) (answer : Answer)
@@ -71,7 +71,7 @@ module _ (o : Outline) (threshold : Float) (old : Result) where
 
     pub coloring-in-numbers :
         coloredAnswer (edgeColoring (record { marking = Colors strategy seed; threshold = threshold }) o old .answer)
-        ≡ firstOf (outlineChecks o threshold ++ (unless 11 (fits written old) ∷ [])) (counted found written)
+        ≡ firstOf (outlineChecks o threshold ++ (unless 11 (fits written old) ∷ [])) (countedAnswer found written)
     unfolding edgeColoring countsOf
     coloring-in-numbers =
         let counts = countsOf found written in
@@ -87,13 +87,13 @@ module _ (o : Outline) (threshold : Float) (old : Result) where
 
   pub collecting-in-numbers :
       coloredAnswer (collectSplines o threshold old .answer)
-      ≡ firstOf (outlineChecks o threshold ++ (unless 4 (leb splines 64) ∷ unless 11 (fits collected old) ∷ [])) (counted found collected)
+      ≡ firstOf (outlineChecks o threshold ++ (unless 4 (leb splines 64) ∷ unless 11 (fits collected old) ∷ [])) (countedAnswer found collected)
   unfolding edgeColoring countsOf
   collecting-in-numbers =
       let counts = countsOf found collected in
       let told = told-after counts collected old in
       let fails = told-refused counts collected old in
-      told-check (λ checked. told (andThen checked (checkSplines splines Passed))) fails o threshold _ _
+      told-check (λ checked. told (andThen checked (require (leb splines 64) TooMany Passed))) fails o threshold _ _
       (told-require told fails (leb splines 64) TooMany Passed _ _ (told-passed counts collected old))
 
   module _ (seed : ℕ) (distances : List Float) where
@@ -104,12 +104,12 @@ module _ (o : Outline) (threshold : Float) (old : Result) where
         coloredAnswer (edgeColoringByDistance o threshold seed distances old .answer)
         ≡ firstOf
         (unless 4 (leb (length distances) 2016) ∷ outlineChecks o threshold ++ distanceChecks splines distances ++ (unless 11 (fits byDistance old) ∷ []))
-        (counted found byDistance)
-    unfolding edgeColoringByDistance countsOf maxDistances
+        (countedAnswer found byDistance)
+    unfolding edgeColoringByDistance countsOf
     by-distance-in-numbers =
         let counts = countsOf found collected in
         let fails = told-refused counts byDistance old in
-        let after : Checked → Answer = λ checked. told-after counts byDistance old (andThen checked (checkSplines splines (checkDistances splines distances))) in
+        let after : Checked → Answer = λ checked. told-after counts byDistance old (andThen checked (checkSplines splines distances)) in
         told-require after fails (leb (length distances) 2016) TooMany _ _ _
         (told-check after fails o threshold _ _
         (told-distances (told-after counts byDistance old) fails splines distances _ _ (told-passed counts byDistance old)))

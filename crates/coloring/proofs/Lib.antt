@@ -1,4 +1,5 @@
 -- Laws that the proofs of several modules share, and a theorem about the definitions.
+pub mod Lists
 pub mod Places
 pub mod ChannelLaws
 pub mod TrichotomyExact

@@ -8,9 +8,9 @@ use native.Mathlib.Decide.{decLt}
 use native.Mathlib.Omega.{arith}
 use lib.ListN.{length, getD, take, drop, set, length-drop, length-map, length-set, List·getD-append}
 use lib.Seq.{getD-take, getD-drop, getD-append-add, getD-set-same, getD-set-other, ext-getD}
-use Rattle.graph.proofs.Lists.{map-take, map-drop}
 use Rattle.coloring.specs.Places.{rotate, byPlace}
 use Rattle.coloring.specs.Sizes.{length-byPlace}
+use Rattle.coloring.proofs.Lists.{map-take, map-drop}
 
 -- ---- the place after k steps from a start, of m
 

@@ -1,2 +1,2 @@
 -- Laws on by-distance colouring of outlines: the bytes of a result replaced.
-pub mod RecolorLaws
+pub mod ReplaceLaws

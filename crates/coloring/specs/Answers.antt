@@ -1,4 +1,4 @@
--- The answers of colourings in document 01's terms, as graph's Answers has those of an offer.
+-- The answers of colourings in document 01's terms, as graph's Answers has those of an offer and of checks.
 use mathlib.Core.Path.{_≡_, refl}
 use mathlib.Core.Bool.{Bool, true, false}
 use mathlib.Core.List.{[], _∷_}

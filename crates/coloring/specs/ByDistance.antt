@@ -11,7 +11,7 @@ use Rattle.geometry.specs.declared.edge_color.EdgeColor.{EdgeColor}
 use Rattle.geometry.specs.declared.edge_color.EdgeColor.the-variants.{Yellow, Cyan, Magenta, White}
 use Rattle.graph.specs.declared.refusal.Refusal.the-variants.{TooMany}
 use Rattle.graph.specs.declared.refusal.Checked.{Checked}
-use Rattle.graph.specs.SplineColors.{checkSplines, checkDistances, colorSplines}
+use Rattle.graph.specs.SplineColors.{maxDistances, checkSplines, colorSplines}
 use Rattle.graph.specs.Refusal.{require, andThen}
 use Rattle.coloring.specs.declared.outline.Colored.{Colored}
 use Rattle.coloring.specs.declared.outline.Colored.the-variants.{Edges, Refused}
@@ -50,26 +50,23 @@ abbrev pub byDistanceAfter : Checked → List Cornered → ℕ → List Float �
 byDistanceAfter checked found seed distances old =
     let splines = splineTotal found in
     let collected = painted Numbers found in
-    deliver (andThen checked (checkSplines splines (checkDistances splines distances)))
+    deliver (andThen checked (checkSplines splines distances))
     (countsOf found collected) (withBytes (splineByte (colorSplines splines distances seed)) collected) old
-
-unfoldable pub maxDistances : ℕ
-maxDistances = 2016
 
 -- too many distances count with too many contours and edges
 unfoldable pub edgeColoringByDistance : Outline → Float → ℕ → List Float → Result → Outcome
-unfolding searchCorners contours check deliver painted countsOf maxDistances splineColor
+unfolding searchCorners contours check deliver painted countsOf splineColor
 edgeColoringByDistance o threshold seed distances =
     byDistanceAfter (require (leb (length distances) maxDistances) TooMany (check o threshold)) (map (searchCorners threshold) (contours o)) seed distances
 
 -- ---- what the functions behind it promise each other
 
 -- the bytes of a result's edges mapped, the rest as it is; where there is none, all as it is
-abbrev pub recolored : (ℕ → ℕ) → Colored → List ℕ → List ℕ
-recolored byte (Edges counts) bytes = map byte (take (counts .edges) bytes) ++ drop (counts .edges) bytes
-recolored byte (Refused refusal) bytes = bytes
+abbrev pub bytesReplaced : (ℕ → ℕ) → Colored → List ℕ → List ℕ
+bytesReplaced byte (Edges counts) bytes = map byte (take (counts .edges) bytes) ++ drop (counts .edges) bytes
+bytesReplaced byte (Refused refusal) bytes = bytes
 
 -- the edges counted stand there
-abbrev pub Recolorable : Colored → List ℕ → Type 0
-Recolorable (Edges counts) bytes = counts .edges ≤ length bytes
-Recolorable (Refused refusal) bytes = Unit {0}
+abbrev pub Replaceable : Colored → List ℕ → Type 0
+Replaceable (Edges counts) bytes = counts .edges ≤ length bytes
+Replaceable (Refused refusal) bytes = Unit {0}

@@ -1,5 +1,5 @@
 -- Simple and ink-trap colouring of an outline, after `edge_coloring_simple` and `edge_coloring_ink_trap` of coloring/mod.rs, their first line
--- replaced by the given threshold.
+-- replaced by the given threshold; and the one definition behind them and the collecting pass.
 use Prim.Native.Nat.{ℕ}
 use mathlib.Core.List.{map}
 use lib.Ieee.{Float}

@@ -102,7 +102,9 @@ abbrev into : List ℕ → Outcome
 into colors = edgeColoringSimple square eighth 0 (room 1 colors)
 
 -- refutes one that refuses a result that fits exactly, or writes beyond it
-pub exactly-fits : (into (9 ∷ 9 ∷ 9 ∷ 9 ∷ 8 ∷ []) .answer ≡ Edges (record { edges = 4; splines = 4 })) × (into (9 ∷ 9 ∷ 9 ∷ 9 ∷ 8 ∷ []) .buffers .colors ≡ (5 ∷ 3 ∷ 6 ∷ 3 ∷ 8 ∷ []))
+pub exactly-fits :
+    (into (9 ∷ 9 ∷ 9 ∷ 9 ∷ 8 ∷ []) .answer ≡ Edges (record { edges = 4; splines = 4 }))
+    × (into (9 ∷ 9 ∷ 9 ∷ 9 ∷ 8 ∷ []) .buffers .colors ≡ (5 ∷ 3 ∷ 6 ∷ 3 ∷ 8 ∷ []))
 unfolding square edgeColoring cornerCount firstCorner direction sub dot cross divScalar squaredLength lengthOf normalize sqrtOf toStored fromStored Ieee.add Ieee.sub Ieee.mul Ieee.div Ieee.neg Ieee.ne Ieee.le Ieee.lt Ieee.ofBits
 exactly-fits = (refl, refl)
 

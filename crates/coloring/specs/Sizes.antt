@@ -16,8 +16,7 @@ use Rattle.geometry.specs.declared.edge_color.EdgeColor.the-variants.{White}
 use Rattle.geometry.specs.declared.edge_segment.EdgeSegment.{EdgeSegment}
 use Rattle.geometry.specs.declared.edge_segment.EdgeSegment.the-variants.{Line, Quadratic, Cubic}
 use Rattle.graph.specs.Bools.{and-left, and-right, branch-true, branch-false}
-use Rattle.graph.specs.Lists.{range}
-use Rattle.graph.proofs.Lists.{length-range}
+use Rattle.graph.specs.Lists.{range, length-range}
 use Rattle.coloring.specs.declared.switching.Pen.{Pen}
 use Rattle.coloring.specs.declared.settings.Strategy.{Strategy}
 use Rattle.coloring.specs.declared.settings.Marking.{Marking}

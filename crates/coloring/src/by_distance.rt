@@ -18,7 +18,7 @@ ghost use Rattle.graph.specs.declared.refusal.Checked.the-variants.{Passed};
 ghost use Rattle.coloring.specs.Places.{total};
 ghost use Rattle.coloring.specs.Corners.{searchCorners};
 ghost use Rattle.coloring.specs.Outline.{contours, outline, result, outcome, Matching};
-ghost use Rattle.coloring.specs.ByDistance.{collectSplines, splineColor, splineByte, recolored, byDistanceAfter, edgeColoringByDistance, Recolorable};
+ghost use Rattle.coloring.specs.ByDistance.{collectSplines, splineColor, splineByte, bytesReplaced, byDistanceAfter, edgeColoringByDistance, Replaceable};
 
 // ---- the collecting pass
 
@@ -88,8 +88,8 @@ fn color_numbers(coloring: &[u8], numbers: &mut [u8])
 
 // What was collected, with the colours of its splines.
 fn color_collected(collected: Colored, coloring: &[u8], out: &mut [u8])
-    requires { ⌜ Recolorable collected (now out) ⌝ }
-    ensures { λ _. ⌜ now (out .exit) ≡ recolored (splineByte (now (coloring .entry))) collected (now (out .entry)) ⌝ }
+    requires { ⌜ Replaceable collected (now out) ⌝ }
+    ensures { λ _. ⌜ now (out .exit) ≡ bytesReplaced (splineByte (now (coloring .entry))) collected (now (out .entry)) ⌝ }
 {
     if let Colored::Edges(counts) = collected {
         let edges = counts.edges;
@@ -97,7 +97,7 @@ fn color_collected(collected: Colored, coloring: &[u8], out: &mut [u8])
     }
 }
 
-// An outline that passed its checks, with a place for a flag an edge.
+// By-distance colouring of an outline that passed its checks, with a place for a flag an edge.
 fn color_outline_by_distance(
     lengths: &[u16],
     kinds: &[u8],

@@ -1,4 +1,5 @@
-// Simple and ink-trap colouring of an outline, after `edge_coloring_simple` and `edge_coloring_ink_trap` of coloring/mod.rs.
+// Simple and ink-trap colouring of an outline, after `edge_coloring_simple` and `edge_coloring_ink_trap` of coloring/mod.rs, and the one function behind
+// them and the collecting pass.
 use crate::corners::find_corners;
 use crate::outline::Colored;
 use crate::outline::check;

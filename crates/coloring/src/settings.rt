@@ -1,4 +1,6 @@
 // How the edges of an outline are marked: with what, and the threshold of a corner.
+
+// A colouring that goes round the contours with a pen.
 pub enum Strategy {
     Simple,
     InkTrap,
@@ -10,6 +12,7 @@ pub enum Marking {
     Numbers,
 }
 
+// What an entry asks for: what each edge is marked with, and the threshold of a corner.
 pub struct Settings {
     pub marking: Marking,
     pub threshold: f64,

@@ -166,7 +166,7 @@ fn number_contours(lengths: &[u16], flags: &[bool], out: &mut [u8])
         first += number_part(flags, at, end, first, to, next, out);
         at = end;
         to = next;
-        i += 1;
+        i += 1; // on to the next numbers
     }
 }
 
@@ -216,7 +216,7 @@ fn has_room(
     edges <= colors
 }
 
-// Whether so many splines can be marked: numbers go to 64 at most.
+// Whether so many splines can be marked: at most 64 are numbered.
 fn can_mark(marking: Marking, splines: usize) -> bool
     ensures { λ r. ⌜ r ≡ markable marking splines ⌝ }
 {
@@ -251,7 +251,8 @@ fn mark_contours(
     }
 }
 
-// Contours with their corners: 4 where their splines are too many for numbers; 11 where the counted result is longer than a buffer; then the edges and a byte for each.
+// Contours with their corners: 4 where their splines are too many for numbers; 11 where the counted result is longer than a
+// buffer; then the edges and a byte for each.
 pub(crate) fn paint_shape(
     marking: Marking,
     lengths: &[u16],

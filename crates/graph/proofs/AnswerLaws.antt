@@ -8,7 +8,7 @@ use lib.ListN.{length}
 use lib.Dec.{leb, ltb, eqb}
 use lib.Ieee.{Float}
 use Rattle.graph.specs.SplineTable.{Table, sound, tryAddEdge, offer}
-use Rattle.graph.specs.SplineColors.{check}
+use Rattle.graph.specs.SplineColors.{checkSplines}
 use Rattle.graph.specs.Answers.{values, Check, unless, firstOf, offerAnswer, checkedAnswer, distanceChecks, told-distances}
 use Rattle.graph.specs.Bools.{split}
 
@@ -35,6 +35,6 @@ offer-in-numbers t a b =
 
 -- ---- the colours of splines: 4, 8, 9
 
-pub splines-in-numbers : (splines : ℕ) (distances : List Float) → checkedAnswer (check splines distances) ≡ firstOf (distanceChecks splines distances) (values [])
+pub splines-in-numbers : (splines : ℕ) (distances : List Float) → checkedAnswer (checkSplines splines distances) ≡ firstOf (distanceChecks splines distances) (values [])
 unfolding firstOf
 splines-in-numbers splines distances = told-distances checkedAnswer (λ r. refl) splines distances [] (values []) refl

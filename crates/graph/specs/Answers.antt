@@ -2,7 +2,7 @@
 -- an offer, what checks find.
 use Prim.Native.Nat.{ℕ, _*_, _-_, _/_}
 use mathlib.Core.Path.{_≡_}
-use mathlib.Core.Bool.{Bool, true, false}
+use mathlib.Core.Bool.{Bool, true, false, _&&_}
 use mathlib.Core.List.{List, [], _∷_, _++_}
 use lib.Dec.{leb, eqb}
 use lib.ListN.{length}
@@ -15,7 +15,7 @@ use Rattle.graph.specs.declared.spline_table.Offer.{Offer}
 use Rattle.graph.specs.declared.spline_table.Offer.the-variants as offer
 use Rattle.graph.specs.Refusal.{refusalNumber, require}
 use Rattle.graph.specs.PairOrder.{distancesValid}
-use Rattle.graph.specs.SplineColors.{check}
+use Rattle.graph.specs.SplineColors.{checkSplines}
 
 pub data Answer : Type 0 where
   values : List ℕ → Answer
@@ -54,17 +54,17 @@ unfolding firstOf
 told-require told fails true r next checks answer e = e
 told-require told fails false r next checks answer e = fails r
 
--- the checks of splines and their distances: splines 4, distance count 8, 9
+-- the checks of splines and their distances: too many of either 4, distance count 8, 9
 abbrev pub distanceChecks : ℕ → List Float → List Check
 distanceChecks splines distances =
-    unless 4 (leb splines 64)
+    unless 4 (leb splines 64 && leb (length distances) 2016)
     ∷ unless 8 (eqb (length distances) (splines * (splines - 1) / 2))
     ∷ unless 9 (distancesValid distances)
     ∷ []
 
 pub told-distances : (told : Checked → Answer) → ((r : Refusal) → told (Failed r) ≡ refusal (refusalNumber r))
     → (splines : ℕ) (distances : List Float) (checks : List Check) (answer : Answer)
-    → told Passed ≡ firstOf checks answer → told (check splines distances) ≡ firstOf (distanceChecks splines distances ++ checks) answer
+    → told Passed ≡ firstOf checks answer → told (checkSplines splines distances) ≡ firstOf (distanceChecks splines distances ++ checks) answer
 told-distances told fails splines distances checks answer e =
     told-require told fails _ TooMany _ _ answer
     (told-require told fails _ LengthMismatch _ _ answer

@@ -1,5 +1,6 @@
 -- Lists: ranges, a test of all elements, a part written over what stood there.
 use Prim.Native.Nat.{ℕ, zero, suc}
+use mathlib.Core.Path.{_≡_, refl, ap}
 use mathlib.Core.Bool.{Bool, true, _&&_}
 use mathlib.Core.List.{List, [], _∷_, _++_}
 use lib.ListN.{length, take, drop}
@@ -8,6 +9,11 @@ use lib.ListN.{length, take, drop}
 unfoldable pub range : ℕ → ℕ → List ℕ
 range i zero = []
 range i (suc k) = i ∷ range (suc i) k
+
+pub length-range : (i k : ℕ) → length (range i k) ≡ k
+unfolding range
+length-range i zero = refl
+length-range i (suc k) = ap suc (length-range (suc i) k)
 
 unfoldable pub all : {A : Type 0} → (A → Bool) → List A → Bool
 all test [] = true

@@ -1,9 +1,11 @@
 -- Offers computed from the definition; each refutes a wrong program.
 use Prim.Native.Nat.{ℕ}
 use mathlib.Core.Path.{_≡_, refl}
-use mathlib.Core.List.{List, [], _∷_, _++_}
-use Rattle.graph.specs.SplineTable.{tableOf, outcome, offer}
-use Rattle.graph.specs.declared.spline_table.Offer.the-variants.{Kept, Declined}
+use mathlib.Core.List.{List, [], _∷_, _++_, map}
+use lib.ListN.{replicate}
+use Rattle.graph.specs.declared.refusal.Refusal.the-variants.{TooMany, LengthMismatch, BadTable}
+use Rattle.graph.specs.declared.spline_table.Offer.the-variants.{Kept, Declined, Refused}
+use Rattle.graph.specs.SplineTable.{Table, tableOf, outcome, offer}
 
 -- refutes one that takes the lowest free colour: of {0, 2} spline 1 takes 2
 pub takes-2-of-0-and-2 : offer (tableOf (1 ∷ 1 ∷ []) (0 ∷ 0 ∷ 0 ∷ 0 ∷ [])) 0 1 ≡ outcome (Kept 0) (1 ∷ 2 ∷ []) (0 ∷ 1 ∷ 1 ∷ 0 ∷ [])
@@ -46,3 +48,35 @@ pub upper-wait-first :
     ≡ Kept 2
 unfolding offer
 upper-wait-first = refl
+
+-- refutes one that enters no pair where the colours differ, or recolours there
+pub colors-differ : offer (tableOf (0 ∷ 1 ∷ []) (0 ∷ 0 ∷ 0 ∷ 0 ∷ [])) 0 1 ≡ outcome (Kept 0) (0 ∷ 1 ∷ []) (0 ∷ 1 ∷ 1 ∷ 0 ∷ [])
+unfolding offer
+colors-differ = refl
+
+-- ---- refusals
+
+-- refutes one that enters the pair before it refuses, or takes a spline with itself
+pub refused-unchanged : offer (tableOf (0 ∷ 0 ∷ []) (0 ∷ 0 ∷ 0 ∷ 0 ∷ [])) 1 1 ≡ outcome (Refused BadTable) (0 ∷ 0 ∷ []) (0 ∷ 0 ∷ 0 ∷ 0 ∷ [])
+unfolding offer
+refused-unchanged = refl
+
+-- refutes another order of the refusals, one that refuses 64 splines, and one that takes a spline that is not there
+pub refusals-in-order :
+    (offer (tableOf (replicate 65 3) []) 0 0 .answer ≡ Refused TooMany)
+    × (offer (tableOf (replicate 64 3) []) 0 0 .answer ≡ Refused LengthMismatch)
+    × (offer (tableOf (0 ∷ 0 ∷ []) (0 ∷ 0 ∷ 0 ∷ 0 ∷ [])) 0 2 .answer ≡ Refused BadTable)
+unfolding offer
+refusals-in-order = (refl, refl, refl)
+
+-- refutes one that misses a fault: a colour above 2, an entry above 1, entries that differ both ways round, a spline that touches itself
+pub bad-tables :
+    map (λ (t : Table). offer t 0 1 .answer)
+    (tableOf (3 ∷ 0 ∷ []) (0 ∷ 0 ∷ 0 ∷ 0 ∷ [])
+    ∷ tableOf (0 ∷ 0 ∷ []) (0 ∷ 2 ∷ 2 ∷ 0 ∷ [])
+    ∷ tableOf (0 ∷ 0 ∷ []) (0 ∷ 1 ∷ 0 ∷ 0 ∷ [])
+    ∷ tableOf (0 ∷ 0 ∷ []) (1 ∷ 0 ∷ 0 ∷ 0 ∷ [])
+    ∷ [])
+    ≡ replicate 4 (Refused BadTable)
+unfolding offer
+bad-tables = refl

@@ -61,7 +61,7 @@ pub record Sorting (order work : List ℕ) (distances : List Float) : Type 0 whe
 
 -- ---- pairs as numbers
 
--- a pair as one number, and back
+-- the code of a pair, and the pair of a code
 abbrev pub code : Pair → ℕ
 code p = p .a * 64 + p .b
 

@@ -1,7 +1,7 @@
 -- By-distance colouring without outlines: from n splines, their distances and a seed to the splines' colours, after coloring/by_distance.rs from
 -- "Sorted list of graph edges" to the end of the offers (document 01, leaf 7). Spline colours 0, 1, 2 are Yellow, Cyan, Magenta.
 use mathlib.Core.Path.{_≡_}
-use mathlib.Core.Bool.{Bool, true, false}
+use mathlib.Core.Bool.{Bool, true, false, _&&_}
 use mathlib.Core.List.{List, [], _∷_, map}
 use Prim.Native.Nat.{ℕ, _*_, _-_, _/_, _≤_}
 use lib.Dec.{leb, eqb}
@@ -72,17 +72,15 @@ colorSplines n distances seed = offerSplines n distances seed .ends .table .colo
 abbrev pub maxSplines : ℕ
 maxSplines = 64
 
--- splines 4
-abbrev pub checkSplines : ℕ → Checked → Checked
-checkSplines splines next = require (leb splines maxSplines) TooMany next
+abbrev pub maxDistances : ℕ
+maxDistances = 2016
 
--- one distance a pair, else 8; each of them finite and not below zero, else 9
-abbrev pub checkDistances : ℕ → List Float → Checked
-checkDistances splines distances =
-    require (eqb (length distances) (splines * (splines - 1) / 2)) LengthMismatch (require (distancesValid distances) BadDistance Passed)
-
-abbrev pub check : ℕ → List Float → Checked
-check splines distances = checkSplines splines (checkDistances splines distances)
+-- splines or distances above the maximum 4; one distance a pair, else 8; each of them finite and not below zero, else 9
+abbrev pub checkSplines : ℕ → List Float → Checked
+checkSplines splines distances =
+    require (leb splines maxSplines && leb (length distances) maxDistances) TooMany
+    (require (eqb (length distances) (splines * (splines - 1) / 2)) LengthMismatch
+    (require (distancesValid distances) BadDistance Passed))
 
 -- the colours where the checks passed, else what stood there
 abbrev pub coloringAfter : Checked → List ℕ → List ℕ → List ℕ

@@ -6,6 +6,7 @@ use Prim.Native.Nat.{ℕ}
 use lib.Ieee as Ieee
 use lib.Ieee.{Float, nan, inf, fin}
 use lib.IntN.{pos}
+use lib.ListN.{replicate}
 use Rattle.math.specs.Scalar.{f0, f1}
 use Rattle.graph.specs.declared.refusal.Refusal.the-variants.{TooMany, LengthMismatch, BadDistance}
 use Rattle.graph.specs.declared.refusal.Checked.the-variants.{Passed, Failed}
@@ -15,7 +16,7 @@ use Rattle.graph.specs.SplineTable.{offer}
 use Rattle.graph.specs.Sequence.{Pair}
 use Rattle.graph.specs.PairOrder.{validDistance, pairOrder}
 use Rattle.graph.specs.SecondDegree.{startingColor}
-use Rattle.graph.specs.SplineColors.{zeroPairs, offerSplines, colorSplines, check}
+use Rattle.graph.specs.SplineColors.{zeroPairs, offerSplines, colorSplines, checkSplines, coloringAfter}
 
 abbrev minus0 : Float
 minus0 = fin true 0 (pos 0)
@@ -30,13 +31,15 @@ pairs (a ∷ firsts) (b ∷ seconds) = record { a = a; b = b } ∷ pairs firsts 
 abbrev pub squareDistances : List Float
 squareDistances = f0 ∷ f1 ∷ f0 ∷ f0 ∷ f1 ∷ f0 ∷ []
 
--- refutes starting colours that are the lowest free ones (0, 1, 0, 1), and a declined offer that leaves its walk's colours
+-- refutes a declined offer that leaves its walk's colours, and equal distances taken in the other order
 pub square-colors : colorSplines 4 squareDistances 0 ≡ (0 ∷ 1 ∷ 2 ∷ 1 ∷ [])
 unfolding offerSplines offer Ieee.lt Ieee.eq Ieee.ofBits
 square-colors = refl
 
 -- refutes a walk with another bound, zero pairs that are offered, and offers in another order
-pub square-answers : (offerSplines 4 squareDistances 0 .pairs ≡ pairs (0 ∷ 1 ∷ []) (2 ∷ 3 ∷ [])) × (offerSplines 4 squareDistances 0 .ends .answers ≡ (Kept 0 ∷ Declined 16 ∷ []))
+pub square-answers :
+    (offerSplines 4 squareDistances 0 .pairs ≡ pairs (0 ∷ 1 ∷ []) (2 ∷ 3 ∷ []))
+    × (offerSplines 4 squareDistances 0 .ends .answers ≡ (Kept 0 ∷ Declined 16 ∷ []))
 unfolding offerSplines offer Ieee.lt Ieee.eq Ieee.ofBits
 square-answers = (refl, refl)
 
@@ -80,6 +83,12 @@ pub four-touch : colorSplines 4 (f0 ∷ f0 ∷ f0 ∷ f0 ∷ f0 ∷ f0 ∷ []) 0
 unfolding offerSplines Ieee.lt Ieee.eq Ieee.ofBits
 four-touch = refl
 
+-- Four splines in a row, each at distance zero from the next, seed 4: starting colours 1, 0, 1, 2. Refutes a program that makes no offers, draws from
+-- the whole seed for each spline, starts with the lowest free colours, offers the zero pairs, or takes equal distances in the other order.
+pub four-in-a-row : colorSplines 4 (f0 ∷ f1 ∷ f1 ∷ f0 ∷ f1 ∷ f0 ∷ []) 4 ≡ (1 ∷ 0 ∷ 2 ∷ 0 ∷ [])
+unfolding offerSplines offer Ieee.lt Ieee.eq Ieee.ofBits
+four-in-a-row = refl
+
 -- refutes a program that needs a pair: no splines, and one
 pub no-pairs : (colorSplines 0 [] 5 ≡ []) × (colorSplines 1 [] 5 ≡ (2 ∷ []))
 unfolding offerSplines
@@ -88,15 +97,26 @@ no-pairs = (refl, refl)
 -- ---- the refusals, and their order
 
 -- refutes one that refuses always: the square's distances pass
-pub square-passes : check 4 squareDistances ≡ Passed
+pub square-passes : checkSplines 4 squareDistances ≡ Passed
 unfolding all validDistance Ieee.le Ieee.lt Ieee.ofBits
 square-passes = refl
 
 -- refutes one that counts the distances first: 65 splines and no distance give 4
-pub splines-first : (check 65 [] ≡ Failed TooMany) × (check 64 [] ≡ Failed LengthMismatch)
+pub splines-first : (checkSplines 65 [] ≡ Failed TooMany) × (checkSplines 64 [] ≡ Failed LengthMismatch)
 splines-first = (refl, refl)
 
+-- refutes one that writes and then refuses, leaves what stood there, or draws without the spline's number
+pub written-where-passed :
+    (coloringAfter (checkSplines 2 (nan ∷ [])) (colorSplines 2 (nan ∷ []) 3) (9 ∷ 9 ∷ []) ≡ (9 ∷ 9 ∷ []))
+    × (coloringAfter (checkSplines 2 (f1 ∷ [])) (colorSplines 2 (f1 ∷ []) 3) (9 ∷ 9 ∷ []) ≡ (0 ∷ 2 ∷ []))
+unfolding offerSplines offer all validDistance Ieee.le Ieee.lt Ieee.eq Ieee.ofBits
+written-where-passed = (refl, refl)
+
+-- refutes one that has 8 for too many distances
+pub distances-many : checkSplines 0 (replicate 2017 f0) ≡ Failed TooMany
+distances-many = refl
+
 -- refutes one that looks at the distances before their count
-pub count-first : (check 3 (nan ∷ []) ≡ Failed LengthMismatch) × (check 2 (nan ∷ []) ≡ Failed BadDistance)
+pub count-first : (checkSplines 3 (nan ∷ []) ≡ Failed LengthMismatch) × (checkSplines 2 (nan ∷ []) ≡ Failed BadDistance)
 unfolding all validDistance Ieee.le Ieee.lt Ieee.ofBits
 count-first = (refl, refl)

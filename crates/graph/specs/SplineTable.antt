@@ -5,7 +5,6 @@ use Prim.Native.Nat.{ℕ, zero, suc, _+_, _*_}
 use lib.ListN.{length, getD, set}
 use lib.Dec.{leb, ltb, eqb}
 use Rattle.graph.specs.Recolor.{row, vertexPossibleColors, firstPossibleColor, Walk, recolored, stopped, recolor}
-pub use Rattle.graph.specs.Recolor.{Offerable}
 use Rattle.graph.specs.declared.refusal.Refusal.the-variants.{TooMany, LengthMismatch, BadTable}
 use Rattle.graph.specs.declared.spline_table.Offer.{Offer}
 use Rattle.graph.specs.declared.spline_table.Offer.the-variants.{Kept, Declined, Refused}

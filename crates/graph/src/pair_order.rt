@@ -110,7 +110,7 @@ pub(crate) fn sort_by_distance(order: &mut [u16], work: &mut [u16], distances: &
     merge_halves(order, work, distances, half);
 }
 
-// The pairs i < j of n splines, by i then j, each as the number i * 64 + j.
+// The pairs i < j of n splines, by i then j, each as its code i * 64 + j.
 fn fill_pairs(codes: &mut [u16], n: usize)
     requires { ⌜ (n ≤ 64) × (length (now codes) ≡ length (pairsFrom 0 n)) ⌝ }
     ensures { λ r. ⌜ now (codes .exit) ≡ map code (pairsFrom 0 n) ⌝ }
@@ -140,7 +140,7 @@ fn count_up(order: &mut [u16])
     }
 }
 
-// The pairs of n splines by their numbers, and the numbers in the order of the pairs.
+// The codes of the pairs of n splines, by i then j, and the pairs' numbers in the order of their distances.
 pub(crate) fn order_pairs(codes: &mut [u16], order: &mut [u16], distances: &[f64], n: usize)
     requires { ⌜ Distances n (now distances) × (length (now codes) ≡ length (now distances)) × (length (now order) ≡ length (now distances)) ⌝ }
     ensures { λ r. ⌜ InOrder n (now (codes .exit)) (now (order .exit)) (now (distances .entry)) ⌝ }

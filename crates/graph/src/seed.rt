@@ -8,6 +8,7 @@ pub struct Draw {
     pub seed: u64,
 }
 
+// The seed mod 2, and its half.
 pub fn seed_extract2(seed: u64) -> Draw
     ensures { λ r. ⌜ r ≡ seedExtract2 seed ⌝ }
 {
@@ -17,6 +18,7 @@ pub fn seed_extract2(seed: u64) -> Draw
     }
 }
 
+// The seed mod 3, and its third.
 pub fn seed_extract3(seed: u64) -> Draw
     ensures { λ r. ⌜ r ≡ seedExtract3 seed ⌝ }
 {

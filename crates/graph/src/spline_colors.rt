@@ -16,10 +16,10 @@ ghost use Rattle.graph.specs.SplineTable.{tableOf};
 ghost use Rattle.graph.specs.Sequence.{run};
 ghost use Rattle.graph.specs.PairOrder.{Distances, pairOrder};
 ghost use Rattle.graph.specs.PairNumbers.{Below, pairAt};
-ghost use Rattle.graph.specs.SplineColors.{zeroPairs, otherPairs, enterPairs, colorSplines, check, coloringAfter, OfferableAll, Ordered};
+ghost use Rattle.graph.specs.SplineColors.{zeroPairs, otherPairs, enterPairs, colorSplines, checkSplines, coloringAfter, OfferableAll, Ordered};
 
-// The pair at place k of the order, as one number.
-fn pair_at(codes: &[u16], order: &[u16], k: usize) -> u16
+// The code of the pair at place k of the order.
+fn code_at(codes: &[u16], order: &[u16], k: usize) -> u16
     requires { ⌜ Below (length (now codes)) (now order) × (k < length (now order)) ⌝ }
     ensures { λ r. ⌜ r ≡ getD (now (codes .entry)) (getD (now (order .entry)) k 0) 0 ⌝ }
 {
@@ -45,9 +45,9 @@ fn enter_zero_pairs(
         if distance_at(order, distances, k) != 0.0 {
             return k;
         }
-        let pair = pair_at(codes, order, k);
-        let a = (pair / 64) as usize;
-        let b = (pair % 64) as usize;
+        let code = code_at(codes, order, k);
+        let a = (code / 64) as usize;
+        let b = (code % 64) as usize;
         enter_pair(edge_matrix, n, a, b, 1);
         k += 1;
     }
@@ -70,9 +70,9 @@ fn offer_pairs(
 {
     let mut k = from;
     while k < order.len() {
-        let pair = pair_at(codes, order, k);
-        let a = (pair / 64) as usize;
-        let b = (pair % 64) as usize;
+        let code = code_at(codes, order, k);
+        let a = (code / 64) as usize;
+        let b = (code % 64) as usize;
         try_add_edge_unchecked(coloring, edge_matrix, a, b);
         k += 1;
     }
@@ -130,10 +130,13 @@ fn pair_count(splines: usize) -> usize
 }
 
 // The first refusal of so many splines and their distances.
-fn check(splines: usize, distances: &[f64]) -> Checked
-    ensures { λ r. ⌜ r ≡ check splines (now (distances .entry)) ⌝ }
+fn check_splines(splines: usize, distances: &[f64]) -> Checked
+    ensures { λ r. ⌜ r ≡ checkSplines splines (now (distances .entry)) ⌝ }
 {
     if splines > 64 {
+        return Checked::Failed(Refusal::TooMany);
+    }
+    if distances.len() > 2016 {
         return Checked::Failed(Refusal::TooMany);
     }
     if distances.len() != pair_count(splines) {
@@ -147,11 +150,11 @@ fn check(splines: usize, distances: &[f64]) -> Checked
 
 // The colours 0 to 2 of as many splines as `coloring` has places, from the distance of each pair i < j, by i then j.
 pub fn color_splines(distances: &[f64], seed: u64, coloring: &mut [u8]) -> Checked
-    ensures answer { λ r. ⌜ r ≡ check (length (now (coloring .entry))) (now (distances .entry)) ⌝ }
+    ensures answer { λ r. ⌜ r ≡ checkSplines (length (now (coloring .entry))) (now (distances .entry)) ⌝ }
     ensures colors { λ r. ⌜ now (coloring .exit)
         ≡ coloringAfter r (colorSplines (length (now (coloring .entry))) (now (distances .entry)) seed) (now (coloring .entry)) ⌝ }
 {
-    let checked = check(coloring.len(), distances);
+    let checked = check_splines(coloring.len(), distances);
     if let Checked::Failed(_) = checked {
         return checked;
     }

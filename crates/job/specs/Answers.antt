@@ -10,7 +10,7 @@ use Rattle.graph.specs.Refusal.{refusalNumber}
 use Rattle.graph.specs.declared.refusal.Refusal.{Refusal}
 use Rattle.graph.specs.declared.refusal.Checked.{Checked}
 use Rattle.graph.specs.declared.refusal.Checked.the-variants.{Passed, Failed}
-use Rattle.graph.specs.SplineColors.{checkSplines, checkDistances}
+use Rattle.graph.specs.SplineColors.{checkSplines}
 use Rattle.graph.specs.Answers.{Answer, values, refusal, Check, unless, firstOf, distanceChecks, told-distances}
 use Rattle.coloring.specs.Answers.{coloredAnswer, told-after, told-refused, told-passed}
 use Rattle.coloring.specs.Splines.{splineTotal}
@@ -82,7 +82,7 @@ told-job told fails job checks answer e = go (eqb (job .strategy) 1) (eqb (job .
     splines = splineTotal (foundIn job)
 
     go : (simple inkTrap : Bool)
-        → told (cond simple Passed (cond inkTrap Passed (checkSplines splines (checkDistances splines (job .distances)))))
+        → told (cond simple Passed (cond inkTrap Passed (checkSplines splines (job .distances))))
         ≡ firstOf (cond simple [] (cond inkTrap [] (distanceChecks splines (job .distances))) ++ checks) answer
     go true inkTrap = e
     go false true = e

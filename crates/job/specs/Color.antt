@@ -9,7 +9,7 @@ use Rattle.geometry.specs.declared.edge_segment.EdgeSegment.{EdgeSegment}
 use Rattle.graph.specs.declared.refusal.Checked.{Checked}
 use Rattle.graph.specs.declared.refusal.Checked.the-variants.{Passed, Failed}
 use Rattle.graph.specs.Refusal.{refusalNumber}
-use Rattle.graph.specs.SplineColors.{colorSplines, check}
+use Rattle.graph.specs.SplineColors.{colorSplines, checkSplines}
 use Rattle.coloring.specs.declared.outline.Counts.{Counts}
 use Rattle.coloring.specs.declared.outline.Colored.{Colored}
 use Rattle.coloring.specs.declared.outline.Colored.the-variants.{Edges, Refused}
@@ -41,7 +41,7 @@ unfoldable pub checkJob : Job → Checked
 unfolding foundIn splineTotal
 checkJob job =
     let splines = splineTotal (foundIn job) in
-    byStrategy (job .strategy) Passed Passed (check splines (job .distances))
+    byStrategy (job .strategy) Passed Passed (checkSplines splines (job .distances))
 
 -- the edges of its coloured shape, contour by contour
 unfoldable pub coloredEdges : Job → List (List EdgeSegment)

@@ -16,13 +16,13 @@ use Rattle.geometry.specs.EdgeColor.{bitsOf, fromBits}
 use Rattle.geometry.specs.declared.edge_color.EdgeColor.{EdgeColor}
 use Rattle.geometry.specs.declared.edge_color.EdgeColor.the-variants.{Black}
 use Rattle.graph.specs.Bools.{branch-true, branch-false}
-use Rattle.graph.specs.Lists.{range}
-use Rattle.graph.proofs.Lists.{length-range, range-snoc}
+use Rattle.graph.specs.Lists.{range, length-range}
 use Rattle.coloring.specs.declared.switching.Pen.{Pen}
 use Rattle.coloring.specs.declared.ink_trap.InkTrapCorner.{InkTrapCorner}
 use Rattle.coloring.specs.Switching.{shared, switchColorBanned, bannedBefore, SplineColors, Drawn}
 use Rattle.coloring.specs.Corners.{Cornered}
 use Rattle.coloring.specs.InkTrap.{withMinor, withColor, noCorner, closed, closeFirst, around, isMinor, Measured, markMinors, majorCount, isBlack, Inked, colorMajors, colorMinors, measureCorners, colorCorners, inkTrapColors}
+use Rattle.coloring.proofs.Lists.{range-snoc}
 
 -- ---- minor corners
 

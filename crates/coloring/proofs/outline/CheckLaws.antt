@@ -12,9 +12,9 @@ use lib.ListN.{length, take, drop, getD, drop-of-length-le}
 use lib.Seq.{drop-cons, drop-drop}
 use Rattle.graph.specs.Bools.{and-right}
 use Rattle.graph.specs.Lists.{all}
-use Rattle.graph.proofs.Lists.{all-at}
 use Rattle.coloring.specs.Places.{total}
 use Rattle.coloring.specs.Outline.{knownKind, inRange, usedPlaces, coordinatesFit}
+use Rattle.coloring.proofs.Lists.{all-at}
 
 pub total-step : (lengths : List ℕ) (i : ℕ) → i < length lengths → total (drop i lengths) ≡ getD lengths i 0 + total (drop (i + 1) lengths)
 unfolding total

@@ -8,8 +8,8 @@ use lib.Ieee.{Float}
 use lib.ListN.{length, take, drop, getD, length-take, length-drop}
 use lib.Seq.{drop-drop, take-take}
 use Rattle.geometry.specs.declared.edge_segment.EdgeSegment.{EdgeSegment}
-use Rattle.graph.proofs.Lists.{drop-take}
 use Rattle.coloring.specs.Outline.{edgeOf, edgesOf, Matching, Part}
+use Rattle.coloring.proofs.Lists.{drop-take}
 
 pub edges-length : (kinds : List ℕ) (points : List Float) → length (edgesOf kinds points) ≡ length kinds
 unfolding edgesOf

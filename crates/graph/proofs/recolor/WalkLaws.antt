@@ -2,7 +2,7 @@
 -- counters at which a walk can end; and the turns as the code makes them, with the queue in its ring.
 use mathlib.Core.Path.{_≡_, refl, sym, ap, _∙_, subst⁻¹}
 use mathlib.Core.Logic.{_≢_}
-use mathlib.Core.List.{List, [], _∷_}
+use mathlib.Core.List.{List, [], _∷_, List·Memᴰ, List·Memᴰ·not-nil}
 use Prim.Native.Nat.{ℕ, zero, suc, _+_, _-_, _*_, _%_, _≤_, _<_}
 use native.Mathlib.Nat.{suc-add, suc-mul, mul-le-mul-right}
 use native.Mathlib.Decide.{ℕ-discrete, decLt}
@@ -11,11 +11,15 @@ use lib.ListN.{length, getD, set, length-set}
 use borrow.Author.Tests.{eq-eqb, ne-eqb, le-leb, lt-leb}
 use Rattle.graph.specs.Recolor.{Recoloring, Walk, recolored, stopped, uncolored, joined, row, vertexPossibleColors, firstPossibleColor, force, forcedStep, walk, walkFuel, walkFrom}
 use Rattle.graph.specs.Recolor.{ring, recoloring, Waiting, Uncoloring, Walking}
-use Rattle.graph.proofs.Lists.{member-some}
 use Rattle.graph.proofs.recolor.RowLaws.{row-length}
 use Rattle.graph.proofs.recolor.FreeColorLaws.{none-free, used-by, step-rises}
 use Rattle.graph.proofs.recolor.QueueLaws.{ring-length, ring-pop, uncolored-inside, waiting-length, waiting-pop}
 use Rattle.graph.proofs.recolor.UncolorLaws.{force-uncolors, force-joins}
+
+-- a list with an element is not empty
+member-some : {A : Type 0} {x : A} (l : List A) → List·Memᴰ x l → 0 < length l
+member-some [] m = absurd (List·Memᴰ·not-nil m)
+member-some (y ∷ l) m = omega arith
 
 module _ (n : ℕ) (edgeMatrix : List ℕ) where
   abbrev pub freeOf : List ℕ → ℕ → ℕ

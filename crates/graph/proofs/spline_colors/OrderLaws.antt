@@ -16,7 +16,7 @@ use Rattle.graph.specs.Bools.{split}
 use Rattle.graph.proofs.Lists.{drop-next}
 use Rattle.graph.proofs.recolor.RowLaws.{Matrix}
 use Rattle.graph.proofs.spline_table.TableLaws.{matrix-sound, enter-matrix}
-use Rattle.graph.proofs.spline_table.OfferLaws.{Checked}
+use Rattle.graph.proofs.spline_table.OfferLaws.{Unrefused}
 use Rattle.graph.proofs.spline_table.NoClashLaws.{Sound, offer-sound}
 use Rattle.graph.proofs.pair_order.EachLaws.{each-at, each-sort, each-map}
 use Rattle.graph.proofs.pair_order.PairLaws.{two-from}
@@ -175,7 +175,7 @@ module _ (n : ℕ) (codes order : List ℕ) (whole : Table) where
   module _ (few : n ≤ 64) (all : Each (λ k. Two n (pairAt codes k)) order) (t : Table) (k : ℕ) (o : Offers t k) (h : k < length order)
       (pair : ℕ) (e : pair ≡ getD codes (getD order k 0) 0) where
     -- no check refuses the pair at place k
-    pub checked : Checked t (decode pair .a) (decode pair .b)
+    pub checked : Unrefused t (decode pair .a) (decode pair .b)
     checked =
         let two = two-read n codes order all k pair h e in
         let s = o .isSound in

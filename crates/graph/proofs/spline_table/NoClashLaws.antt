@@ -18,7 +18,7 @@ use Rattle.graph.proofs.recolor.RowLaws.{Matrix}
 use Rattle.graph.proofs.recolor.FreeColorLaws.{possible-free}
 use Rattle.graph.proofs.recolor.ProperLaws.{Proper, proper-color, proper-differ, Ends, take-free, recolor-ends}
 use Rattle.graph.proofs.spline_table.TableLaws.{splines, sound-color, sound-matrix, matrix-sound, names?, enter-at, enter-other, enter-matrix, enter-undone}
-use Rattle.graph.proofs.spline_table.OfferLaws.{Checked, entered, rule-cases, offer-rule, offer-cases}
+use Rattle.graph.proofs.spline_table.OfferLaws.{Unrefused, entered, rule-cases, offer-rule, offer-cases}
 
 -- a sound table of n splines
 pub record Sound (n : ℕ) (t : Table) : Type 0 where
@@ -71,7 +71,7 @@ record Outcome (t : Table) (p : Pair) (o : Offered) : Type 0 where
   after : Sound (splines t) (o .table)
   one : NoClash t → OneOffer t p o
 
-module _ (t : Table) (p : Pair) (v : Checked t (p .a) (p .b)) where
+module _ (t : Table) (p : Pair) (v : Unrefused t (p .a) (p .b)) where
   abbrev n : ℕ
   n = splines t
 
@@ -197,7 +197,7 @@ module _ (t : Table) (p : Pair) (v : Checked t (p .a) (p .b)) where
 -- ---- the offer
 
 -- an offer that passes the checks is `tryAddEdge`, and leaves a sound table
-pub offer-sound : (t : Table) (a b : ℕ) → Checked t a b → (offer t a b ≡ tryAddEdge t a b) × Sound (splines t) (tryAddEdge t a b .table)
+pub offer-sound : (t : Table) (a b : ℕ) → Unrefused t a b → (offer t a b ≡ tryAddEdge t a b) × Sound (splines t) (tryAddEdge t a b .table)
 offer-sound t a b v = (offer-rule t a b v, try-outcome t (record { a = a; b = b }) v .after)
 
 pub one-offer : (t : Table) (p : Pair) → NoClash t → OneOffer t p (offer t (p .a) (p .b))

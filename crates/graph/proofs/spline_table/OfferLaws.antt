@@ -15,8 +15,8 @@ use Rattle.graph.specs.declared.refusal.Refusal.{Refusal}
 use Rattle.graph.specs.declared.refusal.Refusal.the-variants.{TooMany, LengthMismatch, BadTable}
 use Rattle.graph.specs.declared.spline_table.Offer.{Offer}
 use Rattle.graph.specs.declared.spline_table.Offer.the-variants.{Kept, Declined, Refused}
-use Rattle.graph.specs.Recolor.{row, vertexPossibleColors, firstPossibleColor, Walk, recolored, stopped, Waiting, walk, walkFuel, walkFrom, walkStart, recolor}
-use Rattle.graph.specs.SplineTable.{Table, Offered, outcome, settled, walkedOn, enter, sound, tryAddEdge, offer, Offerable}
+use Rattle.graph.specs.Recolor.{row, vertexPossibleColors, firstPossibleColor, Walk, recolored, stopped, Waiting, walk, walkFuel, walkFrom, walkStart, recolor, Offerable}
+use Rattle.graph.specs.SplineTable.{Table, Offered, outcome, settled, walkedOn, enter, sound, tryAddEdge, offer}
 use Rattle.graph.specs.Sequence.{Pair}
 use Rattle.graph.specs.Bools.{and-left, and-right, split}
 use Rattle.graph.proofs.recolor.FreeColorLaws.{others}
@@ -66,7 +66,7 @@ module _ (t : Table) (a b : ℕ) where
 -- ---- the checks
 
 -- an offer that no check refuses
-pub record Checked (t : Table) (a b : ℕ) : Type 0 where
+pub record Unrefused (t : Table) (a b : ℕ) : Type 0 where
   pub few : splines t ≤ 64
   pub size : length (t .edgeMatrix) ≡ splines t * splines t
   pub isSound : sound t ≡ true
@@ -74,8 +74,8 @@ pub record Checked (t : Table) (a b : ℕ) : Type 0 where
   pub second : b < splines t
   pub different : a ≢ b
 
-pub checked-offerable : (t : Table) (a b : ℕ) → Checked t a b → Offerable (t .coloring) (t .edgeMatrix) a b
-checked-offerable t a b v =
+pub unrefused-offerable : (t : Table) (a b : ℕ) → Unrefused t a b → Offerable (t .coloring) (t .edgeMatrix) a b
+unrefused-offerable t a b v =
     record { few = v .few; entries = v .size; first = v .first; second = v .second; color = sound-color t (v .isSound) a (v .first) }
 
 module _ (t : Table) (a b : ℕ) where
@@ -113,7 +113,7 @@ module _ (t : Table) (a b : ℕ) where
       offer-equal e = bad (rw (eq-eqb a b e) (and-false (sound t && ltb a (splines t) && ltb b (splines t))))
 
   -- an offer of two different splines of a sound table is `tryAddEdge`
-  pub offer-rule : Checked t a b → offer t a b ≡ tryAddEdge t a b
+  pub offer-rule : Unrefused t a b → offer t a b ≡ tryAddEdge t a b
   unfolding offer
   offer-rule v =
       let n = splines t in
@@ -121,14 +121,14 @@ module _ (t : Table) (a b : ℕ) where
       rw (le-leb n 64 (v .few), eq-eqb (length (t .edgeMatrix)) (n * n) (v .size), passes, offer)
 
   -- every other is refused, with the table as it came
-  pub offer-cases : (P : Offered → Type 0) → ((r : Refusal) → P (refusal r)) → (Checked t a b → P (tryAddEdge t a b)) → P (offer t a b)
+  pub offer-cases : (P : Offered → Type 0) → ((r : Refusal) → P (refusal r)) → (Unrefused t a b → P (tryAddEdge t a b)) → P (offer t a b)
   unfolding offer
   offer-cases P refused tried = split (leb n 64) few (λ e. rw (e, offer) (refused TooMany))
     where
       n : ℕ
       n = splines t
 
-      checked : leb n 64 ≡ true → eqb (length (t .edgeMatrix)) (n * n) ≡ true → good ≡ true → Checked t a b
+      checked : leb n 64 ≡ true → eqb (length (t .edgeMatrix)) (n * n) ≡ true → good ≡ true → Unrefused t a b
       checked e f g =
           let three = and-left (sound t && ltb a n && ltb b n) _ g in
           let two = and-left (sound t && ltb a n) _ three in
@@ -192,7 +192,7 @@ pub record OfferLaws (t : Table) (a b : ℕ) : Type 0 where
   -- a refused offer changes nothing
   pub refused : (r : Refusal) → offer t a b .answer ≡ Refused r → offer t a b .table ≡ t
   -- the fuel of the walk is never used up: with any more of it the walk ends the same way
-  pub fuel : Checked t a b → (more : ℕ) → (let w = walkStart (t .coloring) (entered t a b) a b in
+  pub fuel : Unrefused t a b → (more : ℕ) → (let w = walkStart (t .coloring) (entered t a b) a b in
       walk (splines t) (entered t a b) a (getD (t .coloring) a 0) (walkFuel (splines t) + more) 0 (w .coloring) (w .queue))
       ≡ recolor (t .coloring) (entered t a b) a b
 
@@ -208,7 +208,7 @@ two k h (yes e) = inl e
 two k h (no e) = inr (omega arith)
 
 module _ (t : Table) (a b : ℕ) where
-  try-says : Checked t a b → Says t a b (tryAddEdge t a b .answer) (tryAddEdge t a b .table)
+  try-says : Unrefused t a b → Says t a b (tryAddEdge t a b .answer) (tryAddEdge t a b .table)
   unfolding Says
   try-says v =
       rule-cases t a b (λ o. Says t a b (o .answer) (o .table)) (λ d. (λ h. refl, omega arith)) (λ e f. (λ h. refl, omega arith))

@@ -17,7 +17,7 @@ use Rattle.graph.specs.declared.refusal.Checked.the-variants.{Passed, Failed}
 use Rattle.graph.specs.declared.refusal.Refusal.the-variants.{TooMany, LengthMismatch, BadDistance, ResultTooShort}
 use Rattle.graph.specs.Refusal.{refusalNumber, require}
 use Rattle.graph.specs.PairOrder.{distancesValid}
-use Rattle.graph.specs.SplineColors.{colorSplines, maxSplines, checkSplines, checkDistances}
+use Rattle.graph.specs.SplineColors.{colorSplines, maxSplines, maxDistances, checkSplines}
 use Rattle.graph.specs.declared.refusal.Refusal.{Refusal}
 use Rattle.graph.specs.Lists.{all, over}
 use Rattle.coloring.specs.declared.outline.Counts.{Counts}
@@ -33,7 +33,7 @@ use Rattle.coloring.specs.Outline.{Result, Outcome, outcome, cut, encode, edgeO
 use Rattle.coloring.specs.Shape.{markContours, painted, countsOf}
 use Rattle.coloring.specs.Sizes.{sizes, concat-length, points-length}
 use Rattle.coloring.specs.EdgeColoring.{edgeColoring}
-use Rattle.coloring.specs.ByDistance.{maxDistances, splineByte, withBytes, edgeColoringByDistance}
+use Rattle.coloring.specs.ByDistance.{splineByte, withBytes, edgeColoringByDistance}
 use Rattle.job.specs.declared.progress.Numbers.{Numbers as JobNumbers}
 use Rattle.job.specs.declared.progress.Read.{Read}
 use Rattle.job.specs.declared.progress.Read.the-variants as read
@@ -129,7 +129,7 @@ module _ (job : Job) (so : Sound job) (contours-fit : length (job .contours) ≤
     byte = splineByte (colorSplines (splineTotal (foundIn job)) (job .distances) (job .seed))
 
     abbrev distances-checked : Checked
-    distances-checked = let splines = splineTotal (foundIn job) in checkSplines splines (checkDistances splines (job .distances))
+    distances-checked = checkSplines (splineTotal (foundIn job)) (job .distances)
 
     numbered : withBytes byte (painted Numbers (foundIn job)) ≡ with (map (map byte) (markContours Numbers (foundIn job)))
     unfolding painted encode coloredEdges
@@ -137,10 +137,11 @@ module _ (job : Job) (so : Sound job) (contours-fit : length (job .contours) ≤
 
     by-numbers : edgeColoringByDistance (outlineOf (stored job)) (job .threshold) (job .seed) (job .distances) old
         ≡ delivered-with distances-checked (map (map byte) (markContours Numbers (foundIn job)))
-    unfolding edgeColoringByDistance maxDistances foundIn countsOf
+    unfolding edgeColoringByDistance foundIn countsOf
     by-numbers =
-        rw (le-leb (length (job .distances)) 2016 (so .distances-few), passes, contours-again job)
-        (ap (λ (r : Result). deliver distances-checked (countsOf (foundIn job) r) r old) numbered)
+        let few = le-leb (length (job .distances)) 2016 (so .distances-few) in
+        rw (few, passes, contours-again job)
+        (rw few at (ap (λ (r : Result). deliver distances-checked (countsOf (foundIn job) r) r old) numbered))
 
     stored-is : stored job .distances ≡ job .distances
     unfolding stored
@@ -280,8 +281,8 @@ checks-early : (job : Job) → Early (checkJob job)
 unfolding checkJob
 checks-early job =
     let splines = splineTotal (foundIn job) in
-    early-by (eqb (job .strategy) 1) (eqb (job .strategy) 2) (checkSplines splines (checkDistances splines (job .distances)))
-    (required (leb splines maxSplines) TooMany _ refl
+    early-by (eqb (job .strategy) 1) (eqb (job .strategy) 2) (checkSplines splines (job .distances))
+    (required (leb splines maxSplines && leb (length (job .distances)) maxDistances) TooMany _ refl
     (required (eqb (length (job .distances)) (splines * (splines - 1) / 2)) LengthMismatch _ refl
     (required (distancesValid (job .distances)) BadDistance Passed refl tt)))
   where

@@ -5,7 +5,7 @@ use Prim.Native.Nat.{_≤_}
 use lib.ListN.{length}
 use lib.Seq.{length-take-le}
 use Rattle.coloring.specs.declared.outline.Colored.{Colored}
-use Rattle.coloring.specs.ByDistance.{Recolorable}
+use Rattle.coloring.specs.ByDistance.{Replaceable}
 use Rattle.coloring.proofs.by_distance.color_collected.Statement.{statement}
 use Rattle.coloring.proofs.by_distance.color_collected.Tie as tie
 
@@ -18,7 +18,7 @@ module _ (c : tie.After-known-told) where
   start = c .before .before .before .before .before
 
   room : c .before .collected .given .0 .0 .edges ≤ length (start .args .out .now)
-  room = subst (λ (r : Colored). Recolorable r (start .args .out .now)) (c .before .collected .given .1) (start .pre)
+  room = subst (λ (r : Colored). Replaceable r (start .args .out .now)) (c .before .collected .given .1) (start .pre)
 
 slice-relend-prefix-color-numbers : tie.Need-slice-relend-prefix-color-numbers
 slice-relend-prefix-color-numbers c = room c

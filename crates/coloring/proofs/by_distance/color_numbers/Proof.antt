@@ -8,9 +8,9 @@ use lib.ListN.{length, drop, getD, length-set, length-map}
 use lib.Seq.{getD-set-other}
 use Rattle.geometry.specs.EdgeColor.{bitsOf}
 use Rattle.graph.specs.Lists.{overFrom}
-use Rattle.graph.proofs.Lists.{getD-mapped}
 use Rattle.graph.proofs.Writing.{over-all, over-step, over-done}
 use Rattle.coloring.specs.ByDistance.{splineByte}
+use Rattle.coloring.proofs.Lists.{getD-mapped}
 use Rattle.coloring.proofs.by_distance.color_numbers.Statement.{statement}
 use Rattle.coloring.proofs.by_distance.color_numbers.Tie as tie
 

@@ -7,21 +7,21 @@ use Prim.Native.Nat.{ℕ, _≤_}
 use native.Mathlib.Omega.{arith}
 use lib.ListN.{length, take, drop, replicate, length-append}
 use lib.Seq.{length-take-le, take-at}
+use borrow.Author.Tests.{le-leb, lt-leb}
 use Rattle.graph.specs.declared.refusal.Checked.{Checked}
 use Rattle.graph.specs.declared.refusal.Checked.the-variants.{Passed}
-use Rattle.graph.specs.SplineColors.{colorSplines, check, coloringAfter}
-use Rattle.graph.proofs.spline_colors.CheckLaws.{splines-many, splines-passed}
+use Rattle.graph.specs.SplineColors.{colorSplines, checkSplines, coloringAfter}
 use Rattle.coloring.specs.declared.outline.Counts.{Counts}
 use Rattle.coloring.specs.declared.settings.Marking.the-variants.{Numbers}
 use Rattle.coloring.specs.Corners.{Cornered, searchCorners}
 use Rattle.coloring.specs.Splines.{splineTotal}
 use Rattle.coloring.specs.Outline.{Result, Outcome, edgesOf, contours, outline, result, outcome, deliver, Matching}
 use Rattle.coloring.specs.Shape.{painted, countsOf}
-use Rattle.coloring.specs.ByDistance.{splineByte, Recolorable}
+use Rattle.coloring.specs.ByDistance.{splineByte, Replaceable}
 use Rattle.coloring.specs.Sizes.{painted-sized}
 use Rattle.coloring.proofs.outline.EdgeLaws.{edges-length}
 use Rattle.coloring.proofs.shape.DeliverLaws.{cut-flagged, splines-cut}
-use Rattle.coloring.proofs.by_distance.RecolorLaws.{replaced, replaced-delivered, replaceable}
+use Rattle.coloring.proofs.by_distance.ReplaceLaws.{replaced, replaced-delivered, replaceable}
 use Rattle.coloring.proofs.by_distance.color_outline_by_distance.Statement.{statement}
 use Rattle.coloring.proofs.by_distance.color_outline_by_distance.Tie as tie
 
@@ -86,7 +86,7 @@ module _ (c : tie.After-color-splines) where
   long : length (take count zeros) ≡ total-splines
   long = length-take-le count zeros few ∙ sym (splines counted)
 
-  answer : c .color-splines .result ≡ check total-splines (began .args .distances .now)
+  answer : c .color-splines .result ≡ checkSplines total-splines (began .args .distances .now)
   answer = rw long at (c .color-splines .ensures .0)
 
   abbrev coloring : List ℕ
@@ -113,7 +113,7 @@ module _ (c : tie.After-paint-shape) where
   abbrev s : tie.Start
   s = began colored
 
-  passed : check (total-splines colored) (s .args .distances .now) ≡ Passed
+  passed : checkSplines (total-splines colored) (s .args .distances .now) ≡ Passed
   passed = sym (answer colored) ∙ told .enum-told .given .1
 
   colors : coloring colored ≡ colorSplines (total-splines colored) (s .args .distances .now) (s .args .seed)
@@ -127,7 +127,7 @@ module _ (c : tie.After-paint-shape) where
       (c .paint-shape .last .1 .1 .1 .1 .1 .1 .1 .1 .0))
       ≡ deliver Passed (counts s) (collected s) (old s)
   plain =
-      rw (searched (counted colored) .find-corners .ensures, splines-passed (total-splines colored) Passed (rw (splines (counted colored)) (few colored)))
+      rw (searched (counted colored) .find-corners .ensures, le-leb (total-splines colored) 64 (rw (splines (counted colored)) (few colored)))
       at (c .paint-shape .ensures)
 
   sized : counts s .edges ≡ length (collected s .colors)
@@ -151,7 +151,7 @@ same-length c = search needs
 
 returns : tie.Need-returns
 unfolding deliver
-returns c = rw (splines-many (splineTotal (found (start (searched (c .before))))) _ (rw (splines (c .before)) (c .if1 .taken)))
+returns c = rw (lt-leb (splineTotal (found (start (searched (c .before))))) 64 (rw (splines (c .before)) (c .if1 .taken)))
 
 array-borrow-prefix-coloring : tie.Need-array-borrow-prefix-coloring
 array-borrow-prefix-coloring c = search needs
@@ -191,7 +191,7 @@ slice-aggregate-color-collected c =
 color-collected-requires : tie.Need-color-collected-requires
 color-collected-requires c κs =
     let p = c .before .before .before .before .before .before .before .before .before .before in
-    subst (λ (o : Outcome). Recolorable (o .answer) (o .buffers .colors)) (sym (plain p)) (replaceable (λ b. b) _ _ (old (s p)) (sized p))
+    subst (λ (o : Outcome). Replaceable (o .answer) (o .buffers .colors)) (sym (plain p)) (replaceable (λ b. b) _ _ (old (s p)) (sized p))
 
 same-length-3 : tie.Need-same-length-3
 same-length-3 c = search needs

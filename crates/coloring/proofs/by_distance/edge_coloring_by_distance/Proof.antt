@@ -6,7 +6,7 @@ use lib.Seq.{length-take-le}
 use borrow.Author.Tests.{le-leb, lt-leb}
 use Rattle.graph.specs.declared.refusal.Checked.the-variants.{Passed}
 use Rattle.coloring.specs.Outline.{Outline, outline, check, deliver, Agrees}
-use Rattle.coloring.specs.ByDistance.{maxDistances, edgeColoringByDistance}
+use Rattle.coloring.specs.ByDistance.{edgeColoringByDistance}
 use Rattle.coloring.proofs.shape.DeliverLaws.{passed-agrees}
 use Rattle.coloring.proofs.by_distance.edge_coloring_by_distance.Statement.{statement}
 use Rattle.coloring.proofs.by_distance.edge_coloring_by_distance.Tie as tie
@@ -26,7 +26,7 @@ module _ (c : tie.After-enum-told) where
   agrees = passed-agrees _ _ passed
 
 returns : tie.Need-returns
-unfolding edgeColoringByDistance deliver maxDistances
+unfolding edgeColoringByDistance deliver
 returns c =
     let start = c .before .before .before .before .before .before .before .before .before in
     rw (lt-leb (length (start .args .distances .now)) 2016 (c .if1 .taken))
@@ -38,7 +38,7 @@ enum-known-checked : tie.Need-enum-known-checked
 enum-known-checked c = search needs
 
 returns-2 : tie.Need-returns-2
-unfolding edgeColoringByDistance deliver maxDistances
+unfolding edgeColoringByDistance deliver
 returns-2 c =
     let start = c .before .before .before .before .before .before .before .before .before .before .before .before .before in
     let failed = sym (c .before .before .before .check .ensures) ∙ c .before .checked .given .1 in
@@ -72,11 +72,12 @@ same-length-4 : tie.Need-same-length-4
 same-length-4 c = search needs
 
 returns-3 : tie.Need-returns-3
-unfolding edgeColoringByDistance maxDistances
+unfolding edgeColoringByDistance
 returns-3 c =
     let color = c .before .before .before .before .before .before .before .before .before in
     let told = color .before .before .before .before .before .before in
-    rw (le-leb (length (start told .args .distances .now)) 2016 (told .before .before .before .if1 .left), passed told) (color .color-outline-by-distance .ensures)
+    let few = le-leb (length (start told .args .distances .now)) 2016 (told .before .before .before .if1 .left) in
+    rw (few, passed told) (rw few at (color .color-outline-by-distance .ensures))
 
 pub edge-coloring-by-distance-spec : {M : Type 1} → statement M
 edge-coloring-by-distance-spec =

@@ -9,9 +9,9 @@ use borrow.Author.Tests.{eq-eqb, ne-eqb}
 use Rattle.geometry.specs.declared.edge_color.EdgeColor.{EdgeColor}
 use Rattle.geometry.specs.declared.edge_color.EdgeColor.the-variants.{Yellow, Cyan, Magenta, White}
 use Rattle.graph.specs.Bools.{branch-true, branch-false}
-use Rattle.graph.proofs.Lists.{getD-beyond}
 use Rattle.coloring.specs.Shape.{noSpline}
 use Rattle.coloring.specs.ByDistance.{splineColor}
+use Rattle.coloring.proofs.Lists.{getD-beyond}
 use Rattle.coloring.proofs.by_distance.spline_color.Statement.{statement}
 use Rattle.coloring.proofs.by_distance.spline_color.Tie as tie
 

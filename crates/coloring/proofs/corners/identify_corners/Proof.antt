@@ -5,11 +5,11 @@ use mathlib.Core.Path.{_≡_, refl, sym, _∙_}
 use Prim.Native.Nat.{_-_, _≤_, _<_}
 use lib.ListN.{length, drop, length-set}
 use Rattle.graph.specs.Lists.{overFrom}
-use Rattle.graph.proofs.Lists.{length-zero}
 use Rattle.graph.proofs.Writing.{over-all, over-next, over-nothing}
 use Rattle.coloring.specs.Corners.{flagsFrom, cornerFlags}
 use Rattle.coloring.specs.Outline.{anyEdge, edgesOf}
 use Rattle.coloring.specs.Sizes.{flags-length}
+use Rattle.coloring.proofs.Lists.{length-zero}
 use Rattle.coloring.proofs.outline.EdgeLaws.{edges-length}
 use Rattle.coloring.proofs.corners.SearchLaws.{flags-start, no-flags, flags-next, flags-end}
 use Rattle.coloring.proofs.corners.identify_corners.Statement.{statement}

@@ -1,4 +1,4 @@
--- `first_color` meets its contract, by the number of the colour. Assumes nothing.
+-- `first_color` meets its contract, by the number of the colour.
 use borrow.Author.Needs.{needs}
 use borrow.Author.Tests.{eq-eqb, ne-eqb}
 use mathlib.Core.Path.{sym, _∙_}

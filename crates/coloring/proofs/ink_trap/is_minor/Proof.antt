@@ -1,4 +1,4 @@
--- `is_minor` meets its contract: two comparisons. Assumes nothing.
+-- `is_minor` meets its contract: two comparisons.
 use Rattle.coloring.proofs.ink_trap.is_minor.Statement.{statement}
 use Rattle.coloring.proofs.ink_trap.is_minor.Tie as tie
 

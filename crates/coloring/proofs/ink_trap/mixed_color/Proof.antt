@@ -1,4 +1,4 @@
--- `mixed_color` meets its contract: what is not shared is the exclusive or with 7 of the bits' and. Assumes nothing.
+-- `mixed_color` meets its contract: what is not shared is the exclusive or with 7 of the bits' and.
 use Prim.Native.Nat.{_<_}
 use mathlib.Core.Path.{_≡_, _∙_}
 use native.Mathlib.Omega.{arith}

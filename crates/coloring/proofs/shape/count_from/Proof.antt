@@ -3,9 +3,9 @@ use native.Mathlib.Omega.{arith}
 use mathlib.Core.Path.{_≡_, refl, sym, _∙_}
 use Prim.Native.Nat.{_-_, _≤_, _<_}
 use lib.ListN.{length, drop, length-set}
-use Rattle.graph.specs.Lists.{range, overFrom}
+use Rattle.graph.specs.Lists.{range, overFrom, length-range}
 use Rattle.graph.proofs.Writing.{over-all, over-step, over-done}
-use Rattle.graph.proofs.Lists.{length-range, getD-range}
+use Rattle.graph.proofs.Lists.{getD-range}
 use Rattle.coloring.proofs.shape.count_from.Statement.{statement}
 use Rattle.coloring.proofs.shape.count_from.Tie as tie
 

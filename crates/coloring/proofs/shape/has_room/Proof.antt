@@ -1,4 +1,4 @@
--- `coloring::edge_coloring::has_room` meets its contract: each test decides one of the definition.
+-- `has_room` meets its contract: each test decides one of the definition.
 use Prim.Native.Nat.{_*_}
 use borrow.Author.Needs.{needs}
 use borrow.Author.Tests.{le-leb, lt-leb}

@@ -4,9 +4,9 @@ use mathlib.Core.Path.{_≡_, sym, _∙_}
 use Prim.Native.Nat.{_≤_}
 use native.Mathlib.Omega.{arith}
 use lib.Seq.{length-take-le}
-use Rattle.graph.proofs.Lists.{length-zero}
 use Rattle.coloring.specs.Layout.{resultEdges}
 use Rattle.coloring.specs.Sizes.{edges-bound, paint-length}
+use Rattle.coloring.proofs.Lists.{length-zero}
 use Rattle.coloring.proofs.shape.number_contour.Statement.{statement}
 use Rattle.coloring.proofs.shape.number_contour.Tie as tie
 

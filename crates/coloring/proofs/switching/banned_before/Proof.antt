@@ -1,4 +1,4 @@
--- `banned_before` meets its contract, by its test. Assumes nothing.
+-- `banned_before` meets its contract, by its test.
 use borrow.Author.Tests.{eq-eqb, ne-eqb}
 use Rattle.coloring.proofs.switching.banned_before.Statement.{statement}
 use Rattle.coloring.proofs.switching.banned_before.Tie as tie

@@ -8,10 +8,11 @@ use native.Mathlib.Nat.{mod-lt, zero-add}
 use mir.Syntax.{w32}
 use mir.Val.{toZ, ofZ}
 use mir.Facts.{toZ-ofZ}
-use Rattle.graph.specs.Lists.{range}
-use Rattle.graph.proofs.Lists.{getD-mapped, length-range, getD-range}
+use Rattle.graph.specs.Lists.{range, length-range}
+use Rattle.graph.proofs.Lists.{getD-range}
 use Rattle.coloring.specs.Trichotomy.{symmetricalTrichotomy}
 use Rattle.coloring.specs.Teardrop.{thirdOf, runs}
+use Rattle.coloring.proofs.Lists.{getD-mapped}
 use Rattle.coloring.proofs.Places.{Walked, walked-none, walked-more, walked-all}
 use Rattle.coloring.proofs.teardrop.paint_runs.Statement.{statement}
 use Rattle.coloring.proofs.teardrop.paint_runs.Tie as tie

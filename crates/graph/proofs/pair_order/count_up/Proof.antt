@@ -5,8 +5,8 @@ use Prim.Native.Nat.{ℕ, _+_, _-_, _≤_, _<_}
 use native.Mathlib.Nat.{zero-add}
 use native.Mathlib.Omega.{arith}
 use lib.ListN.{length, drop, set, length-set}
-use Rattle.graph.specs.Lists.{range, overFrom}
-use Rattle.graph.proofs.Lists.{length-range, getD-range}
+use Rattle.graph.specs.Lists.{range, overFrom, length-range}
+use Rattle.graph.proofs.Lists.{getD-range}
 use Rattle.graph.proofs.Writing.{over-all, over-step, over-done}
 use Rattle.graph.proofs.pair_order.count_up.Statement.{statement}
 use Rattle.graph.proofs.pair_order.count_up.Tie as tie

@@ -6,10 +6,9 @@ use native.Mathlib.Omega.{arith}
 use lib.Ieee.{Float}
 use lib.ListN.{length, take, replicate}
 use lib.Seq.{length-take-le}
-use Rattle.graph.specs.Lists.{range}
+use Rattle.graph.specs.Lists.{range, length-range}
 use Rattle.graph.specs.PairOrder.{sortBy}
 use Rattle.graph.specs.PairNumbers.{distanceOf, Below}
-use Rattle.graph.proofs.Lists.{length-range}
 use Rattle.graph.proofs.pair_order.PairLaws.{pairs-count, pairs-most, in-order, range-below}
 use borrow.Author.Needs.{needs}
 use Rattle.graph.proofs.pair_order.order_pairs.Statement.{statement}

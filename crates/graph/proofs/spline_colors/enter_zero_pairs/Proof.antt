@@ -51,7 +51,7 @@ module _ (c : tie.In-loop Inv-loop μ-loop) where
   same-size : length (c .before .loop .edge-matrix) ≡ length (start .args .edge-matrix .now)
   same-size = c .before .loop .inv .size ∙ sym (ap length (start .pre .none) ∙ length-replicate _ 0)
 
-abbrev turn-of : tie.After-pair-at Inv-loop μ-loop → tie.In-loop Inv-loop μ-loop
+abbrev turn-of : tie.After-code-at Inv-loop μ-loop → tie.In-loop Inv-loop μ-loop
 turn-of c = c .before .before .before
 
 loop-holds : tie.Need-loop-holds Inv-loop μ-loop
@@ -69,11 +69,11 @@ returns c =
     zeros-stop _ _ _ _ _ _ (k turn) (turn .before .loop .inv) (start turn .pre .inOrder) (turn .loop-test .taken)
     (not-zero _ _ (c .before .distance-at .ensures) (c .if1 .taken))
 
-pair-at-requires : tie.Need-pair-at-requires Inv-loop μ-loop
-pair-at-requires c κs = (start (c .before .before) .pre .inOrder .numbers, c .before .before .loop-test .taken)
+code-at-requires : tie.Need-code-at-requires Inv-loop μ-loop
+code-at-requires c κs = (start (c .before .before) .pre .inOrder .numbers, c .before .before .loop-test .taken)
 
 cast-a : tie.Need-cast-a Inv-loop μ-loop
-cast-a c = omega (arith, c .pair-at .ok)
+cast-a c = omega (arith, c .code-at .ok)
 
 cast-b : tie.Need-cast-b Inv-loop μ-loop
 cast-b c = omega arith
@@ -83,7 +83,7 @@ enter-pair-requires c κs =
     let read = c .before in
     let turn = turn-of read in
     let pairs = two-numbers _ _ _ _ (start turn .pre .inOrder) in
-    let two = two-read _ (codes turn) (order turn) pairs (k turn) _ (turn .loop-test .taken) (read .pair-at .ensures) in
+    let two = two-read _ (codes turn) (order turn) pairs (k turn) _ (turn .loop-test .taken) (read .code-at .ensures) in
     rw (turn .before .loop .inv .size) (digits-lt (two .first) (two .second), digits-lt (two .second) (two .first))
 
 add-k : tie.Need-add-k Inv-loop μ-loop
@@ -98,7 +98,7 @@ loop-again c =
     let read = entered .before .before in
     let turn = turn-of read in
     let zero = is-zero _ _ (read .before .before .distance-at .ensures) (read .before .if1 .left) in
-    enter-next _ _ _ _ _ _ (k turn) (turn .before .loop .inv) (turn .loop-test .taken) zero _ _ (read .pair-at .ensures) (entered .enter-pair .ensures)
+    enter-next _ _ _ _ _ _ (k turn) (turn .before .loop .inv) (turn .loop-test .taken) zero _ _ (read .code-at .ensures) (entered .enter-pair .ensures)
 
 same-length-2 : tie.Need-same-length-2 Inv-loop μ-loop
 same-length-2 c =
@@ -117,7 +117,7 @@ enter-zero-pairs-spec =
     distance-at-requires
     same-length
     returns
-    pair-at-requires
+    code-at-requires
     cast-a
     cast-b
     enter-pair-requires

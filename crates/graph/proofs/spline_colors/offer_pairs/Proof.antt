@@ -7,7 +7,7 @@ use lib.ListN.{length, drop}
 use Rattle.graph.specs.SplineTable.{tableOf, Offered}
 use Rattle.graph.specs.Sequence.{run}
 use Rattle.graph.specs.PairNumbers.{pairAt}
-use Rattle.graph.proofs.spline_table.OfferLaws.{checked-offerable}
+use Rattle.graph.proofs.spline_table.OfferLaws.{unrefused-offerable}
 use Rattle.graph.proofs.spline_colors.OrderLaws.{Offers, checked, offer-next, offers-end}
 use Rattle.graph.proofs.spline_colors.offer_pairs.Statement.{statement}
 use Rattle.graph.proofs.spline_colors.offer_pairs.Tie as tie
@@ -23,7 +23,7 @@ abbrev μ-loop : tie.MeasureT-loop
 abbrev start : tie.At-loop Inv-loop μ-loop → tie.Start Inv-loop μ-loop
 start c = c .before .before .before .before .before
 
-abbrev read-of : tie.After-try-add-edge-unchecked Inv-loop μ-loop → tie.After-pair-at Inv-loop μ-loop
+abbrev read-of : tie.After-try-add-edge-unchecked Inv-loop μ-loop → tie.After-code-at Inv-loop μ-loop
 read-of c = c .before .before .before
 
 loop-holds : tie.Need-loop-holds Inv-loop μ-loop
@@ -31,11 +31,11 @@ loop-holds c =
     let start = c .before .before .before .before in
     record { isSound = record { splines = refl; size = start .pre .entries; isSound = start .pre .isSound }; rest = refl }
 
-pair-at-requires : tie.Need-pair-at-requires Inv-loop μ-loop
-pair-at-requires c κs = (start (c .before) .pre .numbers, c .loop-test .taken)
+code-at-requires : tie.Need-code-at-requires Inv-loop μ-loop
+code-at-requires c κs = (start (c .before) .pre .numbers, c .loop-test .taken)
 
 cast-a : tie.Need-cast-a Inv-loop μ-loop
-cast-a c = omega (arith, c .pair-at .ok)
+cast-a c = omega (arith, c .code-at .ok)
 
 cast-b : tie.Need-cast-b Inv-loop μ-loop
 cast-b c = omega arith
@@ -45,8 +45,8 @@ try-add-edge-unchecked-requires c κs =
     let read = c .before .before in
     let at = read .before .before in
     let s = start at in
-    checked-offerable _ _ _
-    (checked _ _ _ _ (s .pre .few) (s .pre .pairs) _ (at .loop .k) (at .loop .inv) (read .before .loop-test .taken) _ (read .pair-at .ensures))
+    unrefused-offerable _ _ _
+    (checked _ _ _ _ (s .pre .few) (s .pre .pairs) _ (at .loop .k) (at .loop .inv) (read .before .loop-test .taken) _ (read .code-at .ensures))
 
 add-k : tie.Need-add-k Inv-loop μ-loop
 add-k c = omega arith
@@ -59,7 +59,7 @@ loop-again c =
     let tried = c .before .before .before .before in
     let read = read-of tried in
     let at = read .before .before in
-    offer-next _ _ _ _ (start at .pre .few) (start at .pre .pairs) _ (at .loop .k) (at .loop .inv) (read .before .loop-test .taken) _ (read .pair-at .ensures) _
+    offer-next _ _ _ _ (start at .pre .few) (start at .pre .pairs) _ (at .loop .k) (at .loop .inv) (read .before .loop-test .taken) _ (read .code-at .ensures) _
     (ap (λ (o : Offered). o .table) (tried .try-add-edge-unchecked .ensures))
 
 same-length : tie.Need-same-length Inv-loop μ-loop
@@ -78,7 +78,7 @@ offer-pairs-spec =
     Inv-loop
     μ-loop
     loop-holds
-    pair-at-requires
+    code-at-requires
     cast-a
     cast-b
     try-add-edge-unchecked-requires

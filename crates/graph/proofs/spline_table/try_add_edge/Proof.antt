@@ -5,7 +5,7 @@ use native.Mathlib.Omega.{arith}
 use borrow.Author.Tests.{leb-true, leb-false, eqb-true, eqb-false, not-true, not-false}
 use Rattle.graph.specs.SplineTable.{Table, tableOf}
 use Rattle.graph.proofs.recolor.RowLaws.{square-below}
-use Rattle.graph.proofs.spline_table.OfferLaws.{Checked, checked-offerable, offer-many, offer-lengths, offer-unsound, offer-first, offer-second, offer-equal, offer-rule}
+use Rattle.graph.proofs.spline_table.OfferLaws.{Unrefused, unrefused-offerable, offer-many, offer-lengths, offer-unsound, offer-first, offer-second, offer-equal, offer-rule}
 use borrow.Author.Needs.{needs}
 use Rattle.graph.proofs.spline_table.try_add_edge.Statement.{statement}
 use Rattle.graph.proofs.spline_table.try_add_edge.Tie as tie
@@ -31,7 +31,7 @@ module _ (c : tie.Else6) where
   abbrev entry : tie.Start
   entry = start tested
 
-  passes : Checked (given entry) (entry .args .a) (entry .args .b)
+  passes : Unrefused (given entry) (entry .args .a) (entry .args .b)
   passes =
       record {
         few = sized tested .before .if1 .left;
@@ -89,7 +89,7 @@ returns-4 c =
 try-add-edge-unchecked-requires : tie.Need-try-add-edge-unchecked-requires
 try-add-edge-unchecked-requires c κs =
     let pair = c .before .before in
-    checked-offerable (given (entry pair)) _ _ (passes pair)
+    unrefused-offerable (given (entry pair)) _ _ (passes pair)
 
 same-length-5 : tie.Need-same-length-5
 same-length-5 c = search needs

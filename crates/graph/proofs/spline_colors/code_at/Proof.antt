@@ -1,11 +1,11 @@
--- `pair_at` meets its contract: the number is that of a pair.
+-- `code_at` meets its contract: the number is that of a pair.
 use Prim.Native.Nat.{_<_}
 use native.Mathlib.Omega.{arith}
 use lib.ListN.{length, getD}
 use Rattle.graph.proofs.pair_order.EachLaws.{each-at}
 use borrow.Author.Needs.{needs}
-use Rattle.graph.proofs.spline_colors.pair_at.Statement.{statement}
-use Rattle.graph.proofs.spline_colors.pair_at.Tie as tie
+use Rattle.graph.proofs.spline_colors.code_at.Statement.{statement}
+use Rattle.graph.proofs.spline_colors.code_at.Tie as tie
 
 number : (c : tie.Start) → getD (c .args .order .now) (c .args .k) 0 < length (c .args .codes .now)
 number c = each-at _ (c .args .order .now) 0 (c .pre .0) (c .args .k) (c .pre .1)
@@ -28,8 +28,8 @@ shared-slice-read-result-2 c = number (c .before .before)
 returns : tie.Need-returns
 returns c = search needs
 
-pub pair-at-spec : {M : Type 1} → statement M
-pair-at-spec =
+pub code-at-spec : {M : Type 1} → statement M
+code-at-spec =
     tie.close
     (tie.spec
     mul-result

@@ -10,7 +10,7 @@ use Rattle.graph.specs.declared.refusal.Checked.the-variants.{Passed}
 use Rattle.graph.specs.Lists.{over}
 use Rattle.coloring.specs.declared.outline.Counts.{Counts}
 use Rattle.coloring.specs.Outline.{Result, Outcome, result, outcome, fits, delivered, deliver}
-use Rattle.coloring.specs.ByDistance.{withBytes, recolored, Recolorable}
+use Rattle.coloring.specs.ByDistance.{withBytes, bytesReplaced, Replaceable}
 use Rattle.coloring.proofs.shape.DeliverLaws.{deliver-fits, deliver-short}
 
 module _ (byte : ℕ → ℕ) (counts : Counts) (written old : Result) (sized : counts .edges ≡ length (written .colors)) where
@@ -19,7 +19,7 @@ module _ (byte : ℕ → ℕ) (counts : Counts) (written old : Result) (sized : 
   plain = deliver Passed counts written old
 
   abbrev pub replaced : Outcome → Outcome
-  replaced o = outcome (o .answer) (result (o .buffers .lengths) (o .buffers .kinds) (o .buffers .points) (recolored byte (o .answer) (o .buffers .colors)))
+  replaced o = outcome (o .answer) (result (o .buffers .lengths) (o .buffers .kinds) (o .buffers .points) (bytesReplaced byte (o .answer) (o .buffers .colors)))
 
   same-fit : fits (withBytes byte written) old ≡ fits written old
   unfolding fits
@@ -40,10 +40,10 @@ module _ (byte : ℕ → ℕ) (counts : Counts) (written old : Result) (sized : 
   replaced-delivered = by-fit (fits written old) refl
 
   -- the edges counted stand there
-  room-by-fit : (b : Bool) → fits written old ≡ b → Recolorable (plain .answer) (plain .buffers .colors)
+  room-by-fit : (b : Bool) → fits written old ≡ b → Replaceable (plain .answer) (plain .buffers .colors)
   unfolding delivered over
   room-by-fit true e = rw (deliver-fits counts written old e) (omega (arith, sized, length-append (written .colors) (drop (length (written .colors)) (old .colors))))
   room-by-fit false e = rw (deliver-short counts written old e) tt
 
-  pub replaceable : Recolorable (plain .answer) (plain .buffers .colors)
+  pub replaceable : Replaceable (plain .answer) (plain .buffers .colors)
   replaceable = room-by-fit (fits written old) refl
