@@ -11,6 +11,7 @@ use Rattle.geometry.specs.declared.edge_segment.EdgeSegment.the-variants as seg
 use Rattle.graph.specs.declared.refusal.Refusal.{Refusal}
 use Rattle.graph.specs.declared.refusal.Refusal.the-variants.{Truncated, UnknownMark, MisplacedMark, TooMany, UnknownKind, BadThreshold, BadCoordinate, BadDistance}
 use Rattle.graph.specs.Lists.{all}
+use Rattle.graph.specs.SplineColors.{maxDistances}
 use Rattle.job.specs.declared.records.Kind.{Kind}
 use Rattle.job.specs.declared.records.Kind.the-variants.{Line, Quadratic, Cubic}
 use Rattle.job.specs.declared.records.Mark.{Mark}
@@ -107,16 +108,13 @@ allowed s (Edge kind) = inside (s .phase)
 allowed s Distances = among (s .phase) && byDistance (s .strategy)
 allowed s End = closing (s .phase) || among (s .phase) && not (byDistance (s .strategy))
 
--- at most 64 contours, 256 edges, 2,016 distances
+-- at most 64 contours and 256 edges; distances are counted in their record
 abbrev pub fits : State → Mark → Bool
 fits s Header = true
 fits s Contour = ltb (s .contours) 64
 fits s (Edge kind) = ltb (s .edges) 256
 fits s Distances = true
 fits s End = true
-
-abbrev pub maxDistances : ℕ
-maxDistances = 2016
 
 -- ---- one record
 
