@@ -2,7 +2,11 @@
 use mathlib.Core.Path.{_≡_, refl, subst}
 use mathlib.Core.Bool.{true, false, not}
 use lib.Dec.{T}
-use lib.Ieee.{Float, nan, inf, fin, binary64, div, ne, isNan, ofBits}
+use Prim.Native.Nat.{ℕ, _%_, _^_, _≤_}
+use lib.Ieee.{Float, nan, inf, fin, binary64, div, ne, isNan, nanBits, ofBits}
+use lib.Ieee.Bits.{nanBits-above}
+use borrow.Author.Tests.{le-ltb}
+use Rattle.math.specs.Sqrt.{infinityPattern}
 
 pub only-nan : (x : Float) → isNan x ≡ true → x ≡ nan
 unfolding isNan
@@ -20,3 +24,7 @@ no-nan (fin s m e) q = tt
 pub zero-by-zero : div binary64 (ofBits binary64 0) (ofBits binary64 0) ≡ nan
 unfolding div ofBits
 zero-by-zero = refl
+
+-- a pattern at or below infinity's, the sign's bit taken off, is no NaN's
+pub no-nan-pattern : (b : ℕ) → b % 2 ^ 63 ≤ infinityPattern → T (not (nanBits binary64 b))
+no-nan-pattern b h = rw (nanBits-above binary64 b, le-ltb infinityPattern (b % 2 ^ 63) h) tt

@@ -1,21 +1,22 @@
-// The square root of a double, correctly rounded, by whole numbers alone.
+// The square root of a double, correctly rounded: a guess in floats that is checked in whole numbers or, where it is wrong, digit by digit.
 use crate::bits::float;
+use std::num::wrapping_sub_u64;
 ghost use mathlib.Core.Path.{_≡_};
 ghost use mathlib.Core.Logic.{_⊎_};
 ghost use Prim.Native.Nat.{_+_, _*_, _^_, _≤_, _<_};
-ghost use Rattle.math.specs.Sqrt.{root, shift, significand, exponent, rounded, positiveRoot, infinityPattern, sqrtBits, sqrtOf};
+ghost use Rattle.math.specs.declared.sqrt.Verdict.the-variants.{Nearest, Wrong};
+ghost use Rattle.math.specs.Sqrt.{shift, significand, exponent, rounded, positiveRoot, infinityPattern, sqrtBits, sqrtOf};
 
 // 2^52: the weight of the exponent's field, and of a significand's leading digit.
 const LEADING: u64 = 0x10_0000_0000_0000;
-
-// 2^26: parts a significand into halves, and the root's first 27 digits from its last 26.
-const MIDDLE: u64 = 0x400_0000;
 
 const SIGN: u64 = 0x8000_0000_0000_0000;
 
 const INFINITY: u64 = 0x7FF0_0000_0000_0000;
 
 const NAN: u64 = 0x7FF8_0000_0000_0000;
+
+// ---- a pattern taken apart
 
 // How far a subnormal's first significant bit stands below place 52.
 fn shift(bits: u64) -> u64
@@ -49,6 +50,8 @@ fn exponent(bits: u64) -> u64
     }
 }
 
+// ---- digit by digit
+
 // A root in the making: its digits so far, and what their square leaves of the digits taken from the number.
 struct Partial {
     root: u64,
@@ -64,7 +67,7 @@ fn digit(odd: u64, rem: u64) -> u64
 
 // One more digit of the root, from two more of the number.
 fn next_digit(s: Partial, low: u64) -> Partial
-    requires { ⌜ (s .root < 2 ^ 13) × (s .rem ≤ 2 * s .root) × (low < 4) ⌝ }
+    requires { ⌜ (s .root < 2 ^ 52) × (s .rem ≤ 2 * s .root) × (low < 4) ⌝ }
     ensures { λ t. ⌜ (t .root * t .root + t .rem ≡ (s .root * s .root + s .rem) * 4 + low)
         × (t .root ≤ 2 * s .root + 1) × (t .rem ≤ 2 * t .root) ⌝ }
 {
@@ -77,72 +80,131 @@ fn next_digit(s: Partial, low: u64) -> Partial
     }
 }
 
-// The first 14 digits, one by one. Of the digits not taken yet, the next two are at places 26 and 27.
-fn first_digits(n: u64) -> Partial
-    requires { ⌜ n < 2 ^ 28 ⌝ }
-    ensures { λ t. ⌜ (t .root * t .root + t .rem ≡ n) × (t .root < 2 ^ 14) × (t .rem ≤ 2 * t .root) ⌝ }
+// The floor root of n * 2^52 and its remainder, 53 digits. Of the digits not taken yet, the next two are at places 52 and 53.
+fn floor_root(n: u64) -> Partial
+    requires { ⌜ n < 2 ^ 54 ⌝ }
+    ensures { λ t. ⌜ (t .root * t .root + t .rem ≡ n * 2 ^ 52) × (t .root < 2 ^ 53) × (t .rem ≤ 2 * t .root) ⌝ }
 {
     let mut s = Partial { root: 0, rem: 0 };
     let mut rest = n;
-    for _ in 0..14u64 {
-        s = next_digit(s, rest / MIDDLE);
-        rest = rest % MIDDLE * 4;
+    for _ in 0..53u64 {
+        s = next_digit(s, rest / LEADING);
+        rest = rest % LEADING * 4;
     }
     s
 }
 
-// Many more digits by one division, as in Karatsuba's square root: with weight = 2^k, k digits of the root from 2k more of the number.
-// The quotient is at most one too large.
-fn next_digits(s: Partial, weight: u64, low: u64) -> Partial
-    requires { ⌜ (0 < weight) × (weight ≤ s .root) × (s .root < 2 ^ 27) × (s .rem ≤ 2 * s .root) × (low < weight * weight) ⌝ }
-    ensures { λ t. ⌜ (t .root * t .root + t .rem ≡ (s .root * s .root + s .rem) * (weight * weight) + low) × (t .rem ≤ 2 * t .root) ⌝ }
-{
-    let twice = s.root * 2;
-    let part = s.rem * weight + low / weight;
-    let q = part / twice;
-    let root = s.root * weight + q;
-    let rem = part % twice * weight + low % weight;
-    let square = q * q;
-    if square <= rem {
-        return Partial {
-            root,
-            rem: rem - square,
-        };
-    }
-    Partial {
-        root: root - 1,
-        rem: rem + root * 2 - 1 - square,
-    }
-}
-
-// The floor root of n * 2^52 and its remainder, 53 digits: 14 one by one from the upper half of n, then by a division each 13 from its lower
-// half and 26 from the zeros below it.
-fn floor_root(n: u64) -> Partial
-    requires { ⌜ (2 ^ 52 ≤ n) × (n < 2 ^ 54) ⌝ }
-    ensures { λ t. ⌜ (t .root ≡ root 53 (n * 2 ^ 52)) × (t .root * t .root + t .rem ≡ n * 2 ^ 52) × (t .root < 2 ^ 53) ⌝ }
-{
-    let s = first_digits(n / MIDDLE);
-    let t = next_digits(s, 0x2000, n % MIDDLE);
-    next_digits(t, MIDDLE, 0)
-}
-
 // To the nearest: up where the remainder is above the root.
-fn rounded(n: u64) -> u64
-    requires { ⌜ (2 ^ 52 ≤ n) × (n < 2 ^ 54) ⌝ }
+fn rounded_by_digits(n: u64) -> u64
+    requires { ⌜ n < 2 ^ 54 ⌝ }
     ensures { λ r. ⌜ r ≡ rounded (n * 2 ^ 52) ⌝ }
 {
     let s = floor_root(n);
     if s.rem > s.root { s.root + 1 } else { s.root }
 }
 
-// The root of a positive finite pattern: half the exponent, and the root of the significand.
+// ---- by a guess in floats, which is checked in whole numbers
+
+// Digits of a guess: 32 of the root, and 29 of the inverse of twice the root. No more is claimed of them.
+struct Guessed {
+    root: u64,
+    inverse: u64,
+}
+
+// A number's pattern below this weight; of a NaN, whose pattern the logic does not know, 0.
+fn last_digits(x: f64, weight: u64) -> u64
+    requires { ⌜ 0 < weight ⌝ }
+    ensures { λ r. ⌜ r < weight ⌝ }
+{
+    if x != x {
+        return 0;
+    }
+    f64::to_bits(x) % weight
+}
+
+// From the pattern of a number x from 1 to 4. Half the pattern, taken off a constant, is that of an inverse root s within 12 in 100. A
+// polynomial in q = x * s * s, near q^(-1/2), mends it to 31 digits; it is a product of three, so that no step waits long for another.
+// A power of two is added to each result, so that its last digit stands at place 0 of the pattern; 2 of its last digit are taken off,
+// lest the root be too high.
+fn guess(pattern: u64) -> Guessed
+    requires { ⌜ pattern < 0x4010_0000_0000_0000 ⌝ }
+    ensures { λ g. ⌜ (g .root < 2 ^ 32) × (g .inverse < 2 ^ 29) ⌝ }
+{
+    let x = f64::from_bits(pattern);
+    let s = f64::from_bits(0x5FE4_7000_0000_0000 - pattern / 2);
+    let t = x * s;
+    let q = t * s;
+    let a = 1.3823395593306638 - 0.7072240868973412 * q;
+    let b = (q - 2.6700127110597904) * q + 2.7608418634089746;
+    let c = q * q + (0.7810959954809049 - 0.423225970783984 * q);
+    let bc = b * c;
+    Guessed {
+        root: last_digits(
+            t * a * bc + 2097151.999999999068677425384521484375,
+            0x1_0000_0000,
+        ),
+        inverse: last_digits(
+            s * a * bc + 16777215.999999992549419403076171875,
+            0x2000_0000,
+        ),
+    }
+}
+
+// What a guess comes to.
+enum Verdict {
+    Nearest(u64),
+    Wrong,
+}
+
+// The guessed digits h leave a of the number, which by the guessed inverse gives 21 digits more, l. What the square of r = h * 2^21 + l
+// leaves of the number, rem, says whether r or r + 1 is nearest. A remainder that is too large, or below zero and so wraps, says neither.
+fn check(n: u64, g: Guessed) -> Verdict
+    requires { ⌜ (2 ^ 52 ≤ n) × (n < 2 ^ 54) × (g .root < 2 ^ 32) × (g .inverse < 2 ^ 29) ⌝ }
+    ensures { λ v. ⌜ (v ≡ Wrong) ⊎ (v ≡ Nearest (rounded (n * 2 ^ 52))) ⌝ }
+{
+    let h = g.root;
+    let a = wrapping_sub_u64(n * 0x400, h * h);
+    if a >= 0x8_0000_0000 {
+        return Verdict::Wrong;
+    }
+    let l = a * g.inverse / 0x80_0000_0000;
+    let b = wrapping_sub_u64(a * 0x10_0000, h * l);
+    if b >= 0x10_0000_0000 {
+        return Verdict::Wrong;
+    }
+    let rem = wrapping_sub_u64(b * 0x40_0000, l * l);
+    let r = h * 0x20_0000 + l;
+    if rem > 3 * r + 2 {
+        return Verdict::Wrong;
+    }
+    let nearest = if rem > r { r + 1 } else { r };
+    Verdict::Nearest(nearest)
+}
+
+// To the nearest. The pattern is that of the number n * 2^-52 or, where it is another one, the guess is wrong.
+fn rounded(n: u64, pattern: u64) -> u64
+    requires { ⌜ (2 ^ 52 ≤ n) × (n < 2 ^ 54) × (pattern < 0x4010_0000_0000_0000) ⌝ }
+    ensures { λ r. ⌜ r ≡ rounded (n * 2 ^ 52) ⌝ }
+{
+    let verdict = check(n, guess(pattern));
+    match verdict {
+        Verdict::Nearest(r) => r,
+        Verdict::Wrong => rounded_by_digits(n),
+    }
+}
+
+// ---- the root of a pattern, and of a value
+
+// The root of a positive finite pattern: half the exponent, and the root of the significand. A normal number's fraction stands as it is in
+// the pattern of a number from 1 to 4.
 fn positive_root(bits: u64) -> u64
     requires { ⌜ (0 < bits) × (bits < infinityPattern) ⌝ }
     ensures { λ r. ⌜ r ≡ positiveRoot bits ⌝ }
 {
     let e = exponent(bits);
     let n = significand(bits) << (e % 2);
-    (e / 2 + 485) * LEADING + rounded(n)
+    let pattern = (bits + LEADING) % 0x20_0000_0000_0000 + 0x3FF0_0000_0000_0000;
+    (e / 2 + 485) * LEADING + rounded(n, pattern)
 }
 
 // On bit patterns: either zero, and +infinity, stays; a NaN or a negative number gives NAN.

@@ -1,6 +1,6 @@
 -- `math::sqrt::positive_root` meets its contract: nothing wraps, and the number handed to `rounded`, times 2 ^ 52, is the scaled one.
 use mathlib.Core.Path.{_≡_, sym, ap, ap₂, _∙_}
-use Prim.Native.Nat.{ℕ, _+_, _*_, _/_, _%_, _^_, _<_}
+use Prim.Native.Nat.{ℕ, _+_, _*_, _/_, _%_, _^_, _≤_, _<_}
 use native.Mathlib.Nat.{mod-eq-of-lt, lt-of-lt-of-le}
 use native.Mathlib.Omega.{arith}
 use borrow.Author.Needs.{needs}
@@ -16,6 +16,10 @@ use Rattle.math.proofs.sqrt.positive_root.Tie as tie
 word-is : (b e m : ℕ) → 0 < b → b < spec.infinityPattern → e ≡ spec.exponent b → m ≡ spec.significand b → m * 2 ^ (e % 2) % 2 ^ 64 ≡ spec.significand b * 2 ^ (spec.exponent b % 2)
 word-is b e m p h x y = rw (x, y) (mod-eq-of-lt (lt-of-lt-of-le (word-bounds b p h .1) (lit≤ tt)))
 
+word-within : (b e m : ℕ) → 0 < b → b < spec.infinityPattern → e ≡ spec.exponent b → m ≡ spec.significand b
+    → (2 ^ 52 ≤ m * 2 ^ (e % 2) % 2 ^ 64) × (m * 2 ^ (e % 2) % 2 ^ 64 < 2 ^ 54)
+word-within b e m p h x y = rw (word-is b e m p h x y) (word-bounds b p h)
+
 exponent-requires : tie.Need-exponent-requires
 exponent-requires c κs = search needs
 
@@ -24,6 +28,12 @@ significand-requires c κs = search needs
 
 shl-n : tie.Need-shl-n
 shl-n c = search needs
+
+add-pattern : tie.Need-add-pattern
+add-pattern c = search needs
+
+add-pattern-2 : tie.Need-add-pattern-2
+add-pattern-2 c = search needs
 
 add-result : tie.Need-add-result
 add-result c = search needs
@@ -36,8 +46,8 @@ mul-result c =
 rounded-requires : tie.Need-rounded-requires
 rounded-requires c κs =
     let start = c .before .before in
-    let b = start .args .bits in
-    rw (word-is b _ _ (start .pre .0) (start .pre .1) (c .before .exponent .ensures) (c .significand .ensures)) (word-bounds b (start .pre .0) (start .pre .1))
+    let n = word-within (start .args .bits) _ _ (start .pre .0) (start .pre .1) (c .before .exponent .ensures) (c .significand .ensures) in
+    (n .0, n .1, omega arith)
 
 root-is : (c : tie.After-rounded) → c .rounded .result ≡ spec.rounded (spec.scaled (c .before .before .before .args .bits))
 root-is c =
@@ -64,6 +74,8 @@ positive-root-spec =
     exponent-requires
     significand-requires
     shl-n
+    add-pattern
+    add-pattern-2
     add-result
     mul-result
     rounded-requires

@@ -1,35 +1,47 @@
--- `math::sqrt::rounded` meets its contract: with r · r + rem = n, the definition's test r · r + r < n is r < rem.
-use mathlib.Core.Path.{_≡_, sym, _∙_}
-use Prim.Native.Nat.{ℕ, _+_, _*_, _≤_, _<_}
-use native.Mathlib.Omega.{arith}
+-- `math::sqrt::rounded` meets its contract: by either way.
+use mathlib.Core.Path.{_≡_}
+use mathlib.Core.Logic.{_⊎_, inl, inr}
+use Prim.Native.Nat.{ℕ}
 use borrow.Author.Needs.{needs}
-use borrow.Author.Tests.{lt-ltb, le-ltb}
-use Rattle.math.specs.Sqrt as spec
-use Rattle.math.proofs.sqrt.SqrtOpen.{rounded-is}
+use Rattle.math.specs.Sqrt.{rounded}
+use Rattle.math.specs.declared.sqrt.Verdict.{Verdict}
+use Rattle.math.specs.declared.sqrt.Verdict.the-variants.{Nearest, Wrong}
 use Rattle.math.proofs.sqrt.rounded.Statement.{statement}
 use Rattle.math.proofs.sqrt.rounded.Tie as tie
 
-up : (n r m : ℕ) → r ≡ spec.root 53 n → r * r + m ≡ n → r < m → r + 1 ≡ spec.rounded n
-up n r m e f h = sym (rounded-is n ∙ rw (← e, lt-ltb (r * r + r) n (omega arith)))
+guess-requires : tie.Need-guess-requires
+guess-requires c κs = search needs
 
-down : (n r m : ℕ) → r ≡ spec.root 53 n → r * r + m ≡ n → m ≤ r → r ≡ spec.rounded n
-down n r m e f h = sym (rounded-is n ∙ rw (← e, le-ltb (r * r + r) n (omega arith)))
+check-requires : tie.Need-check-requires
+check-requires c κs = search needs
 
-floor-root-requires : tie.Need-floor-root-requires
-floor-root-requires c κs = search needs
+enum-known-verdict : tie.Need-enum-known-verdict
+enum-known-verdict c = search needs
 
-add-result : tie.Need-add-result
-add-result c = search needs
+enum-told : tie.Need-enum-told
+enum-told c = search needs
+
+rounded-by-digits-requires : tie.Need-rounded-by-digits-requires
+rounded-by-digits-requires c κs = search needs
+
+is-nearest : (n r : ℕ) (v : Verdict) → (v ≡ Wrong) ⊎ (v ≡ Nearest (rounded n)) → v ≡ Nearest r → r ≡ rounded n
+is-nearest n r v (inl e) h = cc
+is-nearest n r v (inr e) h = cc
 
 returns : tie.Need-returns
-returns c =
-    let e = c .before .before .before .floor-root .ensures in
-    up _ _ _ (e .0) (e .1) (c .before .if1 .taken)
+returns c = is-nearest _ _ _ (c .before .before .before .check .ensures) (c .before .verdict .given .1)
 
 returns-2 : tie.Need-returns-2
-returns-2 c =
-    let e = c .before .before .floor-root .ensures in
-    down _ _ _ (e .0) (e .1) (c .if1 .left)
+returns-2 c = c .rounded-by-digits .ensures
 
 pub rounded-spec : {M : Type 1} → statement M
-rounded-spec = tie.close (tie.spec floor-root-requires add-result returns returns-2)
+rounded-spec =
+    tie.close
+    (tie.spec
+    guess-requires
+    check-requires
+    enum-known-verdict
+    enum-told
+    rounded-by-digits-requires
+    returns
+    returns-2)

@@ -1,0 +1,131 @@
+-- `math::sqrt::check` meets its contract: where no remainder is too large, the last one is that of the root, and says how it is rounded.
+use mathlib.Core.Path.{_≡_, refl, ap}
+use mathlib.Core.Logic.{inl, inr}
+use Prim.Native.Nat.{ℕ, _+_, _*_, _/_, _^_, _<_}
+use native.Mathlib.Omega.{arith}
+use borrow.Author.Needs.{needs}
+use Rattle.math.specs.declared.sqrt.Verdict.the-variants.{Nearest}
+use Rattle.math.proofs.sqrt.SqrtGuess.{stays, rises, product-below, remainder-is}
+use Rattle.math.proofs.sqrt.check.Statement.{statement}
+use Rattle.math.proofs.sqrt.check.Tie as tie
+
+-- the second digits are few
+low-digits : (c : tie.After-struct-known)
+    → let start = c .before .before .before in
+    let a = c .before .before .wrapping-sub-u64 .result in
+    (a * start .args .g .inverse < 2 ^ 35 * 2 ^ 29) × (a * start .args .g .inverse / 2 ^ 39 < 2 ^ 25)
+low-digits c =
+    let start = c .before .before .before in
+    let below = product-below _ _ (2 ^ 35) (2 ^ 29) (c .before .if1 .left) (start .pre .3) in
+    (below, omega arith)
+
+mul-wrapping-sub-u64 : tie.Need-mul-wrapping-sub-u64
+mul-wrapping-sub-u64 c = search needs
+
+mul-wrapping-sub-u64-2 : tie.Need-mul-wrapping-sub-u64-2
+mul-wrapping-sub-u64-2 c = omega (arith, product-below _ _ (2 ^ 32) (2 ^ 32) (c .pre .2) (c .pre .2))
+
+wrapping-sub-u64-requires : tie.Need-wrapping-sub-u64-requires
+wrapping-sub-u64-requires c κs = search needs
+
+returns : tie.Need-returns
+returns c = inl refl
+
+mul-l : tie.Need-mul-l
+mul-l c = omega (arith, low-digits c .0)
+
+mul-wrapping-sub-u64-3 : tie.Need-mul-wrapping-sub-u64-3
+mul-wrapping-sub-u64-3 c = search needs
+
+mul-wrapping-sub-u64-4 : tie.Need-mul-wrapping-sub-u64-4
+mul-wrapping-sub-u64-4 c = omega (arith, product-below _ _ (2 ^ 32) (2 ^ 25) (c .before .before .before .pre .2) (low-digits c .1))
+
+wrapping-sub-u64-requires-2 : tie.Need-wrapping-sub-u64-requires-2
+wrapping-sub-u64-requires-2 c κs = search needs
+
+returns-2 : tie.Need-returns-2
+returns-2 c = inl refl
+
+mul-wrapping-sub-u64-5 : tie.Need-mul-wrapping-sub-u64-5
+mul-wrapping-sub-u64-5 c = search needs
+
+mul-wrapping-sub-u64-6 : tie.Need-mul-wrapping-sub-u64-6
+mul-wrapping-sub-u64-6 c =
+    let l = low-digits (c .before .before) .1 in
+    omega (arith, product-below _ _ (2 ^ 25) (2 ^ 25) l l)
+
+wrapping-sub-u64-requires-3 : tie.Need-wrapping-sub-u64-requires-3
+wrapping-sub-u64-requires-3 c κs = search needs
+
+mul-r : tie.Need-mul-r
+mul-r c = search needs
+
+add-r : tie.Need-add-r
+add-r c = omega (arith, low-digits (c .before .before .before) .1)
+
+mul-if3 : tie.Need-mul-if3
+mul-if3 c = omega (arith, low-digits (c .before .before .before) .1)
+
+add-if3 : tie.Need-add-if3
+add-if3 c = omega (arith, low-digits (c .before .before .before) .1)
+
+returns-3 : tie.Need-returns-3
+returns-3 c = inl refl
+
+-- the root's digits, and what their square leaves
+root-of : tie.Else3 → ℕ
+root-of c =
+    let known = c .before .before .before .before in
+    let start = known .before .before .before in
+    start .args .g .root * 2 ^ 21 + known .before .before .wrapping-sub-u64 .result * start .args .g .inverse / 2 ^ 39
+
+square-leaves : (c : tie.Else3)
+    → root-of c * root-of c + c .before .wrapping-sub-u643 .result ≡ c .before .before .before .before .before .before .before .args .n * 2 ^ 52
+unfolding root-of
+square-leaves c =
+    let third = c .before in
+    let second = third .before .before in
+    let known = second .before in
+    let first = known .before .before in
+    let pre = first .before .pre in
+    let low = low-digits known .1 in
+    remainder-is _ _ _ _ _ _ (pre .2) low (pre .0)
+    (first .wrapping-sub-u64 .ensures) (known .before .if1 .left)
+    (second .wrapping-sub-u642 .ensures) (third .before .if2 .left)
+    (third .wrapping-sub-u643 .ensures) (omega (arith, low))
+
+add-nearest : tie.Need-add-nearest
+add-nearest c = omega (arith, low-digits (c .before .before .before .before .before) .1)
+
+returns-4 : tie.Need-returns-4
+unfolding root-of
+returns-4 c = inr (ap Nearest (rises _ _ _ (omega arith) (square-leaves (c .before)) (c .if4 .taken) (c .before .if3 .left)))
+
+returns-5 : tie.Need-returns-5
+unfolding root-of
+returns-5 c = inr (ap Nearest (stays _ _ _ (omega arith) (square-leaves (c .before)) (c .if4 .left)))
+
+pub check-spec : {M : Type 1} → statement M
+check-spec =
+    tie.close
+    (tie.spec
+    mul-wrapping-sub-u64
+    mul-wrapping-sub-u64-2
+    wrapping-sub-u64-requires
+    returns
+    mul-l
+    mul-wrapping-sub-u64-3
+    mul-wrapping-sub-u64-4
+    wrapping-sub-u64-requires-2
+    returns-2
+    mul-wrapping-sub-u64-5
+    mul-wrapping-sub-u64-6
+    wrapping-sub-u64-requires-3
+    mul-r
+    add-r
+    mul-if3
+    add-if3
+    returns-3
+    add-nearest
+    returns-4
+    returns-5)
