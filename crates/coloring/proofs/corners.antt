@@ -2,3 +2,4 @@
 pub mod FlagLaws
 pub mod SearchLaws
 pub mod FoundLaws
+pub mod LengthLaws

@@ -5,12 +5,16 @@ use math::vector2::Vector2;
 use math::vector2::cross;
 use math::vector2::dot;
 ghost use mathlib.Core.Path.{_≡_};
+ghost use mathlib.Core.Bool.{false};
 ghost use mathlib.Core.List.{map};
 ghost use Prim.Native.Nat.{_-_};
 ghost use lib.Ieee.{lt};
 ghost use lib.ListN.{length, take, drop};
+ghost use Rattle.math.specs.Scalar.{f0, f1};
+ghost use Rattle.math.specs.Vector2.{lengthOf, normalize};
+ghost use Rattle.geometry.specs.EdgeSegment.{direction};
 ghost use Rattle.graph.specs.Lists.{overFrom};
-ghost use Rattle.coloring.specs.Corners.{abs, isCorner, estimateEdgeLength, startsAtCorner, cornerFlags, searchCorners, cornered, cornerCount, firstCorner};
+ghost use Rattle.coloring.specs.Corners.{abs, isCorner, estimateEdgeLength, cornerFlags, searchCorners, cornered, cornerCount, firstCorner};
 ghost use Rattle.coloring.specs.Outline.{edgesOf, contours, outline, Matching, Part};
 ghost use Rattle.coloring.specs.Places.{total};
 
@@ -31,7 +35,18 @@ pub(crate) fn is_corner(a: Vector2, b: Vector2, threshold: f64) -> bool
     dot(a, b) <= 0.0 || exceeds(cross(a, b), threshold)
 }
 
-// The estimated length of an edge: four chords.
+// The length of a vector, given that of the one before: the same where they are equal.
+fn next_length(v: Vector2, before: Vector2, length: f64) -> f64
+    requires { ⌜ length ≡ lengthOf before ⌝ }
+    ensures { λ r. ⌜ r ≡ lengthOf v ⌝ }
+{
+    if v.eq(before) {
+        return length;
+    }
+    v.length()
+}
+
+// The estimated length of an edge: four chords. A line's are often equal, as they are where its points have few digits.
 pub(crate) fn estimate_edge_length(e: EdgeSegment) -> f64
     ensures { λ r. ⌜ r ≡ estimateEdgeLength e ⌝ }
 {
@@ -40,25 +55,29 @@ pub(crate) fn estimate_edge_length(e: EdgeSegment) -> f64
     let p2 = e.point(0.5);
     let p3 = e.point(0.75);
     let p4 = e.point(1.0);
-    let first = p1.sub(p0).length();
-    let second = p2.sub(p1).length();
-    let third = p3.sub(p2).length();
-    let fourth = p4.sub(p3).length();
+    let a = p1.sub(p0);
+    let first = a.length();
+    let b = p2.sub(p1);
+    let second = next_length(b, a, first);
+    let c = p3.sub(p2);
+    let third = next_length(c, b, second);
+    let d = p4.sub(p3);
+    let fourth = next_length(d, c, third);
     0.0 + first + second + third + fourth
 }
 
-// Whether an edge starts at a corner, after an edge that ends in the direction `prev`.
-pub(crate) fn starts_at_corner(threshold: f64, prev: Vector2, e: EdgeSegment) -> bool
-    ensures { λ r. ⌜ r ≡ startsAtCorner threshold prev e ⌝ }
+// The unit direction in which an edge ends, given that in which it starts: of a line they are the same.
+fn end_direction(e: EdgeSegment, start: Vector2) -> Vector2
+    requires { ⌜ start ≡ normalize (direction e f0) false ⌝ }
+    ensures { λ r. ⌜ r ≡ normalize (direction e f1) false ⌝ }
 {
-    is_corner(
-        prev.normalize(false),
-        e.direction(0.0).normalize(false),
-        threshold,
-    )
+    if e.order() == 1 {
+        return start;
+    }
+    e.direction(1.0).normalize(false)
 }
 
-// A flag for each edge of a contour, true where it starts at a corner.
+// A flag for each edge of a contour, true where it starts at a corner. Directions are unit directions.
 pub(crate) fn identify_corners(kinds: &[u8], points: &[f64], threshold: f64, flags: &mut [bool])
     requires { ⌜ Matching (now kinds) (now points) (now flags) ⌝ }
     ensures { λ _. ⌜ now (flags .exit) ≡ cornerFlags threshold (edgesOf (now (kinds .entry)) (now (points .entry))) ⌝ }
@@ -67,12 +86,15 @@ pub(crate) fn identify_corners(kinds: &[u8], points: &[f64], threshold: f64, fla
     if m == 0 {
         return;
     }
-    let mut prev = edge_at(kinds, points, m - 1).direction(1.0);
+    let mut prev = edge_at(kinds, points, m - 1)
+        .direction(1.0)
+        .normalize(false);
     let mut i = 0;
     while i < m {
         let e = edge_at(kinds, points, i);
-        flags[i] = starts_at_corner(threshold, prev, e);
-        prev = e.direction(1.0);
+        let start = e.direction(0.0).normalize(false);
+        flags[i] = is_corner(prev, start, threshold);
+        prev = end_direction(e, start);
         i += 1;
     }
 }

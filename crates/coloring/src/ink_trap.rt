@@ -2,6 +2,7 @@
 // array of the function that has the loops over it.
 use crate::corners::estimate_edge_length;
 use crate::outline::edge_at;
+use crate::simple::simple_colors;
 use crate::switching::Pen;
 use crate::switching::banned_before;
 use crate::switching::switch_color_banned;
@@ -96,15 +97,15 @@ fn mixed_color(color: EdgeColor, next: EdgeColor) -> EdgeColor
     EdgeColor::from_bits((color.bits() & next.bits()) ^ 7)
 }
 
-// Two splines or more.
-pub(crate) fn ink_trap_colors(
+// Four splines or more: minor corners by the estimated lengths.
+fn colors_by_length(
     kinds: &[u8],
     points: &[f64],
     flags: &[bool],
     pen: Pen,
     colors: &mut [u8],
 ) -> Pen
-    requires { ⌜ Matching (now kinds) (now points) (now flags) × (1 < cornerCount (now flags)) × (length (now colors) ≡ cornerCount (now flags)) ⌝ }
+    requires { ⌜ Matching (now kinds) (now points) (now flags) × (3 < cornerCount (now flags)) × (length (now colors) ≡ cornerCount (now flags)) ⌝ }
     ensures { λ r. ⌜ Drawn (inkTrapColors (whole (now (kinds .entry)) (now (points .entry)) (now (flags .entry))) pen) (now (colors .exit)) r ⌝ }
 {
     // the corners, each with the estimated length since the one before
@@ -122,26 +123,24 @@ pub(crate) fn ink_trap_colors(
         spline_length = spline_length + estimate_edge_length(edge_at(kinds, points, index));
         index += 1;
     }
-    // minor corners, only with more than three
+    // minor corners
+    corners[0] = closed(corners[0], spline_length);
     let mut left = count;
-    if 3 < count {
-        corners[0] = closed(corners[0], spline_length);
-        let mut i = 0;
-        'mark: while i < count {
-            let corner = corners[i];
-            let next = corners[(i + 1) % count];
-            let third = corners[(i + 2) % count];
-            let minor = is_minor(
-                corner.prev_edge_length_estimate,
-                next.prev_edge_length_estimate,
-                third.prev_edge_length_estimate,
-            );
-            corners[i] = with_minor(corner, minor);
-            if minor {
-                left -= 1;
-            }
-            i += 1;
+    let mut i = 0;
+    'mark: while i < count {
+        let corner = corners[i];
+        let next = corners[(i + 1) % count];
+        let third = corners[(i + 2) % count];
+        let minor = is_minor(
+            corner.prev_edge_length_estimate,
+            next.prev_edge_length_estimate,
+            third.prev_edge_length_estimate,
+        );
+        corners[i] = with_minor(corner, minor);
+        if minor {
+            left -= 1;
         }
+        i += 1;
     }
     // each major corner switches the colour; the last of them may not take the first one's
     let mut ink = pen;
@@ -180,4 +179,22 @@ pub(crate) fn ink_trap_colors(
         color: last,
         seed: ink.seed,
     }
+}
+
+// Two splines or more. Only with more than three are there minor corners; else no length is asked for, and the colours are those of simple
+// colouring.
+pub(crate) fn ink_trap_colors(
+    kinds: &[u8],
+    points: &[f64],
+    flags: &[bool],
+    pen: Pen,
+    colors: &mut [u8],
+) -> Pen
+    requires { ⌜ Matching (now kinds) (now points) (now flags) × (1 < cornerCount (now flags)) × (length (now colors) ≡ cornerCount (now flags)) ⌝ }
+    ensures { λ r. ⌜ Drawn (inkTrapColors (whole (now (kinds .entry)) (now (points .entry)) (now (flags .entry))) pen) (now (colors .exit)) r ⌝ }
+{
+    if colors.len() <= 3 {
+        return simple_colors(pen, colors);
+    }
+    colors_by_length(kinds, points, flags, pen, colors)
 }

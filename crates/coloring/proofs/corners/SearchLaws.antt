@@ -1,5 +1,6 @@
--- The search for corners, edge by edge: the edge before the first is the last.
+-- The search for corners, edge by edge, by unit directions: the edge before the first is the last.
 use mathlib.Core.Path.{_≡_, refl}
+use mathlib.Core.Bool.{Bool, false}
 use mathlib.Core.List.{List, [], _∷_}
 use Prim.Native.Nat.{ℕ, _+_, _-_, _≤_, _<_}
 use native.Mathlib.Numerals.{add-one}
@@ -7,25 +8,37 @@ use native.Mathlib.Omega.{arith}
 use lib.Ieee.{Float}
 use lib.ListN.{length, drop, getD, drop-of-length-le}
 use lib.Seq.{drop-cons}
-use Rattle.math.specs.Scalar.{f1}
+use Rattle.math.specs.Scalar.{f0, f1}
+use Rattle.math.specs.Vector2.{normalize}
 use Rattle.math.specs.declared.vector2.Vector2.{Vector2}
 use Rattle.geometry.specs.EdgeSegment.{direction}
 use Rattle.geometry.specs.declared.edge_segment.EdgeSegment.{EdgeSegment}
-use Rattle.coloring.specs.Corners.{lastEdge, startsAtCorner, flagsFrom, cornerFlags}
+use Rattle.coloring.specs.Corners.{isCorner, lastEdge, startsAtCorner, flagsFrom, cornerFlags}
 
 last-edge : (e : EdgeSegment) (edges : List EdgeSegment) (d : EdgeSegment) → lastEdge e edges ≡ getD (e ∷ edges) (length edges) d
 unfolding lastEdge
 last-edge e [] d = refl
 last-edge e (f ∷ edges) d = last-edge f edges d
 
+-- the flags after an edge that ends in a unit direction
+unfoldable pub unitFlags : Float → Vector2 → List EdgeSegment → List Bool
+unitFlags threshold prev [] = []
+unitFlags threshold prev (e ∷ edges) =
+    isCorner prev (normalize (direction e f0) false) threshold ∷ unitFlags threshold (normalize (direction e f1) false) edges
+
 module _ (threshold : Float) where
+  by-units : (prev : Vector2) (edges : List EdgeSegment) → flagsFrom threshold prev edges ≡ unitFlags threshold (normalize prev false) edges
+  unfolding flagsFrom startsAtCorner unitFlags
+  by-units prev [] = refl
+  by-units prev (e ∷ edges) = rw (by-units (direction e f1) edges)
+
   pub flags-start : (edges : List EdgeSegment) (m : ℕ) (d : EdgeSegment) → length edges ≡ m → 0 < m
-      → cornerFlags threshold edges ≡ flagsFrom threshold (direction (getD edges (m - 1) d) f1) edges
+      → cornerFlags threshold edges ≡ unitFlags threshold (normalize (direction (getD edges (m - 1) d) f1) false) edges
   unfolding cornerFlags
   flags-start [] m d l h = absurd (omega arith)
   flags-start (e ∷ edges) m d l h =
       let last : m - 1 ≡ length edges = omega arith in
-      rw (last, ← last-edge e edges d)
+      rw (last, ← last-edge e edges d) (by-units (direction (lastEdge e edges) f1) (e ∷ edges))
 
   pub no-flags : (edges : List EdgeSegment) → length edges ≡ 0 → cornerFlags threshold edges ≡ []
   unfolding cornerFlags
@@ -34,10 +47,12 @@ module _ (threshold : Float) where
 
   module _ (prev : Vector2) (edges : List EdgeSegment) (i : ℕ) where
     pub flags-next : (d : EdgeSegment) → i < length edges
-        → flagsFrom threshold prev (drop i edges) ≡ startsAtCorner threshold prev (getD edges i d) ∷ flagsFrom threshold (direction (getD edges i d) f1) (drop (i + 1) edges)
-    unfolding flagsFrom
+        → unitFlags threshold prev (drop i edges)
+        ≡ isCorner prev (normalize (direction (getD edges i d) f0) false) threshold
+        ∷ unitFlags threshold (normalize (direction (getD edges i d) f1) false) (drop (i + 1) edges)
+    unfolding unitFlags
     flags-next d h = rw (drop-cons edges i d h, add-one)
 
-    pub flags-end : length edges ≤ i → flagsFrom threshold prev (drop i edges) ≡ []
-    unfolding flagsFrom
+    pub flags-end : length edges ≤ i → unitFlags threshold prev (drop i edges) ≡ []
+    unfolding unitFlags
     flags-end h = rw (drop-of-length-le edges h)

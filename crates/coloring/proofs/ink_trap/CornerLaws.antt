@@ -149,7 +149,7 @@ module _ (s : Float) (cs : List InkTrapCorner) where
       ∙ ap (λ (l : List InkTrapCorner). map (markedAt (closeFirst s cs)) (range 0 (length cs)) ++ l)
       (sym (drop-of-length-le (closeFirst s cs) {i = length cs} (omega (arith, close-first-length s cs))))
 
-  mark-few : length cs ≤ 3 → markMinors (record { corners = cs; splineLength = s }) ≡ cs
+  pub mark-few : length cs ≤ 3 → markMinors (record { corners = cs; splineLength = s }) ≡ cs
   unfolding markMinors
   mark-few h = branch-false (ltb 3 (length cs)) _ _ (le-ltb 3 (length cs) h)
 
@@ -160,16 +160,13 @@ module _ (n : ℕ) (s : Float) (cs : List InkTrapCorner) (fits : n ≤ length cs
       let size : length (take n cs) ≡ n = length-take-le n cs fits in
       rw (close-first-take n s cs (omega arith)) (sym (mark-many s (take n cs) (omega arith) ∙ rw size))
 
-  pub marks-few : n ≤ 3 → take n cs ≡ markMinors (record { corners = take n cs; splineLength = s })
-  marks-few h = sym (mark-few s (take n cs) (omega (arith, length-take-le n cs fits)))
-
 -- how many corners are major, one more at the end
 majors-snoc : (cs : List InkTrapCorner) (k : InkTrapCorner) → majorCount (cs ++ (k ∷ [])) ≡ majorCount cs + cond (k .minor) 0 1
 unfolding majorCount
 majors-snoc [] k = omega arith
 majors-snoc (x ∷ cs) k = rw (majors-snoc cs k) (omega arith)
 
-majors-most : (cs : List InkTrapCorner) → majorCount cs ≤ length cs
+pub majors-most : (cs : List InkTrapCorner) → majorCount cs ≤ length cs
 unfolding majorCount
 majors-most [] = omega arith
 majors-most (x ∷ cs) = at (x .minor) (majors-most cs)
@@ -193,7 +190,7 @@ minor-here : (i k : ℕ) (color : EdgeColor) (cs : List InkTrapCorner) → aroun
 unfolding colorMinors
 minor-here i k color cs e = branch-true (around cs i .minor) _ _ e
 
-major-here : (i k : ℕ) (color : EdgeColor) (cs : List InkTrapCorner) → around cs i .minor ≡ false
+pub major-here : (i k : ℕ) (color : EdgeColor) (cs : List InkTrapCorner) → around cs i .minor ≡ false
     → colorMinors i (suc k) color cs ≡ colorMinors (suc i) k (around cs i .color) cs
 unfolding colorMinors
 major-here i k color cs e = branch-false (around cs i .minor) _ _ e
@@ -256,7 +253,7 @@ module _ (initial : EdgeColor) (left : ℕ) (pen : Pen) where
   abbrev nextInitial : EdgeColor
   nextInitial = cond (isBlack initial) (nextPen .color) initial
 
-  majors-major : (k : InkTrapCorner) (cs : List InkTrapCorner) → k .minor ≡ false
+  pub majors-major : (k : InkTrapCorner) (cs : List InkTrapCorner) → k .minor ≡ false
       → colorMajors initial left pen (k ∷ cs)
       ≡ record {
         corners = withColor (nextPen .color) k ∷ colorMajors nextInitial (left - 1) nextPen cs .corners;
@@ -350,7 +347,7 @@ unfolding colorCorners
 colored m pen marked left inked n e f g l = rw (← e, ← f, g, l)
 
 -- the splines' colours of coloured corners
-abbrev splines : Inked → SplineColors
+abbrev pub splines : Inked → SplineColors
 splines inked =
     let colors = map colorOf (inked .corners) in
     record { colors = colors; pen = record { color = getD colors (length colors - 1) Black; seed = inked .pen .seed } }

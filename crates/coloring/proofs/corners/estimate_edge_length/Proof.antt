@@ -28,20 +28,20 @@ length-requires c κs = search needs
 sub-requires-2 : tie.Need-sub-requires-2
 sub-requires-2 c κs = search needs
 
-length-requires-2 : tie.Need-length-requires-2
-length-requires-2 c κs = search needs
+next-length-requires : tie.Need-next-length-requires
+next-length-requires c κs = search needs
 
 sub-requires-3 : tie.Need-sub-requires-3
 sub-requires-3 c κs = search needs
 
-length-requires-3 : tie.Need-length-requires-3
-length-requires-3 c κs = search needs
+next-length-requires-2 : tie.Need-next-length-requires-2
+next-length-requires-2 c κs = search needs
 
 sub-requires-4 : tie.Need-sub-requires-4
 sub-requires-4 c κs = search needs
 
-length-requires-4 : tie.Need-length-requires-4
-length-requires-4 c κs = search needs
+next-length-requires-3 : tie.Need-next-length-requires-3
+next-length-requires-3 c κs = search needs
 
 returns : tie.Need-returns
 unfolding chord estimateEdgeLength
@@ -51,11 +51,11 @@ returns c =
     let c1 = c2 .before .before in
     let p = c1 .before .before in
     simp (
-      c .length4 .ensures,
+      c .next-length3 .ensures,
       c .before .sub4 .ensures,
-      c3 .length3 .ensures,
+      c3 .next-length2 .ensures,
       c3 .before .sub3 .ensures,
-      c2 .length2 .ensures,
+      c2 .next-length .ensures,
       c2 .before .sub2 .ensures,
       c1 .length .ensures,
       c1 .before .sub .ensures,
@@ -78,9 +78,9 @@ estimate-edge-length-spec =
     sub-requires
     length-requires
     sub-requires-2
-    length-requires-2
+    next-length-requires
     sub-requires-3
-    length-requires-3
+    next-length-requires-2
     sub-requires-4
-    length-requires-4
+    next-length-requires-3
     returns)

@@ -1,4 +1,4 @@
--- `identify_corners` meets its contract: the edges before place i have their flags, and `prev` is the direction in which the edge before i ends.
+-- `identify_corners` meets its contract: the edges before place i have their flags, and `prev` is the unit direction in which the edge before i ends.
 use native.Mathlib.Omega.{arith}
 use borrow.Author.Needs.{needs}
 use mathlib.Core.Path.{_≡_, refl, sym, _∙_}
@@ -6,19 +6,19 @@ use Prim.Native.Nat.{_-_, _≤_, _<_}
 use lib.ListN.{length, drop, length-set}
 use Rattle.graph.specs.Lists.{overFrom}
 use Rattle.graph.proofs.Writing.{over-all, over-next, over-nothing}
-use Rattle.coloring.specs.Corners.{flagsFrom, cornerFlags}
+use Rattle.coloring.specs.Corners.{cornerFlags}
 use Rattle.coloring.specs.Outline.{anyEdge, edgesOf}
 use Rattle.coloring.specs.Sizes.{flags-length}
 use Rattle.coloring.proofs.Lists.{length-zero}
 use Rattle.coloring.proofs.outline.EdgeLaws.{edges-length}
-use Rattle.coloring.proofs.corners.SearchLaws.{flags-start, no-flags, flags-next, flags-end}
+use Rattle.coloring.proofs.corners.SearchLaws.{unitFlags, flags-start, no-flags, flags-next, flags-end}
 use Rattle.coloring.proofs.corners.identify_corners.Statement.{statement}
 use Rattle.coloring.proofs.corners.identify_corners.Tie as tie
 
 abbrev Inv-loop : tie.InvT-loop
 Inv-loop kinds points threshold flags₀ m prev₀ i₀ flags prev i =
     (m ≡ length kinds) × (i ≤ m) × (length flags ≡ m)
-    × (cornerFlags threshold (edgesOf kinds points) ≡ overFrom i (flagsFrom threshold prev (drop i (edgesOf kinds points))) flags)
+    × (cornerFlags threshold (edgesOf kinds points) ≡ overFrom i (unitFlags threshold prev (drop i (edgesOf kinds points))) flags)
 
 abbrev μ-loop : tie.MeasureT-loop
 μ-loop kinds points threshold flags₀ m prev₀ i₀ flags prev i = m - i
@@ -38,9 +38,12 @@ edge-at-requires c κs = (omega arith, c .before .before .before .before .pre .p
 direction-requires : tie.Need-direction-requires Inv-loop μ-loop
 direction-requires c κs = search needs
 
+normalize-requires : tie.Need-normalize-requires Inv-loop μ-loop
+normalize-requires c κs = search needs
+
 loop-holds : tie.Need-loop-holds Inv-loop μ-loop
 loop-holds c =
-    let start = c .before .before .before .before .before .before in
+    let start = c .before .before .before .before .before .before .before in
     let edges = edgesOf (start .args .kinds .now) (start .args .points .now) in
     let l = edges-length (start .args .kinds .now) (start .args .points .now) in
     let long : length (start .args .flags .now) ≡ length (cornerFlags (start .args .threshold) edges) =
@@ -48,21 +51,27 @@ loop-holds c =
       refl,
       omega arith,
       start .pre .flagged,
-      rw (c .direction .ensures, c .before .edge-at .ensures, ← flags-start (start .args .threshold) edges (length (start .args .kinds .now)) anyEdge l (omega arith))
+      rw (c .normalize .ensures, c .before .direction .ensures, c .before .before .edge-at .ensures, ← flags-start (start .args .threshold) edges (length (start .args .kinds .now)) anyEdge l (omega arith))
           (sym (over-all (cornerFlags (start .args .threshold) edges) (start .args .flags .now) long)),
     )
 
 edge-at-requires-2 : tie.Need-edge-at-requires-2 Inv-loop μ-loop
 edge-at-requires-2 c κs = omega arith
 
-starts-at-corner-requires : tie.Need-starts-at-corner-requires Inv-loop μ-loop
-starts-at-corner-requires c κs = search needs
+direction-requires-2 : tie.Need-direction-requires-2 Inv-loop μ-loop
+direction-requires-2 c κs = search needs
+
+normalize-requires-2 : tie.Need-normalize-requires-2 Inv-loop μ-loop
+normalize-requires-2 c κs = search needs
+
+is-corner-requires : tie.Need-is-corner-requires Inv-loop μ-loop
+is-corner-requires c κs = search needs
 
 slice-write-flags : tie.Need-slice-write-flags Inv-loop μ-loop
 slice-write-flags c = omega arith
 
-direction-requires-2 : tie.Need-direction-requires-2 Inv-loop μ-loop
-direction-requires-2 c κs = search needs
+end-direction-requires : tie.Need-end-direction-requires Inv-loop μ-loop
+end-direction-requires c κs = rw (← c .before .before .direction2 .ensures) (c .before .normalize2 .ensures)
 
 add-i : tie.Need-add-i Inv-loop μ-loop
 add-i c = omega arith
@@ -72,16 +81,17 @@ loop-less c = omega arith
 
 loop-again : tie.Need-loop-again Inv-loop μ-loop
 loop-again c =
-    let start = c .before .before .before .before .before .before .before .before .before .before .before in
-    let at = c .before .before .before .before .loop in
+    let start = c .before .before .before .before .before .before .before .before .before .before .before .before .before .before in
+    let at = c .before .before .before .before .before .before .loop in
     let edges = edgesOf (start .args .kinds .now) (start .args .points .now) in
     let h : at .i < length edges = omega (arith, edges-length (start .args .kinds .now) (start .args .points .now)) in
-    let e = c .before .before .edge-at2 .ensures in (
+    let corner = c .before in
+    let e = corner .before .before .before .edge-at2 .ensures in (
       at .inv .0,
       omega arith,
       simp length-set (at .inv .2),
       at .inv .3
-          ∙ rw (c .direction2 .ensures, c .before .starts-at-corner .ensures, e, flags-next (start .args .threshold) (at .prev) edges (at .i) anyEdge h)
+          ∙ rw (c .end-direction .ensures, corner .is-corner .ensures, corner .before .normalize2 .ensures, corner .before .before .direction2 .ensures, e, flags-next (start .args .threshold) (at .prev) edges (at .i) anyEdge h)
           (over-next (at .i) _ _ (at .flags) (omega arith)),
     )
 
@@ -90,7 +100,7 @@ same-length c = omega arith
 
 returns-2 : tie.Need-returns-2 Inv-loop μ-loop
 returns-2 c =
-    let start = c .before .before .before .before .before .before .before .before in
+    let start = c .before .before .before .before .before .before .before .before .before in
     let at = c .before .loop in
     let edges = edgesOf (start .args .kinds .now) (start .args .points .now) in
     sym
@@ -108,11 +118,14 @@ identify-corners-spec =
     sub-edge-at
     edge-at-requires
     direction-requires
+    normalize-requires
     loop-holds
     edge-at-requires-2
-    starts-at-corner-requires
-    slice-write-flags
     direction-requires-2
+    normalize-requires-2
+    is-corner-requires
+    slice-write-flags
+    end-direction-requires
     add-i
     loop-less
     loop-again
