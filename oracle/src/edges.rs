@@ -2,7 +2,7 @@
 //! one compares them all, and the edges to try.
 
 use crate::geometry::{EdgeColor, EdgeSegment};
-use crate::leaves::NAN;
+use crate::leaves::one_nan;
 use crate::math::Vector2;
 use crate::numbers::{Random, SPECIAL};
 
@@ -315,11 +315,7 @@ impl Function {
     /// The reference's answer, with one pattern for every NaN.
     pub fn answer(&self, inputs: &Inputs) -> Outputs {
         let mut outputs = (self.reference)(inputs);
-        for place in &mut outputs.places {
-            if f64::from_bits(*place).is_nan() {
-                *place = NAN;
-            }
-        }
+        outputs.places = outputs.places.map(one_nan);
         outputs
     }
 
