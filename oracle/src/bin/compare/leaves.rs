@@ -2,7 +2,7 @@
 
 use crate::Tally;
 use crate::records::is_right;
-use oracle::leaves::{LEAVES, Leaf, Inputs, record};
+use oracle::leaves::{Inputs, LEAVES, Leaf, record};
 use oracle::numbers::Random;
 use oracle::roots;
 

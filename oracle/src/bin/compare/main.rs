@@ -1,12 +1,14 @@
 //! Runs the proved code, through the archives of target/staticlib, beside the Rust of docs/src, and counts
 //! the answers that differ. The last line is the verdict. A word names one part alone: `leaves`,
-//! `edges`, `tables`, `shapes`, `distances`, `jobs`; `speed` measures and compares nothing.
+//! `edges`, `tables`, `shapes`, `distances`, `jobs`, or `root`, which a run of all leaves out. `speed`
+//! measures and compares nothing.
 
 mod distances;
 mod edges;
 mod jobs;
 mod leaves;
 mod records;
+mod root;
 mod shapes;
 mod tables;
 
@@ -42,6 +44,10 @@ impl Tally {
     /// Prints the count of one part and adds it to the whole.
     pub fn close(&mut self, name: &str, part: Tally) {
         println!("{name}: {} compared, {} differ", part.compared, part.differ);
+        self.add(part);
+    }
+
+    pub fn add(&mut self, part: Tally) {
         self.compared += part.compared;
         self.differ += part.differ;
     }
@@ -65,6 +71,7 @@ fn main() {
         Some("shapes") => shapes::compare(&mut all),
         Some("distances") => distances::compare(&mut all),
         Some("jobs") => jobs::compare(&mut all),
+        Some("root") => root::compare(&mut all),
         Some("speed") => {
             tables::speed();
             shapes::speed();
@@ -73,7 +80,9 @@ fn main() {
             return;
         }
         Some(_) => {
-            eprintln!("usage: compare [leaves | edges | tables | shapes | distances | jobs | speed]");
+            eprintln!(
+                "usage: compare [leaves | edges | tables | shapes | distances | jobs | root | speed]"
+            );
             std::process::exit(2);
         }
     }

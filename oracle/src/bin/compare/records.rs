@@ -6,9 +6,10 @@ unsafe extern "C" {
     fn vectors_right(record: *const u8, len: usize) -> u64;
 }
 
-fn right(words: &[u64]) -> bool {
-    let bytes: Vec<u8> = words.iter().flat_map(|w| w.to_le_bytes()).collect();
-    unsafe { vectors_right(bytes.as_ptr(), bytes.len()) == 1 }
+/// Whether the answer is as recorded. Words lie in memory as a record has them, the lowest byte first.
+pub fn right(words: &[u64]) -> bool {
+    const { assert!(cfg!(target_endian = "little")) };
+    unsafe { vectors_right(words.as_ptr().cast(), 8 * words.len()) == 1 }
 }
 
 /// Whether the answer is as recorded, and with another recorded answer is not: the words at `answer`
