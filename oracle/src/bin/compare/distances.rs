@@ -1,18 +1,13 @@
-//! By-distance colouring with given distances, and its collecting pass: shapes, refusals, and how long
-//! 64 splines take.
+//! By-distance colouring with given distances, and its collecting pass: shapes and refusals.
 
 use crate::Tally;
-use crate::shapes::{Classes, Guarded, best, corners};
+use crate::shapes::{Classes, Guarded, corners};
 use oracle::contours;
-use oracle::distances::{self, Collected, DISTANCE_FAULTS, DistanceCall, MOST_SPLINES, ORDER};
-use oracle::distances::{Outcome, WAYS};
-use oracle::distances::{call, collect, collected, color, pairs, spoil, with_splines};
-use oracle::given::by_distance_given::edge_coloring_by_distance_given;
+use oracle::distances::{self, DISTANCE_FAULTS, DistanceCall, MOST_SPLINES, ORDER, Outcome, WAYS};
+use oracle::distances::{call, collect, color, pairs, spoil};
 use oracle::numbers::Random;
 use oracle::shapes::{Answer, Buffers, Call, FAULTS};
-use oracle::shapes::{buffers, decode, outline, source_shape};
-use std::hint::black_box;
-use std::time::Duration;
+use oracle::shapes::{buffers, decode, outline};
 
 #[link(name = "capi", kind = "static")]
 unsafe extern "C" {
@@ -106,7 +101,7 @@ fn proved_collect(call: &Call, room: &mut Room) -> u64 {
     }
 }
 
-fn proved_color(call: &DistanceCall, out: &mut Buffers) -> u64 {
+pub fn proved_color(call: &DistanceCall, out: &mut Buffers) -> u64 {
     let Buffers { lengths, kinds, points, colors } = out;
     proved_color_to(call, lengths, kinds, points, colors)
 }
@@ -313,43 +308,4 @@ pub fn compare(all: &mut Tally) {
     p7(all);
     shapes(all);
     refusals(all);
-}
-
-// ---- speed
-
-/// 64 splines and 2,016 distances without a zero: 32 different shapes by turns.
-pub fn speed() {
-    let r = &mut Random(602);
-    let mut calls = Vec::new();
-    while calls.len() < 32 {
-        let shape = with_splines(r, 64, 0.125);
-        let outline = outline(r, &shape);
-        let out = buffers(r, 64, 508, 4064, 508);
-        let call = Call { outline, threshold: 0.125, seed: calls.len() as u64, out };
-        let Collected { splines, .. } = collected(&call);
-        if splines == MOST_SPLINES {
-            let distances: Vec<f64> = (0..pairs(splines)).map(|_| r.unit().abs() + 0.5).collect();
-            let bits = distances.iter().map(|d| d.to_bits()).collect();
-            calls.push((DistanceCall { call, distances: bits }, distances, source_shape(&shape)));
-        }
-    }
-    let mut outs: Vec<Buffers> = calls.iter().map(|c| c.0.call.out.clone()).collect();
-    let proved = best(|| {
-        for ((c, _, _), out) in calls.iter().zip(&mut outs) {
-            black_box(proved_color(c, out));
-        }
-    });
-    let rust = best(|| {
-        for (c, distances, source) in &calls {
-            let mut shape = source.clone();
-            let (threshold, seed) = (c.call.threshold, c.call.seed);
-            edge_coloring_by_distance_given(&mut shape, threshold, seed, distances);
-            black_box(&shape);
-        }
-    });
-    let copies = best(|| calls.iter().for_each(|(_, _, source)| drop(black_box(source.clone()))));
-    let us = |d: Duration| d.as_secs_f64() * 1e6 / calls.len() as f64;
-    let (proved, rust) = (us(proved), us(rust) - us(copies));
-    println!("64 splines, 2,016 distances, in microseconds a shape, 32 shapes, the best of 25 runs");
-    println!("by distance: proved {proved:.1}, Rust {rust:.1}, proved / Rust {:.2}", proved / rust);
 }

@@ -1,20 +1,14 @@
-//! Job files: reading, checking, colouring, the listing and the part of a contour; and how long a file of
-//! 256 edges takes.
+//! Job files: reading, checking, colouring, the listing and the part of a contour.
 
 use crate::Tally;
-use crate::shapes::{Classes, Guarded, best};
-use oracle::contours::{self, Edges};
-use oracle::distances::pairs;
-use oracle::geometry::Shape;
+use crate::shapes::{Classes, Guarded};
 use oracle::job_faults::{BOTH, DAMAGES, can_follow, damage, planted, planted_before};
 use oracle::job_files::{Known, LONG, PROGRAM_BYTES};
 use oracle::job_files::{job, known, long, longest, no_contours, small, square_job, widest};
 use oracle::jobs::{FAULTS, Fault, Job, JobBuffers, Outcome, Stop};
-use oracle::jobs::{color, listing, outcome, read, records, splines, stop, stored, write};
+use oracle::jobs::{outcome, records, splines, stop, stored, write};
 use oracle::numbers::Random;
 use oracle::shapes::{Answer, Buffers, buffers, deliver, encode, noise, some};
-use std::hint::black_box;
-use std::time::Duration;
 
 #[link(name = "capi", kind = "static")]
 unsafe extern "C" {
@@ -53,7 +47,7 @@ unsafe extern "C" {
     fn merelsplum_job_contour_part(file: *const u8, file_len: usize, contour: u64) -> u64;
 }
 
-fn proved_color(file: &[u8], l: &mut [u16], k: &mut [u8], p: &mut [u64], c: &mut [u8]) -> u64 {
+pub fn proved_color(file: &[u8], l: &mut [u16], k: &mut [u8], p: &mut [u64], c: &mut [u8]) -> u64 {
     unsafe {
         merelsplum_job_color(
             file.as_ptr(),
@@ -70,7 +64,7 @@ fn proved_color(file: &[u8], l: &mut [u16], k: &mut [u8], p: &mut [u64], c: &mut
     }
 }
 
-fn proved_listing(file: &[u8], out: &mut [u8]) -> u64 {
+pub fn proved_listing(file: &[u8], out: &mut [u8]) -> u64 {
     unsafe { merelsplum_job_listing(file.as_ptr(), file.len(), out.as_mut_ptr(), out.len()) }
 }
 
@@ -645,71 +639,4 @@ pub fn compare(all: &mut Tally) {
     damaged(&mut c, all);
     accepted(&mut c);
     c.close(all);
-}
-
-// ---- speed
-
-/// 64 files, one after the other.
-const TURNS: usize = 64;
-
-/// 256 edges, lines and cubics, in 8 contours of 8 corners each.
-fn mixed(r: &mut Random) -> Vec<Edges> {
-    let contour = |_| {
-        let mut corners = [false; 32];
-        while corners.iter().filter(|&&corner| corner).count() < 8 {
-            corners[some(r, 32)] = true;
-        }
-        contours::planned(r, &corners, 0.125, &[1, 3])
-    };
-    (0..8).map(contour).collect()
-}
-
-pub fn speed() {
-    let r = &mut Random(707);
-    let us = |d: Duration| d.as_secs_f64() * 1e6 / TURNS as f64;
-    println!(
-        "job files of 256 mixed edges, in microseconds a file, the best of 25 runs of {TURNS} files"
-    );
-    for (strategy, name) in [(1, "simple"), (2, "ink trap"), (3, "by distance")] {
-        let mut files = Vec::new();
-        while files.len() < TURNS {
-            let contours = mixed(r);
-            let distances = (0..pairs(64)).map(|_| r.unit().abs() + 0.5).collect();
-            let distances = if strategy == 3 { distances } else { Vec::new() };
-            let seed = files.len() as u64;
-            let job = Job { strategy, seed, threshold: 0.125, contours, distances };
-            if splines(&job) == 64 {
-                files.push(write(&job));
-            }
-        }
-        let mut out = buffers(r, 64, 508, 4064, 508);
-        let mut text = [0; 5598];
-        let proved = best(|| {
-            for file in &files {
-                let Buffers { lengths, kinds, points, colors } = &mut out;
-                black_box(proved_color(file, lengths, kinds, points, colors));
-            }
-        });
-        let rust = best(|| files.iter().for_each(|file| drop(black_box(colored(file)))));
-        report(&format!("{name}, read and coloured"), us(proved), us(rust));
-        let proved = best(|| {
-            for file in &files {
-                black_box(proved_listing(file, &mut text));
-            }
-        });
-        let rust = best(|| files.iter().for_each(|f| drop(black_box(listing(&colored(f))))));
-        report(&format!("{name}, read, coloured and listed"), us(proved), us(rust));
-        for file in &files {
-            let n = proved_listing(file, &mut text) as usize;
-            assert!(text[..n] == *listing(&colored(file)).as_bytes(), "the two listed differently");
-        }
-    }
-}
-
-fn colored(file: &[u8]) -> Shape {
-    color(&read(file).unwrap().job).unwrap()
-}
-
-fn report(what: &str, proved: f64, rust: f64) {
-    println!("{what}: proved {proved:.1}, Rust {rust:.1}, proved / Rust {:.2}", proved / rust);
 }

@@ -1,7 +1,7 @@
 //! Runs the proved code, through the archives of target/staticlib, beside the Rust of docs/src, and counts
 //! the answers that differ. The last line is the verdict. A word names one part alone: `leaves`,
 //! `edges`, `tables`, `shapes`, `distances`, `jobs`, or `root`, which a run of all leaves out. `speed`
-//! measures and compares nothing.
+//! measures and compares nothing, and runs `pass` under callgrind.
 
 mod distances;
 mod edges;
@@ -10,6 +10,7 @@ mod leaves;
 mod records;
 mod root;
 mod shapes;
+mod speed;
 mod tables;
 
 /// How many answers were compared, how many of them differ, and how many kinds of input that are asked
@@ -53,10 +54,17 @@ impl Tally {
     }
 }
 
+fn usage() -> ! {
+    eprintln!("usage: compare [leaves | edges | tables | shapes | distances | jobs | root]");
+    eprintln!("       compare speed [FOLDER...]");
+    eprintln!("       compare pass ROW proved|rust [FOLDER...]");
+    std::process::exit(2);
+}
+
 fn main() {
-    let word = std::env::args().nth(1);
+    let words: Vec<String> = std::env::args().skip(1).collect();
     let mut all = Tally::default();
-    match word.as_deref() {
+    match words.first().map(String::as_str) {
         None => {
             leaves::compare(&mut all);
             edges::compare(&mut all);
@@ -72,19 +80,9 @@ fn main() {
         Some("distances") => distances::compare(&mut all),
         Some("jobs") => jobs::compare(&mut all),
         Some("root") => root::compare(&mut all),
-        Some("speed") => {
-            tables::speed();
-            shapes::speed();
-            distances::speed();
-            jobs::speed();
-            return;
-        }
-        Some(_) => {
-            eprintln!(
-                "usage: compare [leaves | edges | tables | shapes | distances | jobs | root | speed]"
-            );
-            std::process::exit(2);
-        }
+        Some("speed") => return speed::measure(&words[1..]),
+        Some("pass") => return speed::pass(&words[1..]).unwrap_or_else(|| usage()),
+        Some(_) => usage(),
     }
     print!("{} compared, {} differ", all.compared, all.differ);
     if all.empty != 0 {

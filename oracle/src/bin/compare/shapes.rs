@@ -1,15 +1,13 @@
-//! Simple and ink-trap colouring: shapes, refusals, the trichotomy, and how long 256 edges take.
+//! Simple and ink-trap colouring: shapes, refusals and the trichotomy.
 
 use crate::Tally;
-use oracle::contours::{self, Edges, corner, directions};
+use oracle::contours::{Edges, corner, directions};
 use oracle::given::probe;
 use oracle::math::{cross, dot};
 use oracle::numbers::Random;
 use oracle::shapes::used;
 use oracle::shapes::{Answer, Buffers, Call, FAULTS, ORDER, Outline, STRATEGIES, Strategy};
-use oracle::shapes::{buffers, call, color, decode, faults, outline, result, run, source_shape};
-use std::hint::black_box;
-use std::time::{Duration, Instant};
+use oracle::shapes::{call, color, decode, faults, result, source_shape};
 
 type Entry = unsafe extern "C" fn(
     lengths: *const u16,
@@ -66,7 +64,7 @@ fn entry(strategy: Strategy) -> Entry {
 }
 
 /// The proved colouring. A double goes by the address of its bits, which are not touched on the way.
-fn proved(
+pub fn proved(
     strategy: Strategy,
     o: &Outline,
     threshold: f64,
@@ -468,68 +466,4 @@ pub fn compare(all: &mut Tally) {
     trichotomy(all);
     shapes(all);
     refusals(all);
-}
-
-// ---- speed
-
-/// The best of several runs.
-pub fn best(mut run: impl FnMut()) -> Duration {
-    let time = |_| {
-        let from = Instant::now();
-        run();
-        from.elapsed()
-    };
-    (0..25).map(time).min().unwrap()
-}
-
-/// 256 edges, lines and cubics, in contours of one length, every other one with fewer corners.
-fn mixed(r: &mut Random, contours: u64, threshold: f64) -> Vec<Edges> {
-    let contour = |i: u64| {
-        let rare = if i % 2 == 0 { 2 } else { 8 };
-        let corners: Vec<bool> = (0..256 / contours).map(|_| r.below(rare) == 0).collect();
-        contours::planned(r, &corners, threshold, &[1, 3])
-    };
-    (0..contours).map(contour).collect()
-}
-
-/// 64 shapes, one after the other.
-const TURNS: usize = 64;
-
-pub fn speed() {
-    let r = &mut Random(402);
-    let threshold = 0.125;
-    println!(
-        "256 mixed edges, in microseconds a shape, the best of 25 runs of {TURNS} different shapes"
-    );
-    for count in [8, 64] {
-        let shapes: Vec<Vec<Edges>> = (0..TURNS).map(|_| mixed(r, count, threshold)).collect();
-        let outlines: Vec<Outline> = shapes.iter().map(|shape| outline(r, shape)).collect();
-        let mut sources: Vec<_> = shapes.iter().map(|shape| source_shape(shape)).collect();
-        let mut outs: Vec<Buffers> = (0..TURNS).map(|_| buffers(r, 64, 508, 4064, 508)).collect();
-        for strategy in STRATEGIES {
-            let proved = best(|| {
-                for (seed, (o, out)) in outlines.iter().zip(&mut outs).enumerate() {
-                    let (l, k) = (&mut out.lengths[..], &mut out.kinds[..]);
-                    let (p, c) = (&mut out.points[..], &mut out.colors[..]);
-                    black_box(proved(strategy, o, threshold, seed as u64, l, k, p, c));
-                }
-            });
-            let rust = best(|| {
-                for (seed, source) in sources.iter_mut().enumerate() {
-                    run(strategy, black_box(source), threshold, seed as u64);
-                }
-            });
-            for (source, out) in sources.iter().zip(&outs) {
-                let colors = source.contours.iter().flat_map(|c| &c.colors).map(|c| c.bits());
-                assert!(colors.eq(out.colors[..256].iter().copied()), "the two ended differently");
-            }
-            let us = |d: Duration| d.as_secs_f64() * 1e6 / TURNS as f64;
-            println!(
-                "{count} contours, {strategy:?}: proved {:.1}, Rust {:.1}, proved / Rust {:.2}",
-                us(proved),
-                us(rust),
-                us(proved) / us(rust)
-            );
-        }
-    }
 }

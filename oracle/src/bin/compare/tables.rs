@@ -1,12 +1,9 @@
-//! The spline table: single offers, refusals, lists of offers, and how long a list takes.
+//! The spline table: single offers, refusals and lists of offers.
 
 use crate::Tally;
-use oracle::given::probe;
 use oracle::numbers::Random;
 use oracle::tables::{Answer, FAULTS, Pair, Table, Way};
-use oracle::tables::{all_pairs, list, offer, pair, ring, size, sound, start, way};
-use std::hint::black_box;
-use std::time::{Duration, Instant};
+use oracle::tables::{list, offer, pair, size, sound, start, way};
 
 #[link(name = "capi", kind = "static")]
 unsafe extern "C" {
@@ -20,7 +17,7 @@ unsafe extern "C" {
     ) -> u64;
 }
 
-fn try_add_edge(coloring: &mut [u8], edge_matrix: &mut [u8], (a, b): Pair) -> u64 {
+pub fn try_add_edge(coloring: &mut [u8], edge_matrix: &mut [u8], (a, b): Pair) -> u64 {
     let (c, n) = (coloring.as_mut_ptr(), coloring.len());
     let (e, m) = (edge_matrix.as_mut_ptr(), edge_matrix.len());
     unsafe { merelsplum_try_add_edge(c, n, e, m, a, b) }
@@ -217,64 +214,4 @@ pub fn compare(all: &mut Tally) {
     offers(all);
     refusals(all);
     lists(all);
-}
-
-// ---- speed
-
-/// How long something takes, where that is less than `least`.
-fn time<T>(least: &mut Duration, run: impl FnOnce() -> T) -> T {
-    let from = Instant::now();
-    let result = run();
-    *least = from.elapsed().min(*least);
-    result
-}
-
-fn offers_proved(t: &Table, pairs: &[Pair]) -> Table {
-    let mut t = t.clone();
-    for &p in pairs {
-        black_box(try_add_edge(&mut t.coloring, &mut t.edge_matrix, p));
-    }
-    t
-}
-
-fn offers_source(t: &Table, pairs: &[Pair]) -> (Vec<i32>, Vec<i32>) {
-    let mut coloring: Vec<i32> = t.coloring.iter().map(|&c| c as i32).collect();
-    let mut matrix: Vec<i32> = t.edge_matrix.iter().map(|&e| e as i32).collect();
-    probe::offers(&mut coloring, &mut matrix, t.n(), pairs);
-    (coloring, matrix)
-}
-
-/// A job's worth of offers: 64 splines, the neighbours of a ring kept, then all 2,016 pairs. Each of 20
-/// lists is run 25 times on both sides by turns, and the best time of each is taken.
-pub fn speed() {
-    let r = &mut Random(203);
-    let mut sums = [Duration::ZERO; 3];
-    for _ in 0..20 {
-        let (t, pairs) = (ring(r, 64), all_pairs(r, 64));
-        let end = offers_proved(&t, &pairs);
-        let wide = |bytes: &[u8]| bytes.iter().map(|&x| x as i32).collect::<Vec<i32>>();
-        let ends = (wide(&end.coloring), wide(&end.edge_matrix));
-        assert!(ends == offers_source(&t, &pairs), "the two end in different tables");
-        // a kept pair of two colours: the checks, and next to nothing else
-        let kept = vec![*pairs.iter().find(|&&p| end.kept(p)).unwrap(); pairs.len()];
-        let mut best = [Duration::MAX; 3];
-        for _ in 0..25 {
-            time(&mut best[0], || black_box(offers_proved(&t, &pairs)));
-            time(&mut best[1], || black_box(offers_proved(&end, &kept)));
-            time(&mut best[2], || black_box(offers_source(&t, &pairs)));
-        }
-        for (sum, best) in sums.iter_mut().zip(best) {
-            *sum += best;
-        }
-    }
-    let [proved, checks, source] = sums.map(|sum| sum.as_secs_f64() * 1e3 / 20.0);
-    println!(
-        "64 splines, 2016 offers, in milliseconds, the mean of 20 lists, each the best of 25 runs"
-    );
-    println!("proved {proved:.3} (checks of the table {checks:.3}), Rust {source:.3}");
-    println!(
-        "proved / Rust {:.2}, without the checks {:.2}",
-        proved / source,
-        (proved - checks) / source
-    );
 }
