@@ -2,6 +2,7 @@
 //! reader, the source's colouring, and formatting to a string.
 
 use super::clock::pass;
+use super::shapes::starts_with;
 use super::{Race, Row, Table};
 use crate::jobs::{proved_color, proved_listing};
 use oracle::contours::{self, Edges};
@@ -10,7 +11,7 @@ use oracle::geometry::Shape;
 use oracle::job_files::square_job;
 use oracle::jobs::{Job, color, listing, read, splines, write};
 use oracle::numbers::Random;
-use oracle::shapes::{Buffers, buffers, some};
+use oracle::shapes::{Buffers, buffers, encode, some};
 use std::hint::black_box;
 
 pub fn table() -> Table {
@@ -72,16 +73,24 @@ fn colored(file: &[u8]) -> Shape {
     color(&read(file).unwrap().job).unwrap()
 }
 
+fn color_proved(file: &[u8], out: &mut Buffers) -> u64 {
+    let Buffers { lengths, kinds, points, colors } = out;
+    proved_color(file, lengths, kinds, points, colors)
+}
+
 fn coloring(files: Vec<Vec<u8>>) -> Race {
     let mut out = buffers(&mut Random(708), 64, 508, 4064, 508);
+    for file in &files {
+        color_proved(file, &mut out);
+        assert!(starts_with(&out, &encode(&colored(file))), "the two ended differently");
+    }
     let sources = files.clone();
     Race {
         inputs: files.len(),
         parts: edges(&files),
         proved: Box::new(move || {
-            let Buffers { lengths, kinds, points, colors } = &mut out;
             pass(&files, |file| {
-                black_box(proved_color(file, lengths, kinds, points, colors));
+                black_box(color_proved(file, &mut out));
             })
         }),
         rust: Box::new(move || pass(&sources, |file| drop(black_box(colored(file))))),
