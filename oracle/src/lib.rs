@@ -21,6 +21,7 @@ pub mod contours;
 pub mod distances;
 pub mod edges;
 pub mod glyphs;
+pub mod guess;
 pub mod job_faults;
 pub mod job_files;
 pub mod job_sample;

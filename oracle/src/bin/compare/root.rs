@@ -2,6 +2,7 @@
 
 use crate::Tally;
 use crate::records::right;
+use oracle::guess;
 use oracle::leaves::{record, root_of_pattern};
 use oracle::numbers::Random;
 use oracle::roots::{KINDS, Kind};
@@ -38,12 +39,15 @@ struct Class {
     roots: Tally,
     /// Wrong answers, which must not be taken for right ones.
     wrong: Tally,
+    /// Positive normal numbers, and those whose root the library's guess misses.
+    guessed: u64,
+    missed: u64,
 }
 
 impl Class {
     fn new() -> Self {
         let record = record(SQRT_BITS, &[0; 5], &[0; 2]);
-        Class { record, roots: Tally::default(), wrong: Tally::default() }
+        Class { record, roots: Tally::default(), wrong: Tally::default(), guessed: 0, missed: 0 }
     }
 
     fn is_root(&mut self, bits: u64, root: u64) -> bool {
@@ -56,6 +60,10 @@ impl Class {
         let root = root_of_pattern(bits);
         if self.roots.compared % RARE == 0 {
             self.wrong_answers(bits, root);
+        }
+        if f64::from_bits(bits).is_normal() && bits >> 63 == 0 {
+            self.guessed += 1;
+            self.missed += u64::from(!guess::is_right(bits));
         }
         let agree = self.is_root(bits, root);
         self.roots.note(agree, || format!("the root of {bits:016X}, not {root:016X}"));
@@ -71,12 +79,17 @@ impl Class {
 }
 
 pub fn compare(all: &mut Tally) {
+    assert!(guess::is_the_librarys(), "crates/math/src/sqrt.rt has another guess");
     let mut wrong = Tally::default();
+    let (mut guessed, mut missed) = (0, 0);
     for (number, (name, kind)) in KINDS.into_iter().chain(PARITIES).enumerate() {
         let mut class = Class::new();
         kind(&mut Random(800 + number as u64), SCALE, &mut |bits| class.pattern(bits));
         all.close(&format!("root, {name}"), class.roots);
         wrong.add(class.wrong);
+        guessed += class.guessed;
+        missed += class.missed;
     }
     all.close("root, wrong answers told", wrong);
+    println!("the guess was wrong for {missed} of {guessed} positive normal numbers");
 }
