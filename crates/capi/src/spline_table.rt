@@ -3,12 +3,12 @@ use crate::wide;
 use graph::spline_table::Offer;
 use graph::spline_table::{self};
 ghost use mathlib.Core.Path.{_≡_};
-ghost use Rattle.graph.specs.SplineTable.{offer, tableOf};
+ghost use Rattle.graph.specs.SplineTable.{offerAnswer, offer, tableOf};
 ghost use Rattle.capi.specs.SplineTable.{answerCode};
 
 // 256 and the counter where the pair is kept, 512 and the counter where it is declined, 768 and the number of the refusal.
 fn code(answer: Offer) -> u64
-    ensures { λ r. ⌜ r ≡ answerCode answer ⌝ }
+    ensures { λ r. ⌜ r ≡ answerCode (offerAnswer answer) ⌝ }
 {
     match answer {
         Offer::Kept(steps) => 256 + wide(steps),

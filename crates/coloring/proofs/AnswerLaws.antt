@@ -16,7 +16,8 @@ use Rattle.graph.specs.declared.refusal.Checked.the-variants.{Passed, Failed}
 use Rattle.graph.specs.Refusal.{refusalNumber, require, andThen}
 use Rattle.graph.specs.SplineColors.{colorSplines, checkSplines}
 use Rattle.graph.specs.Lists.{all}
-use Rattle.graph.specs.Answers.{Answer, values, refusal, Check, unless, firstOf, checkedAnswer, distanceChecks, told-require, told-distances}
+use Rattle.graph.specs.Checks.{Check, unless}
+use Rattle.graph.specs.Answers.{Answer, values, refusal, firstOf, checkedAnswer, distanceChecks, told-require, told-distances}
 use Rattle.coloring.specs.declared.settings.Strategy.{Strategy}
 use Rattle.coloring.specs.declared.settings.Marking.the-variants.{Colors, Numbers}
 use Rattle.coloring.specs.Answers.{coloredAnswer, told-after, told-refused, told-passed}

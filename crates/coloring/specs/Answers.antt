@@ -6,7 +6,8 @@ use Rattle.graph.specs.declared.refusal.Refusal.{Refusal}
 use Rattle.graph.specs.declared.refusal.Checked.{Checked}
 use Rattle.graph.specs.declared.refusal.Checked.the-variants.{Passed, Failed}
 use Rattle.graph.specs.Refusal.{refusalNumber}
-use Rattle.graph.specs.Answers.{Answer, values, refusal, unless, firstOf}
+use Rattle.graph.specs.Checks.{unless}
+use Rattle.graph.specs.Answers.{Answer, values, refusal, firstOf}
 use Rattle.coloring.specs.declared.outline.Colored.{Colored}
 use Rattle.coloring.specs.declared.outline.Colored.the-variants.{Edges, Refused}
 use Rattle.coloring.specs.declared.outline.Counts.{Counts}

@@ -11,7 +11,8 @@ use Rattle.geometry.specs.declared.edge_color.EdgeColor.{EdgeColor}
 use Rattle.geometry.specs.declared.edge_color.EdgeColor.the-variants.{Yellow, Cyan, Magenta, White}
 use Rattle.graph.specs.declared.refusal.Refusal.the-variants.{TooMany}
 use Rattle.graph.specs.declared.refusal.Checked.{Checked}
-use Rattle.graph.specs.SplineColors.{maxDistances, checkSplines, colorSplines}
+use Rattle.graph.specs.Limits.{maxDistances}
+use Rattle.graph.specs.SplineColors.{checkSplines, colorSplines}
 use Rattle.graph.specs.Refusal.{require, andThen}
 use Rattle.coloring.specs.declared.outline.Colored.{Colored}
 use Rattle.coloring.specs.declared.outline.Colored.the-variants.{Edges, Refused}

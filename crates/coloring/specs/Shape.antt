@@ -11,7 +11,7 @@ use Rattle.graph.specs.declared.refusal.Checked.{Checked}
 use Rattle.graph.specs.declared.refusal.Checked.the-variants.{Passed}
 use Rattle.graph.specs.Refusal.{require, andThen}
 use Rattle.graph.specs.Lists.{range}
-use Rattle.graph.specs.SplineColors.{maxSplines}
+use Rattle.graph.specs.Limits.{maxSplines}
 use Rattle.coloring.specs.declared.switching.Pen.{Pen}
 use Rattle.coloring.specs.declared.settings.Strategy.{Strategy}
 use Rattle.coloring.specs.declared.settings.Marking.{Marking}

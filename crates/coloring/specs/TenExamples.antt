@@ -11,7 +11,7 @@ use Rattle.geometry.specs.EdgeSegment.{splitInThirds}
 use Rattle.geometry.specs.Examples.{n0, negative0, n1, n3, tiny, unitLines, split-exactly, split-from-negative-zero, tiny-direction}
 use Rattle.geometry.specs.declared.edge_color.EdgeColor.the-variants.{Yellow, Magenta}
 use Rattle.geometry.specs.declared.edge_segment.EdgeSegment.the-variants.{Line}
-use Rattle.graph.specs.declared.spline_table.Offer.the-variants.{Kept, Declined}
+use Rattle.graph.specs.SplineTable.{kept, declined}
 use Rattle.graph.specs.SplineColors.{offerSplines, colorSplines}
 use Rattle.graph.specs.SplineColorsExamples.{squareDistances, square-colors, square-answers}
 use Rattle.coloring.specs.EdgeColoring.{edgeColoringSimple, edgeColoringInkTrap}
@@ -38,7 +38,7 @@ pub record TenExamples : Type 0 where
       (collectSplines square eighth fourEdges .buffers .colors ≡ (0 ∷ 1 ∷ 2 ∷ 3 ∷ []))
       × (colorSplines 4 squareDistances 0 ≡ (0 ∷ 1 ∷ 2 ∷ 1 ∷ []))
       × (offerSplines 4 squareDistances 0 .pairs ≡ (record { a = 0; b = 2 } ∷ record { a = 1; b = 3 } ∷ []))
-      × (offerSplines 4 squareDistances 0 .ends .answers ≡ (Kept 0 ∷ Declined 16 ∷ []))
+      × (offerSplines 4 squareDistances 0 .ends .answers ≡ (kept 0 ∷ declined 16 ∷ []))
       × (edgeColoringByDistance square eighth 0 squareDistances fourEdges .buffers .colors ≡ (3 ∷ 6 ∷ 5 ∷ 6 ∷ []))
   -- the line (0, 0) to (3, 0) splits at x = 1 and 2 exactly; a line from (−0, 0) to (3, 0) splits with first x +0
   pub p8 : splitInThirds (Line (new n0 n0) (new n3 n0)) ≡ unitLines

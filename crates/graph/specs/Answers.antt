@@ -1,5 +1,5 @@
--- The answers of entries in document 01's terms (its "Forms"): values, or the number of a refusal. Here for the enums of this crate: what became of
--- an offer, what checks find.
+-- The answers of entries in document 01's terms (its "Forms"): values, or the number of a refusal. Here for what checks find; an offer's answer
+-- stands in SplineTable.
 use Prim.Native.Nat.{ℕ, _*_, _-_, _/_}
 use mathlib.Core.Path.{_≡_}
 use mathlib.Core.Bool.{Bool, true, false, _&&_}
@@ -11,8 +11,7 @@ use Rattle.graph.specs.declared.refusal.Refusal.{Refusal}
 use Rattle.graph.specs.declared.refusal.Refusal.the-variants.{TooMany, LengthMismatch, BadDistance}
 use Rattle.graph.specs.declared.refusal.Checked.{Checked}
 use Rattle.graph.specs.declared.refusal.Checked.the-variants.{Passed, Failed}
-use Rattle.graph.specs.declared.spline_table.Offer.{Offer}
-use Rattle.graph.specs.declared.spline_table.Offer.the-variants as offer
+use Rattle.graph.specs.Checks.{Check, unless}
 use Rattle.graph.specs.Refusal.{refusalNumber, require}
 use Rattle.graph.specs.PairOrder.{distancesValid}
 use Rattle.graph.specs.SplineColors.{checkSplines}
@@ -21,25 +20,11 @@ pub data Answer : Type 0 where
   values : List ℕ → Answer
   refusal : ℕ → Answer
 
--- the pair's entry, 1 where it is kept and 0 where it is declined, and the counter
-abbrev pub offerAnswer : Offer → Answer
-offerAnswer (offer.Kept counter) = values (1 ∷ counter ∷ [])
-offerAnswer (offer.Declined counter) = values (0 ∷ counter ∷ [])
-offerAnswer (offer.Refused r) = refusal (refusalNumber r)
-
 abbrev pub checkedAnswer : Checked → Answer
 checkedAnswer Passed = values []
 checkedAnswer (Failed r) = refusal (refusalNumber r)
 
 -- ---- refusals in order
-
--- a refusal's number, and the test that keeps it away
-pub record Check : Type 0 where
-  pub number : ℕ
-  pub passes : Bool
-
-abbrev pub unless : ℕ → Bool → Check
-unless number passes = record { number = number; passes = passes }
 
 -- the number of the first test that fails, else an answer
 unfoldable pub firstOf : List Check → Answer → Answer

@@ -1,5 +1,7 @@
 -- The definitions that the contracts of the spline table and of the splines' colours cite.
 pub mod Refusal
+pub mod Checks
+pub mod Limits
 pub mod Seed
 pub mod Lists
 -- the spline table

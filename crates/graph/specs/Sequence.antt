@@ -6,9 +6,7 @@ use Prim.Native.Nat.{ℕ, _+_, _*_, _<_}
 use mathlib.Core.Bool.{Bool, true, false, not}
 use mathlib.Core.List.{List, [], _∷_, map}
 use lib.ListN.{length, getD}
-use Rattle.graph.specs.SplineTable.{Table, offer}
-use Rattle.graph.specs.declared.spline_table.Offer.{Offer}
-use Rattle.graph.specs.declared.spline_table.Offer.the-variants.{Kept, Declined, Refused}
+use Rattle.graph.specs.SplineTable.{Table, OfferAnswer, kept, declined, refused, offer}
 
 -- one offer's two numbers, of any value
 pub record Pair : Type 0 where
@@ -17,7 +15,7 @@ pub record Pair : Type 0 where
 
 -- the answers to a list of offers, and the two buffers after the last
 pub record Run : Type 0 where
-  pub answers : List Offer
+  pub answers : List OfferAnswer
   pub table : Table
 
 -- each offer is made to the buffers as the one before left them
@@ -48,17 +46,17 @@ NoClash t = (i j : ℕ) → KeptPair t i j → getD (t .coloring) i 0 ≢ getD (
 
 -- ---- what an answer says
 
-abbrev pub isKept : Offer → Bool
-isKept (Kept n) = true
-isKept (Declined n) = false
-isKept (Refused r) = false
+abbrev pub isKept : OfferAnswer → Bool
+isKept (kept counter) = true
+isKept (declined counter) = false
+isKept (refused number) = false
 
 -- the offer names the pair, in either order
 abbrev pub Names : Pair → ℕ → ℕ → Type 0
 Names p i j = ((p .a ≡ i) × (p .b ≡ j)) ⊎ ((p .a ≡ j) × (p .b ≡ i))
 
 -- some offer of the list is kept and names the pair
-unfoldable pub KeptOffer : List Pair → List Offer → ℕ → ℕ → Type 0
+unfoldable pub KeptOffer : List Pair → List OfferAnswer → ℕ → ℕ → Type 0
 KeptOffer [] answers i j = ⊥
 KeptOffer (p ∷ offers) [] i j = ⊥
 KeptOffer (p ∷ offers) (o ∷ answers) i j = ((isKept o ≡ true) × Names p i j) ⊎ KeptOffer offers answers i j
@@ -73,13 +71,13 @@ strike (true ∷ marks) (x ∷ xs) = strike marks xs
 strike (false ∷ marks) (x ∷ xs) = x ∷ strike marks xs
 
 -- only declined and refused offers are struck
-unfoldable pub MayStrike : List Bool → List Offer → Type 0
+unfoldable pub MayStrike : List Bool → List OfferAnswer → Type 0
 MayStrike [] answers = Unit {0}
 MayStrike (m ∷ marks) [] = Unit {0}
 MayStrike (m ∷ marks) (o ∷ answers) = (m ≡ true → isKept o ≡ false) × MayStrike marks answers
 
 -- the marks that strike every declined and refused offer
-unfoldable pub allOthers : List Offer → List Bool
+unfoldable pub allOthers : List OfferAnswer → List Bool
 allOthers answers = map (λ o. not (isKept o)) answers
 
 -- ---- the rule

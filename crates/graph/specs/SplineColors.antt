@@ -11,6 +11,7 @@ use Rattle.math.specs.Scalar.{f0}
 use Rattle.graph.specs.declared.refusal.Refusal.the-variants.{TooMany, LengthMismatch, BadDistance}
 use Rattle.graph.specs.declared.refusal.Checked.{Checked}
 use Rattle.graph.specs.declared.refusal.Checked.the-variants.{Passed, Failed}
+use Rattle.graph.specs.Limits.{maxSplines, maxDistances}
 use Rattle.graph.specs.Refusal.{require}
 use Rattle.graph.specs.SplineTable.{Table, tableOf, enter, sound}
 use Rattle.graph.specs.Sequence.{Pair, Run, run}
@@ -68,12 +69,6 @@ abbrev pub colorSplines : ℕ → List Float → ℕ → List ℕ
 colorSplines n distances seed = offerSplines n distances seed .ends .table .coloring
 
 -- ---- the checks before it
-
-abbrev pub maxSplines : ℕ
-maxSplines = 64
-
-abbrev pub maxDistances : ℕ
-maxDistances = 2016
 
 -- splines or distances above the maximum 4; one distance a pair, else 8; each of them finite and not below zero, else 9
 abbrev pub checkSplines : ℕ → List Float → Checked

@@ -10,7 +10,7 @@ use lib.ListN.{replicate}
 use Rattle.math.specs.Scalar.{f0, f1}
 use Rattle.graph.specs.declared.refusal.Refusal.the-variants.{TooMany, LengthMismatch, BadDistance}
 use Rattle.graph.specs.declared.refusal.Checked.the-variants.{Passed, Failed}
-use Rattle.graph.specs.declared.spline_table.Offer.the-variants.{Kept, Declined}
+use Rattle.graph.specs.SplineTable.{kept, declined}
 use Rattle.graph.specs.Lists.{all}
 use Rattle.graph.specs.SplineTable.{offer}
 use Rattle.graph.specs.Sequence.{Pair}
@@ -39,7 +39,7 @@ square-colors = refl
 -- refutes a walk with another bound, zero pairs that are offered, and offers in another order
 pub square-answers :
     (offerSplines 4 squareDistances 0 .pairs ≡ pairs (0 ∷ 1 ∷ []) (2 ∷ 3 ∷ []))
-    × (offerSplines 4 squareDistances 0 .ends .answers ≡ (Kept 0 ∷ Declined 16 ∷ []))
+    × (offerSplines 4 squareDistances 0 .ends .answers ≡ (kept 0 ∷ declined 16 ∷ []))
 unfolding offerSplines offer Ieee.lt Ieee.eq Ieee.ofBits
 square-answers = (refl, refl)
 
@@ -89,7 +89,7 @@ pub four-in-a-row : colorSplines 4 (f0 ∷ f1 ∷ f1 ∷ f0 ∷ f1 ∷ f0 ∷ []
 unfolding offerSplines offer Ieee.lt Ieee.eq Ieee.ofBits
 four-in-a-row = refl
 
--- refutes a program that needs a pair: no splines, and one
+-- refutes a program that needs a pair, or ignores the seed: no splines, and one
 pub no-pairs : (colorSplines 0 [] 5 ≡ []) × (colorSplines 1 [] 5 ≡ (2 ∷ []))
 unfolding offerSplines
 no-pairs = (refl, refl)

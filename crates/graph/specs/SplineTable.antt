@@ -1,11 +1,13 @@
 -- One offer of a pair to a spline table, after `try_add_edge` of coloring/by_distance.rs (document 01, "One offer"), with the checks before it.
 use mathlib.Core.Bool.{Bool, true, false, not, _&&_}
-use mathlib.Core.List.{List}
+use mathlib.Core.List.{List, [], _∷_}
 use Prim.Native.Nat.{ℕ, zero, suc, _+_, _*_}
 use lib.ListN.{length, getD, set}
 use lib.Dec.{leb, ltb, eqb}
 use Rattle.graph.specs.Recolor.{row, vertexPossibleColors, firstPossibleColor, Walk, recolored, stopped, recolor}
-use Rattle.graph.specs.declared.refusal.Refusal.the-variants.{TooMany, LengthMismatch, BadTable}
+use Rattle.graph.specs.Checks.{Check, unless, inOrder}
+use Rattle.graph.specs.Limits.{maxSplines}
+use Rattle.graph.specs.Refusal.{refusalNumber}
 use Rattle.graph.specs.declared.spline_table.Offer.{Offer}
 use Rattle.graph.specs.declared.spline_table.Offer.the-variants.{Kept, Declined, Refused}
 
@@ -18,13 +20,24 @@ pub record Table : Type 0 where
 abbrev pub tableOf : List ℕ → List ℕ → Table
 tableOf coloring edgeMatrix = record { coloring = coloring; edgeMatrix = edgeMatrix }
 
+-- An offer's answer in document 01's terms: kept or declined, with its counter, or refused, with its number.
+pub data OfferAnswer : Type 0 where
+  kept : ℕ → OfferAnswer
+  declined : ℕ → OfferAnswer
+  refused : ℕ → OfferAnswer
+
+abbrev pub offerAnswer : Offer → OfferAnswer
+offerAnswer (Kept counter) = kept counter
+offerAnswer (Declined counter) = declined counter
+offerAnswer (Refused refusal) = refused (refusalNumber refusal)
+
 -- the answer to an offer, and the table afterwards
 pub record Offered : Type 0 where
-  pub answer : Offer
+  pub answer : OfferAnswer
   pub table : Table
 
 -- the answer and two buffers
-abbrev pub outcome : Offer → List ℕ → List ℕ → Offered
+abbrev pub outcome : OfferAnswer → List ℕ → List ℕ → Offered
 outcome answer coloring edgeMatrix = record { answer = answer; table = tableOf coloring edgeMatrix }
 
 -- the entry of spline j in the row of spline i
@@ -39,8 +52,8 @@ enter n edgeMatrix a b e = set (set edgeMatrix (a * n + b) e) (b * n + a) e
 
 -- what a walk leaves: its colours, with the pair entered; or the colours as they were, without it
 abbrev pub settled : Walk → List ℕ → List ℕ → ℕ → ℕ → Offered
-settled (recolored after step) coloring edgeMatrix a b = outcome (Kept step) after edgeMatrix
-settled (stopped step) coloring edgeMatrix a b = outcome (Declined step) coloring (enter (length coloring) edgeMatrix a b 0)
+settled (recolored after step) coloring edgeMatrix a b = outcome (kept step) after edgeMatrix
+settled (stopped step) coloring edgeMatrix a b = outcome (declined step) coloring (enter (length coloring) edgeMatrix a b 0)
 
 -- the same of the walk for a and b
 unfoldable pub walkedOn : List ℕ → List ℕ → ℕ → ℕ → Offered
@@ -56,10 +69,10 @@ tryAddEdge t a b =
     let edgeMatrix = enter n (t .edgeMatrix) a b 1 in
     let possible = vertexPossibleColors coloring (row n edgeMatrix b) in
     elim (eqb (getD coloring a 0) (getD coloring b 0)) [
-      | false ↦ outcome (Kept 0) coloring edgeMatrix
+      | false ↦ outcome (kept 0) coloring edgeMatrix
       | true ↦
           elim (eqb possible 0) [
-            | false ↦ outcome (Kept 0) (set coloring b (firstPossibleColor possible)) edgeMatrix
+            | false ↦ outcome (kept 0) (set coloring b (firstPossibleColor possible)) edgeMatrix
             | true ↦ walkedOn coloring edgeMatrix a b
           ]
     ]
@@ -80,23 +93,19 @@ sound t =
     && allBelow n (λ j. leb (entry n (t .edgeMatrix) i j) 1 && eqb (entry n (t .edgeMatrix) i j) (entry n (t .edgeMatrix) j i))
     && eqb (entry n (t .edgeMatrix) i i) 0)
 
+unfoldable pub checkOffer : Table → ℕ → ℕ → List Check
+unfolding sound
+checkOffer t a b =
+    let n = length (t .coloring) in
+    unless 4 (leb n maxSplines)
+    ∷ unless 8 (eqb (length (t .edgeMatrix)) (n * n))
+    ∷ unless 10 (sound t && ltb a n && ltb b n && not (eqb a b))
+    ∷ []
+
 -- what an offer of a and b to two buffers does: the first refusal with the buffers as they came, or the rule
 unfoldable pub offer : Table → ℕ → ℕ → Offered
-unfolding sound tryAddEdge
-offer t a b =
-    let n = length (t .coloring) in
-    elim (leb n 64) [
-      | false ↦ record { answer = Refused TooMany; table = t }
-      | true ↦
-          elim (eqb (length (t .edgeMatrix)) (n * n)) [
-            | false ↦ record { answer = Refused LengthMismatch; table = t }
-            | true ↦
-                elim (sound t && ltb a n && ltb b n && not (eqb a b)) [
-                  | false ↦ record { answer = Refused BadTable; table = t }
-                  | true ↦ tryAddEdge t a b
-                ]
-          ]
-    ]
+unfolding inOrder checkOffer tryAddEdge
+offer t a b = inOrder (checkOffer t a b) (λ number. record { answer = refused number; table = t }) (tryAddEdge t a b)
 
 -- ---- what the checks of the code promise each other
 

@@ -1,6 +1,8 @@
 // The order in which by-distance colouring takes the pairs of splines, after "Sorted list of graph
 // edges" of coloring/by_distance.rs: by distance, and equal ones by (i, j). A pair is the number of
 // its distance, so a stable sort of the numbers gives the order.
+use crate::limits::MAX_DISTANCES;
+use crate::limits::MAX_SPLINES;
 ghost use mathlib.Core.Path.{_≡_};
 ghost use mathlib.Core.List.{map};
 ghost use Prim.Native.Nat.{_<_, _≤_};
@@ -120,7 +122,7 @@ fn fill_pairs(codes: &mut [u16], n: usize)
     while i < n {
         let mut j = i + 1;
         while j < n {
-            codes[k] = (i * 64 + j) as u16;
+            codes[k] = (i * MAX_SPLINES + j) as u16;
             k += 1;
             j += 1;
         }
@@ -147,7 +149,7 @@ pub(crate) fn order_pairs(codes: &mut [u16], order: &mut [u16], distances: &[f64
 {
     fill_pairs(codes, n);
     count_up(order);
-    let mut work = [0u16; 2016];
+    let mut work = [0u16; MAX_DISTANCES];
     let m = order.len();
     sort_by_distance(order, &mut work[..m], distances);
 }

@@ -2,6 +2,7 @@
 // queue of splines that lost their colour, and the walk that gives them others. A colour is 0, 1 or
 // 2; 3 stands for the source's -1, a spline without a colour. The queue is a ring of 64 numbers:
 // the place of its head, and how many wait.
+use crate::limits::MAX_SPLINES;
 ghost use mathlib.Core.Path.{_≡_};
 ghost use mathlib.Core.Bool.{cond};
 ghost use Prim.Native.Nat.{_*_, _-_, _^_, _<_, _≤_};
@@ -90,7 +91,7 @@ fn uncolor_one(
 {
     if entries[i] != 0 && coloring[i] == c {
         coloring[i] = UNCOLORED;
-        queue[(head + waiting) % 64] = i as u8;
+        queue[(head + waiting) % MAX_SPLINES] = i as u8;
         return waiting + 1;
     }
     waiting
@@ -166,7 +167,7 @@ fn walk(
         if MAX_RECOLOR_STEPS <= step {
             break 'walk;
         }
-        head = (head + 1) % 64;
+        head = (head + 1) % MAX_SPLINES;
         waiting -= 1;
         if possible != 0 {
             coloring[i] = first_possible_color(possible);
@@ -216,7 +217,7 @@ pub(crate) fn recolor(
     let d = first_possible_color(other_colors(c));
     buffer[b] = d;
     let entries = row(edge_matrix, coloring.len(), b);
-    let mut queue = [0u8; 64];
+    let mut queue = [0u8; MAX_SPLINES];
     let waiting = uncolor_same_neighbors(buffer, &mut queue, entries, d, b, 0, 0);
     walk(buffer, &mut queue, edge_matrix, a, c, waiting)
 }

@@ -1,5 +1,9 @@
 // By-distance colouring without outlines, after coloring/by_distance.rs from "Sorted list of graph
 // edges" to the end of the offers: from the distances between splines and a seed to their colours.
+use crate::limits::MAX_DISTANCES;
+use crate::limits::MAX_ENTRIES;
+use crate::limits::MAX_SPLINES;
+use crate::limits::PAIR_BASE;
 use crate::pair_order::distance_at;
 use crate::pair_order::distances_valid;
 use crate::pair_order::order_pairs;
@@ -46,8 +50,8 @@ fn enter_zero_pairs(
             return k;
         }
         let code = code_at(codes, order, k);
-        let a = (code / 64) as usize;
-        let b = (code % 64) as usize;
+        let a = (code / PAIR_BASE) as usize;
+        let b = (code % PAIR_BASE) as usize;
         enter_pair(edge_matrix, n, a, b, 1);
         k += 1;
     }
@@ -71,8 +75,8 @@ fn offer_pairs(
     let mut k = from;
     while k < order.len() {
         let code = code_at(codes, order, k);
-        let a = (code / 64) as usize;
-        let b = (code % 64) as usize;
+        let a = (code / PAIR_BASE) as usize;
+        let b = (code % PAIR_BASE) as usize;
         try_add_edge_unchecked(coloring, edge_matrix, a, b);
         k += 1;
     }
@@ -104,9 +108,9 @@ fn color_valid(distances: &[f64], seed: u64, coloring: &mut [u8])
     let n = coloring.len();
     let m = distances.len();
     let size = n * n;
-    let mut codes = [0u16; 2016];
-    let mut order = [0u16; 2016];
-    let mut edge_matrix = [0u8; 4096];
+    let mut codes = [0u16; MAX_DISTANCES];
+    let mut order = [0u16; MAX_DISTANCES];
+    let mut edge_matrix = [0u8; MAX_ENTRIES];
     order_pairs(&mut codes[..m], &mut order[..m], distances, n);
     color_in_order(
         coloring,
@@ -133,10 +137,10 @@ fn pair_count(splines: usize) -> usize
 fn check_splines(splines: usize, distances: &[f64]) -> Checked
     ensures { λ r. ⌜ r ≡ checkSplines splines (now (distances .entry)) ⌝ }
 {
-    if splines > 64 {
+    if splines > MAX_SPLINES {
         return Checked::Failed(Refusal::TooMany);
     }
-    if distances.len() > 2016 {
+    if distances.len() > MAX_DISTANCES {
         return Checked::Failed(Refusal::TooMany);
     }
     if distances.len() != pair_count(splines) {

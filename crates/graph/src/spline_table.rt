@@ -1,5 +1,6 @@
 // The spline table of coloring/by_distance.rs: one offer of a pair of splines. A table is two
 // buffers: the colour of each of n splines, and n × n entries by rows, 1 where a pair is kept.
+use crate::limits::MAX_SPLINES;
 use crate::recolor::Walked;
 use crate::recolor::first_possible_color;
 use crate::recolor::recolor;
@@ -11,7 +12,7 @@ ghost use Prim.Native.Nat.{_+_, _*_, _<_};
 ghost use lib.ListN.{length};
 ghost use Rattle.graph.specs.Recolor.{Offerable};
 ghost use Rattle.graph.specs.SplineTable as defined;
-ghost use Rattle.graph.specs.SplineTable.{tableOf, outcome, walkedOn, enter, tryAddEdge, atMost, mirrored, symmetric, sound, offer};
+ghost use Rattle.graph.specs.SplineTable.{offerAnswer, tableOf, outcome, walkedOn, enter, tryAddEdge, atMost, mirrored, symmetric, sound, offer};
 
 // What became of an offer. The number is the counter of the walk, 0 where there was none.
 pub enum Offer {
@@ -33,11 +34,11 @@ pub(crate) fn enter_pair(edge_matrix: &mut [u8], n: usize, a: usize, b: usize, e
 // the colours as they were, without the pair.
 fn add_edge_by_walk(coloring: &mut [u8], edge_matrix: &mut [u8], a: usize, b: usize) -> Offer
     requires { ⌜ Offerable (now coloring) (now «edge_matrix») a b ⌝ }
-    ensures { λ r. ⌜ outcome r (now (coloring .exit)) (now («edge_matrix» .exit))
+    ensures { λ r. ⌜ outcome (offerAnswer r) (now (coloring .exit)) (now («edge_matrix» .exit))
         ≡ walkedOn (now (coloring .entry)) (now («edge_matrix» .entry)) a b ⌝ }
 {
     let n = coloring.len();
-    let mut buffer = [0u8; 64];
+    let mut buffer = [0u8; MAX_SPLINES];
     match recolor(&mut buffer[..n], coloring, edge_matrix, a, b) {
         Walked::Recolored(step) => {
             bytes::copy(&buffer[..n], coloring);
@@ -58,7 +59,7 @@ pub(crate) fn try_add_edge_unchecked(
     b: usize,
 ) -> Offer
     requires { ⌜ Offerable (now coloring) (now «edge_matrix») a b ⌝ }
-    ensures { λ r. ⌜ outcome r (now (coloring .exit)) (now («edge_matrix» .exit))
+    ensures { λ r. ⌜ outcome (offerAnswer r) (now (coloring .exit)) (now («edge_matrix» .exit))
         ≡ tryAddEdge (tableOf (now (coloring .entry)) (now («edge_matrix» .entry))) a b ⌝ }
 {
     let n = coloring.len();
@@ -135,11 +136,11 @@ fn is_sound(coloring: &[u8], edge_matrix: &[u8]) -> bool
 
 // Offers the pair of splines a and b to a table.
 pub fn try_add_edge(coloring: &mut [u8], edge_matrix: &mut [u8], a: usize, b: usize) -> Offer
-    ensures { λ r. ⌜ outcome r (now (coloring .exit)) (now («edge_matrix» .exit))
+    ensures { λ r. ⌜ outcome (offerAnswer r) (now (coloring .exit)) (now («edge_matrix» .exit))
         ≡ offer (tableOf (now (coloring .entry)) (now («edge_matrix» .entry))) a b ⌝ }
 {
     let n = coloring.len();
-    if 64 < n {
+    if n > MAX_SPLINES {
         return Offer::Refused(Refusal::TooMany);
     }
     if edge_matrix.len() != n * n {

@@ -11,7 +11,8 @@ use Rattle.graph.specs.declared.refusal.Refusal.{Refusal}
 use Rattle.graph.specs.declared.refusal.Checked.{Checked}
 use Rattle.graph.specs.declared.refusal.Checked.the-variants.{Passed, Failed}
 use Rattle.graph.specs.SplineColors.{checkSplines}
-use Rattle.graph.specs.Answers.{Answer, values, refusal, Check, unless, firstOf, distanceChecks, told-distances}
+use Rattle.graph.specs.Checks.{Check, unless}
+use Rattle.graph.specs.Answers.{Answer, values, refusal, firstOf, distanceChecks, told-distances}
 use Rattle.coloring.specs.Answers.{coloredAnswer, told-after, told-refused, told-passed}
 use Rattle.coloring.specs.Splines.{splineTotal}
 use Rattle.coloring.specs.Outline.{Result, fits}

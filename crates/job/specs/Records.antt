@@ -11,7 +11,7 @@ use Rattle.geometry.specs.declared.edge_segment.EdgeSegment.the-variants as seg
 use Rattle.graph.specs.declared.refusal.Refusal.{Refusal}
 use Rattle.graph.specs.declared.refusal.Refusal.the-variants.{Truncated, UnknownMark, MisplacedMark, TooMany, UnknownKind, BadThreshold, BadCoordinate, BadDistance}
 use Rattle.graph.specs.Lists.{all}
-use Rattle.graph.specs.SplineColors.{maxDistances}
+use Rattle.graph.specs.Limits.{maxDistances}
 use Rattle.job.specs.declared.records.Kind.{Kind}
 use Rattle.job.specs.declared.records.Kind.the-variants.{Line, Quadratic, Cubic}
 use Rattle.job.specs.declared.records.Mark.{Mark}

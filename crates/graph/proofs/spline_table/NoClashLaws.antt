@@ -10,9 +10,8 @@ use native.Mathlib.Omega.{arith}
 use lib.ListN.{length, getD}
 use lib.Arith.{digits-lt}
 use borrow.Author.Tests.{ne-eqb}
-use Rattle.graph.specs.declared.spline_table.Offer.the-variants.{Kept, Declined}
 use Rattle.graph.specs.Recolor.{Walk, recolored, stopped}
-use Rattle.graph.specs.SplineTable.{Table, tableOf, Offered, outcome, settled, entry, enter, sound, tryAddEdge, offer}
+use Rattle.graph.specs.SplineTable.{Table, tableOf, OfferAnswer, kept, declined, refused, Offered, outcome, settled, entry, enter, sound, tryAddEdge, offer}
 use Rattle.graph.specs.Sequence.{Pair, KeptPair, NoClash, isKept, Names}
 use Rattle.graph.proofs.recolor.RowLaws.{Matrix}
 use Rattle.graph.proofs.recolor.FreeColorLaws.{possible-free}
@@ -98,8 +97,8 @@ module _ (t : Table) (p : Pair) (v : Unrefused t (p .a) (p .b)) where
   not-in-pair : (i j : ℕ) → i < n → j < n → (Names p i j → ⊥) → entry n with-pair i j ≡ entry n (t .edgeMatrix) i j
   not-in-pair = enter-other n (t .edgeMatrix) p (v .first) (v .second) (v .different) 1
 
-  kept : (step : ℕ) (coloring : List ℕ) → ProperBut n coloring → Outcome t p (outcome (Kept step) coloring with-pair)
-  kept step coloring c =
+  if-kept : (step : ℕ) (coloring : List ℕ) → ProperBut n coloring → Outcome t p (outcome (kept step) coloring with-pair)
+  if-kept step coloring c =
       record {
         after =
             record {
@@ -150,9 +149,9 @@ module _ (t : Table) (p : Pair) (v : Unrefused t (p .a) (p .b)) where
       differ clear i j hi hj iw jw e (no other) =
           clear i j (joined-kept _ t refl was i j (record { first = hi; second = hj; there = rw (not-in-pair i j hi hj other) at e }))
 
-  declined : (step : ℕ) → getD (t .coloring) (p .a) 0 ≡ getD (t .coloring) (p .b) 0
-      → Outcome t p (outcome (Declined step) (t .coloring) (enter n with-pair (p .a) (p .b) 0))
-  declined step e =
+  if-declined : (step : ℕ) → getD (t .coloring) (p .a) 0 ≡ getD (t .coloring) (p .b) 0
+      → Outcome t p (outcome (declined step) (t .coloring) (enter n with-pair (p .a) (p .b) 0))
+  if-declined step e =
       record {
         after =
             let cleared = enter-matrix n with-pair p (v .first) (v .second) (v .different) 0 (omega arith) becomes in
@@ -175,8 +174,8 @@ module _ (t : Table) (p : Pair) (v : Unrefused t (p .a) (p .b)) where
   -- the colours differ and b keeps its own, or b takes a free one, or it takes the first that a has not and a walk follows
   try-outcome : Outcome t p (tryAddEdge t (p .a) (p .b))
   try-outcome =
-      rule-cases t (p .a) (p .b) (Outcome t p) (λ d. kept 0 (t .coloring) (old-colors n (λ i j names x z. differ d i j names)))
-      (λ e f. kept 0 _ (take-free (NoClash t) n with-pair becomes (p .b) _ _ (possible-free _ _ (ne-eqb _ 0 f)) but-b))
+      rule-cases t (p .a) (p .b) (Outcome t p) (λ d. if-kept 0 (t .coloring) (old-colors n (λ i j names x z. differ d i j names)))
+      (λ e f. if-kept 0 _ (take-free (NoClash t) n with-pair becomes (p .b) _ _ (possible-free _ _ (ne-eqb _ 0 f)) but-b))
       (λ e f w q. ends w e (subst (Ends (NoClash t) n with-pair) q (recolor-ends (NoClash t) n with-pair becomes (t .coloring) (p .a) (p .b) color but-b)))
     where
       color : getD (t .coloring) (p .a) 0 < 3
@@ -191,8 +190,8 @@ module _ (t : Table) (p : Pair) (v : Unrefused t (p .a) (p .b)) where
 
       ends : (w : Walk) → getD (t .coloring) (p .a) 0 ≡ getD (t .coloring) (p .b) 0 → Ends (NoClash t) n with-pair w
           → Outcome t p (settled w (t .coloring) with-pair (p .a) (p .b))
-      ends (recolored after step) e c = kept step after c
-      ends (stopped step) e c = declined step e
+      ends (recolored after step) e c = if-kept step after c
+      ends (stopped step) e c = if-declined step e
 
 -- ---- the offer
 

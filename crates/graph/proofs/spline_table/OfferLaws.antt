@@ -11,12 +11,9 @@ use native.Mathlib.Omega.{arith}
 use lib.ListN.{length, getD, set, length-set}
 use lib.Dec.{leb, ltb, eqb}
 use borrow.Author.Tests.{leb-true, ltb-true, eqb-true, eqb-false, not-true, le-leb, lt-leb, lt-ltb, le-ltb, eq-eqb, ne-eqb}
-use Rattle.graph.specs.declared.refusal.Refusal.{Refusal}
-use Rattle.graph.specs.declared.refusal.Refusal.the-variants.{TooMany, LengthMismatch, BadTable}
-use Rattle.graph.specs.declared.spline_table.Offer.{Offer}
-use Rattle.graph.specs.declared.spline_table.Offer.the-variants.{Kept, Declined, Refused}
 use Rattle.graph.specs.Recolor.{row, vertexPossibleColors, firstPossibleColor, Walk, recolored, stopped, Waiting, walk, walkFuel, walkFrom, walkStart, recolor, Offerable}
-use Rattle.graph.specs.SplineTable.{Table, Offered, outcome, settled, walkedOn, enter, sound, tryAddEdge, offer}
+use Rattle.graph.specs.SplineTable.{Table, OfferAnswer, kept, declined, refused, Offered, outcome, settled, walkedOn, enter, sound, tryAddEdge, checkOffer, offer}
+use Rattle.graph.specs.Checks.{inOrder}
 use Rattle.graph.specs.Sequence.{Pair}
 use Rattle.graph.specs.Bools.{and-left, and-right, split}
 use Rattle.graph.proofs.recolor.FreeColorLaws.{others}
@@ -38,11 +35,11 @@ module _ (t : Table) (a b : ℕ) where
   abbrev pub SameColor : Type 0
   SameColor = getD (t .coloring) a 0 ≡ getD (t .coloring) b 0
 
-  pub rule-differ : (SameColor → ⊥) → tryAddEdge t a b ≡ outcome (Kept 0) (t .coloring) entered
+  pub rule-differ : (SameColor → ⊥) → tryAddEdge t a b ≡ outcome (kept 0) (t .coloring) entered
   unfolding tryAddEdge
   rule-differ h = rw (ne-eqb (getD (t .coloring) a 0) (getD (t .coloring) b 0) h, tryAddEdge)
 
-  pub rule-free : SameColor → freeOfB ≢ 0 → tryAddEdge t a b ≡ outcome (Kept 0) (set (t .coloring) b (firstPossibleColor freeOfB)) entered
+  pub rule-free : SameColor → freeOfB ≢ 0 → tryAddEdge t a b ≡ outcome (kept 0) (set (t .coloring) b (firstPossibleColor freeOfB)) entered
   unfolding tryAddEdge
   rule-free same h = rw (eq-eqb (getD (t .coloring) a 0) (getD (t .coloring) b 0) same, ne-eqb freeOfB 0 h, tryAddEdge)
 
@@ -51,8 +48,8 @@ module _ (t : Table) (a b : ℕ) where
   rule-walk same none = rw (eq-eqb (getD (t .coloring) a 0) (getD (t .coloring) b 0) same, eq-eqb freeOfB 0 none, tryAddEdge)
 
   -- what holds of the outcome, shown of each case
-  pub rule-cases : (P : Offered → Type 0) → ((SameColor → ⊥) → P (outcome (Kept 0) (t .coloring) entered))
-      → (SameColor → freeOfB ≢ 0 → P (outcome (Kept 0) (set (t .coloring) b (firstPossibleColor freeOfB)) entered))
+  pub rule-cases : (P : Offered → Type 0) → ((SameColor → ⊥) → P (outcome (kept 0) (t .coloring) entered))
+      → (SameColor → freeOfB ≢ 0 → P (outcome (kept 0) (set (t .coloring) b (firstPossibleColor freeOfB)) entered))
       → (SameColor → freeOfB ≡ 0 → (w : Walk) → recolor (t .coloring) entered a b ≡ w → P (settled w (t .coloring) entered a b))
       → P (tryAddEdge t a b)
   unfolding walkedOn
@@ -79,51 +76,51 @@ unrefused-offerable t a b v =
     record { few = v .few; entries = v .size; first = v .first; second = v .second; color = sound-color t (v .isSound) a (v .first) }
 
 module _ (t : Table) (a b : ℕ) where
-  abbrev refusal : Refusal → Offered
-  refusal r = record { answer = Refused r; table = t }
+  abbrev refusal : ℕ → Offered
+  refusal number = record { answer = refused number; table = t }
 
   -- the third check
   abbrev good : Bool
   good = sound t && ltb a (splines t) && ltb b (splines t) && not (eqb a b)
 
-  pub offer-many : 64 < splines t → offer t a b ≡ refusal TooMany
-  unfolding offer
+  pub offer-many : 64 < splines t → offer t a b ≡ refusal 4
+  unfolding offer inOrder checkOffer
   offer-many h = rw (lt-leb (splines t) 64 h, offer)
 
   module _ (few : splines t ≤ 64) where
-    pub offer-lengths : length (t .edgeMatrix) ≢ splines t * splines t → offer t a b ≡ refusal LengthMismatch
-    unfolding offer
+    pub offer-lengths : length (t .edgeMatrix) ≢ splines t * splines t → offer t a b ≡ refusal 8
+    unfolding offer inOrder checkOffer
     offer-lengths h = rw (le-leb (splines t) 64 few, ne-eqb (length (t .edgeMatrix)) (splines t * splines t) h, offer)
 
     module _ (size : length (t .edgeMatrix) ≡ splines t * splines t) where
-      bad : good ≡ false → offer t a b ≡ refusal BadTable
-      unfolding offer
+      bad : good ≡ false → offer t a b ≡ refusal 10
+      unfolding offer inOrder checkOffer
       bad e = rw (le-leb (splines t) 64 few, eq-eqb (length (t .edgeMatrix)) (splines t * splines t) size, e, offer)
 
-      pub offer-unsound : sound t ≡ false → offer t a b ≡ refusal BadTable
+      pub offer-unsound : sound t ≡ false → offer t a b ≡ refusal 10
       offer-unsound e = bad (rw e)
 
-      pub offer-first : splines t ≤ a → offer t a b ≡ refusal BadTable
+      pub offer-first : splines t ≤ a → offer t a b ≡ refusal 10
       offer-first h = bad (rw (le-ltb a (splines t) h, and-false (sound t)))
 
-      pub offer-second : splines t ≤ b → offer t a b ≡ refusal BadTable
+      pub offer-second : splines t ≤ b → offer t a b ≡ refusal 10
       offer-second h = bad (rw (le-ltb b (splines t) h, and-false (sound t && ltb a (splines t))))
 
-      pub offer-equal : a ≡ b → offer t a b ≡ refusal BadTable
+      pub offer-equal : a ≡ b → offer t a b ≡ refusal 10
       offer-equal e = bad (rw (eq-eqb a b e) (and-false (sound t && ltb a (splines t) && ltb b (splines t))))
 
   -- an offer of two different splines of a sound table is `tryAddEdge`
   pub offer-rule : Unrefused t a b → offer t a b ≡ tryAddEdge t a b
-  unfolding offer
+  unfolding offer inOrder checkOffer
   offer-rule v =
       let n = splines t in
       let passes : good ≡ true = rw (v .isSound, lt-ltb a n (v .first), lt-ltb b n (v .second), ne-eqb a b (v .different)) in
       rw (le-leb n 64 (v .few), eq-eqb (length (t .edgeMatrix)) (n * n) (v .size), passes, offer)
 
   -- every other is refused, with the table as it came
-  pub offer-cases : (P : Offered → Type 0) → ((r : Refusal) → P (refusal r)) → (Unrefused t a b → P (tryAddEdge t a b)) → P (offer t a b)
-  unfolding offer
-  offer-cases P refused tried = split (leb n 64) few (λ e. rw (e, offer) (refused TooMany))
+  pub offer-cases : (P : Offered → Type 0) → ((number : ℕ) → P (refusal number)) → (Unrefused t a b → P (tryAddEdge t a b)) → P (offer t a b)
+  unfolding offer inOrder checkOffer
+  offer-cases P refuse tried = split (leb n 64) few (λ e. rw (e, offer) (refuse 4))
     where
       n : ℕ
       n = splines t
@@ -142,10 +139,10 @@ module _ (t : Table) (a b : ℕ) where
           }
 
       right : leb n 64 ≡ true → eqb (length (t .edgeMatrix)) (n * n) ≡ true → P (offer t a b)
-      right e f = split good (λ g. rw (e, f, g, offer) (tried (checked e f g))) (λ g. rw (e, f, g, offer) (refused BadTable))
+      right e f = split good (λ g. rw (e, f, g, offer) (tried (checked e f g))) (λ g. rw (e, f, g, offer) (refuse 10))
 
       few : leb n 64 ≡ true → P (offer t a b)
-      few e = split (eqb (length (t .edgeMatrix)) (n * n)) (right e) (λ f. rw (e, f, offer) (refused LengthMismatch))
+      few e = split (eqb (length (t .edgeMatrix)) (n * n)) (right e) (λ f. rw (e, f, offer) (refuse 8))
 
 -- ---- the walk
 
@@ -168,10 +165,10 @@ module _ (coloring edgeMatrix : List ℕ) (a b : ℕ) (color : getD coloring a 0
 -- ---- the laws
 
 -- the counter of an answer
-abbrev pub counter : Offer → ℕ
-counter (Kept k) = k
-counter (Declined k) = k
-counter (Refused r) = 0
+abbrev pub counter : OfferAnswer → ℕ
+counter (kept k) = k
+counter (declined k) = k
+counter (refused n) = 0
 
 -- the splines a and b have one colour, and with the pair entered no colour is free for b
 pub record NeedsWalk (t : Table) (a b : ℕ) : Type 0 where
@@ -183,25 +180,25 @@ pub record OfferLaws (t : Table) (a b : ℕ) : Type 0 where
   pub withoutWalk : (NeedsWalk t a b → ⊥) → counter (offer t a b .answer) ≡ 0
   pub atMost17 : counter (offer t a b .answer) ≤ 17
   -- a kept offer ends at 0 to 15, a declined one at 16 or 17
-  pub kept : (k : ℕ) → offer t a b .answer ≡ Kept k → k ≤ 15
-  pub declined : (k : ℕ) → offer t a b .answer ≡ Declined k → (k ≡ 16) ⊎ (k ≡ 17)
+  pub keptAt : (k : ℕ) → offer t a b .answer ≡ kept k → k ≤ 15
+  pub declinedAt : (k : ℕ) → offer t a b .answer ≡ declined k → (k ≡ 16) ⊎ (k ≡ 17)
   -- a declined offer changes no colour; the pair's two entries become 0, and no other changes
-  pub declinedColors : (k : ℕ) → offer t a b .answer ≡ Declined k → offer t a b .table .coloring ≡ t .coloring
-  pub declinedPairs : (k : ℕ) → offer t a b .answer ≡ Declined k
+  pub declinedColors : (k : ℕ) → offer t a b .answer ≡ declined k → offer t a b .table .coloring ≡ t .coloring
+  pub declinedPairs : (k : ℕ) → offer t a b .answer ≡ declined k
       → offer t a b .table .edgeMatrix ≡ enter (splines t) (t .edgeMatrix) a b 0
   -- a refused offer changes nothing
-  pub refused : (r : Refusal) → offer t a b .answer ≡ Refused r → offer t a b .table ≡ t
+  pub refusedSame : (number : ℕ) → offer t a b .answer ≡ refused number → offer t a b .table ≡ t
   -- the fuel of the walk is never used up: with any more of it the walk ends the same way
   pub fuel : Unrefused t a b → (more : ℕ) → (let w = walkStart (t .coloring) (entered t a b) a b in
       walk (splines t) (entered t a b) a (getD (t .coloring) a 0) (walkFuel (splines t) + more) 0 (w .coloring) (w .queue))
       ≡ recolor (t .coloring) (entered t a b) a b
 
 -- the laws of an answer
-Says : Table → ℕ → ℕ → Offer → Table → Type 0
-Says t a b (Kept k) after = ((NeedsWalk t a b → ⊥) → k ≡ 0) × (k ≤ 15)
-Says t a b (Declined k) after =
+Says : Table → ℕ → ℕ → OfferAnswer → Table → Type 0
+Says t a b (kept k) after = ((NeedsWalk t a b → ⊥) → k ≡ 0) × (k ≤ 15)
+Says t a b (declined k) after =
     NeedsWalk t a b × ((k ≡ 16) ⊎ (k ≡ 17)) × (after .coloring ≡ t .coloring) × (after .edgeMatrix ≡ enter (splines t) (t .edgeMatrix) a b 0)
-Says t a b (Refused r) after = after ≡ t
+Says t a b (refused n) after = after ≡ t
 
 two : (k : ℕ) → (16 ≤ k) × (k ≤ 17) → Dec (k ≡ 16) → (k ≡ 16) ⊎ (k ≡ 17)
 two k h (yes e) = inl e
@@ -233,23 +230,23 @@ module _ (t : Table) (a b : ℕ) where
       record {
         withoutWalk = without (offer t a b .answer) says;
         atMost17 = most (offer t a b .answer) says;
-        kept = λ k e. at e .1;
-        declined = λ k e. at e .1;
+        keptAt = λ k e. at e .1;
+        declinedAt = λ k e. at e .1;
         declinedColors = λ k e. at e .2;
         declinedPairs = λ k e. at e .3;
-        refused = λ r e. at e;
+        refusedSame = λ number e. at e;
         fuel = λ v. recolor-fuel (t .coloring) _ a b (sound-color t (v .isSound) a (v .first));
       }
     where
-      at : {x : Offer} → offer t a b .answer ≡ x → Says t a b x (offer t a b .table)
+      at : {x : OfferAnswer} → offer t a b .answer ≡ x → Says t a b x (offer t a b .table)
       at e = subst (λ x. Says t a b x (offer t a b .table)) e says
 
-      without : (x : Offer) → Says t a b x (offer t a b .table) → (NeedsWalk t a b → ⊥) → counter x ≡ 0
-      without (Kept k) s h = s .0 h
-      without (Declined k) s h = absurd (h (s .0))
-      without (Refused r) s h = refl
+      without : (x : OfferAnswer) → Says t a b x (offer t a b .table) → (NeedsWalk t a b → ⊥) → counter x ≡ 0
+      without (kept k) s h = s .0 h
+      without (declined k) s h = absurd (h (s .0))
+      without (refused n) s h = refl
 
-      most : (x : Offer) → Says t a b x (offer t a b .table) → counter x ≤ 17
-      most (Kept k) s = omega arith
-      most (Declined k) s = ⊎-elim (λ e. omega arith) (λ e. omega arith) (s .1)
-      most (Refused r) s = omega arith
+      most : (x : OfferAnswer) → Says t a b x (offer t a b .table) → counter x ≤ 17
+      most (kept k) s = omega arith
+      most (declined k) s = ⊎-elim (λ e. omega arith) (λ e. omega arith) (s .1)
+      most (refused n) s = omega arith

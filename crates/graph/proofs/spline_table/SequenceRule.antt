@@ -5,9 +5,7 @@ use mathlib.Core.Bool.{Bool, true, false}
 use mathlib.Core.List.{List, [], _∷_, map}
 use Prim.Native.Nat.{ℕ}
 use borrow.Author.Tests.{not-true}
-use Rattle.graph.specs.declared.spline_table.Offer.{Offer}
-use Rattle.graph.specs.declared.spline_table.Offer.the-variants.{Kept, Declined, Refused}
-use Rattle.graph.specs.SplineTable.{Table, offer}
+use Rattle.graph.specs.SplineTable.{Table, OfferAnswer, kept, declined, refused, offer}
 use Rattle.graph.specs.Sequence.{Pair, run, KeptPair, NoClash, isKept, KeptOffer, strike, MayStrike, allOthers, SequenceRule}
 use Rattle.graph.proofs.spline_table.NoClashLaws.{one-offer}
 
@@ -57,19 +55,19 @@ struck-same t (p ∷ offers) clear (false ∷ marks) may =
     (struck-same (offer t (p .a) (p .b) .table) offers (one-offer t p clear .noClash) marks (may .1))
 
 -- 4. with all the others struck, the answers that are left are kept
-others-struck : (answers : List Offer) → MayStrike (allOthers answers) answers
+others-struck : (answers : List OfferAnswer) → MayStrike (allOthers answers) answers
 unfolding MayStrike allOthers
 others-struck [] = tt
 others-struck (o ∷ answers) = (λ e. not-true (isKept o) e, others-struck answers)
 
-abbrev OnlyKept : List Pair → List Offer → Type 0
+abbrev OnlyKept : List Pair → List OfferAnswer → Type 0
 OnlyKept offers answers = map isKept (strike (allOthers answers) answers) ≡ map (λ p. true) (strike (allOthers answers) offers)
 
-only-kept-one : (p : Pair) (o : Offer) (offers : List Pair) (answers : List Offer) → OnlyKept offers answers → OnlyKept (p ∷ offers) (o ∷ answers)
+only-kept-one : (p : Pair) (o : OfferAnswer) (offers : List Pair) (answers : List OfferAnswer) → OnlyKept offers answers → OnlyKept (p ∷ offers) (o ∷ answers)
 unfolding strike allOthers
-only-kept-one p (Kept n) offers answers h = ap (λ l. true ∷ l) h
-only-kept-one p (Declined n) offers answers h = h
-only-kept-one p (Refused r) offers answers h = h
+only-kept-one p (kept n) offers answers h = ap (λ l. true ∷ l) h
+only-kept-one p (declined n) offers answers h = h
+only-kept-one p (refused n) offers answers h = h
 
 only-kept : (t : Table) (offers : List Pair) → OnlyKept offers (run t offers .answers)
 unfolding run strike allOthers

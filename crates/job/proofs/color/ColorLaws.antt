@@ -17,7 +17,8 @@ use Rattle.graph.specs.declared.refusal.Checked.the-variants.{Passed, Failed}
 use Rattle.graph.specs.declared.refusal.Refusal.the-variants.{TooMany, LengthMismatch, BadDistance, ResultTooShort}
 use Rattle.graph.specs.Refusal.{refusalNumber, require}
 use Rattle.graph.specs.PairOrder.{distancesValid}
-use Rattle.graph.specs.SplineColors.{colorSplines, maxSplines, maxDistances, checkSplines}
+use Rattle.graph.specs.Limits.{maxSplines, maxDistances}
+use Rattle.graph.specs.SplineColors.{colorSplines, checkSplines}
 use Rattle.graph.specs.declared.refusal.Refusal.{Refusal}
 use Rattle.graph.specs.Lists.{all, over}
 use Rattle.coloring.specs.declared.outline.Counts.{Counts}

@@ -6,8 +6,7 @@ use native.Mathlib.Omega.{arith}
 use lib.ListN.{length, take, drop, replicate, length-append}
 use lib.Seq.{length-take-le, take-at}
 use Rattle.graph.specs.Recolor.{Walk, ended}
-use Rattle.graph.specs.SplineTable.{Offered, outcome, settled, walkedOn}
-use Rattle.graph.specs.declared.spline_table.Offer.the-variants.{Kept, Declined}
+use Rattle.graph.specs.SplineTable.{kept, declined, Offered, outcome, settled, walkedOn}
 use Rattle.graph.specs.declared.recolor.Walked.{Walked}
 use Rattle.graph.proofs.Lists.{copied}
 use Rattle.graph.proofs.recolor.RowLaws.{pair-inside}
@@ -95,10 +94,10 @@ same-length-2 c = search needs
 returns : tie.Need-returns
 returns c =
     let copies = c .before .before in
-    let kept = copies .before .before .before .before in
-    let r = kept .before .before .before in
+    let recolored = copies .before .before .before .before in
+    let r = recolored .before .before .before in
     let taken = copies .copy .ensures .1 ∙ copied _ (start r .args .coloring .now) (sym (front-size r)) ∙ front r in
-    ap (λ (l : List ℕ). outcome (Kept (kept .step .given .0 .0)) l (start r .args .edge-matrix .now)) taken ∙ by-end r _ (kept .step .given .1)
+    ap (λ (l : List ℕ). outcome (kept (recolored .step .given .0 .0)) l (start r .args .edge-matrix .now)) taken ∙ by-end r _ (recolored .step .given .1)
 
 same-length-3 : tie.Need-same-length-3
 same-length-3 c = search needs
@@ -111,7 +110,7 @@ returns-2 c =
     let enters = c .before .before in
     let stopped = enters .before .before .before in
     let r = stopped .before .before .before in
-    ap (outcome (Declined (stopped .step2 .given .0 .0)) (start r .args .coloring .now)) (enters .enter-pair .ensures) ∙ by-end r _ (stopped .step2 .given .1)
+    ap (outcome (declined (stopped .step2 .given .0 .0)) (start r .args .coloring .now)) (enters .enter-pair .ensures) ∙ by-end r _ (stopped .step2 .given .1)
 
 pub add-edge-by-walk-spec : {M : Type 1} → statement M
 add-edge-by-walk-spec =

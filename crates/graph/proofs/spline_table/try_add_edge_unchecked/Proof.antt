@@ -5,8 +5,7 @@ use Prim.Native.Nat.{ℕ, _*_}
 use native.Mathlib.Omega.{arith}
 use lib.ListN.{length, set}
 use Rattle.graph.specs.Recolor.{row, vertexPossibleColors, firstPossibleColor, Offerable}
-use Rattle.graph.specs.SplineTable.{Table, tableOf, outcome, walkedOn}
-use Rattle.graph.specs.declared.spline_table.Offer.the-variants.{Kept}
+use Rattle.graph.specs.SplineTable.{Table, tableOf, kept, outcome, walkedOn}
 use Rattle.graph.proofs.recolor.RowLaws.{row-length, pair-inside}
 use Rattle.graph.proofs.recolor.FreeColorLaws.{possible-below}
 use Rattle.graph.proofs.spline_table.OfferLaws.{entered, freeOfB, SameColor, rule-differ, rule-free, rule-walk}
@@ -87,7 +86,7 @@ same-length c = search needs
 returns : tie.Need-returns
 returns c =
     let p = c .before in
-    ap (outcome (Kept 0) (coloring p)) (after-same p) ∙ sym (rule-differ (table p) (a p) (b p) (c .if1 .taken))
+    ap (outcome (kept 0) (coloring p)) (after-same p) ∙ sym (rule-differ (table p) (a p) (b p) (c .if1 .taken))
 
 row-requires : tie.Need-row-requires
 row-requires c κs = let p = c .before .before .before in (after-size p, start p .pre .second, start p .pre .few)
@@ -116,8 +115,8 @@ returns-2 c =
     let v = c .before .before in
     let p = of-pair v in
     let color = c .first-possible-color .ensures ∙ ap firstPossibleColor (free v) in
-    ap (λ (x : ℕ). outcome (Kept 0) (set (coloring p) (b p) x) (after p)) color
-    ∙ ap (outcome (Kept 0) (set (coloring p) (b p) (firstPossibleColor (possible v)))) (after-same p)
+    ap (λ (x : ℕ). outcome (kept 0) (set (coloring p) (b p) x) (after p)) color
+    ∙ ap (outcome (kept 0) (set (coloring p) (b p) (firstPossibleColor (possible v)))) (after-same p)
     ∙ sym (rule-free (table p) (a p) (b p) (same v) (λ e. c .before .if2 .taken (free v ∙ e)))
 
 add-edge-by-walk-requires : tie.Need-add-edge-by-walk-requires
