@@ -5,6 +5,7 @@ use crate::geometry::{EdgeColor, EdgeSegment};
 use crate::leaves::one_nan;
 use crate::math::Vector2;
 use crate::numbers::{Random, SPECIAL};
+use std::ops::Range;
 
 /// A kind number (or a color, as a byte), eight places and a parameter: t as a double's bits, or a
 /// number.
@@ -87,9 +88,30 @@ pub enum Given {
     Nothing,
 }
 
+/// What a function answers.
+#[derive(Clone, Copy)]
+pub enum Answer {
+    Number,
+    Vector,
+    /// A kind and eight places.
+    Edge,
+}
+
+impl Answer {
+    /// The words of a record that are the answer. The others after the parameter are 0 and not compared.
+    pub fn words(self) -> Range<usize> {
+        match self {
+            Answer::Number => 11..12,
+            Answer::Vector => 12..14,
+            Answer::Edge => 11..20,
+        }
+    }
+}
+
 pub struct Function {
     pub name: &'static str,
     pub given: Given,
+    pub answers: Answer,
     pub reference: fn(&Inputs) -> Outputs,
     /// How many vectors there are of it.
     pub sample: usize,
@@ -101,36 +123,42 @@ fn has_channel(i: &Inputs) -> bool {
 }
 
 macro_rules! function {
-    ($name:expr, $given:ident, $sample:expr, $reference:expr) => {
-        Function { name: $name, given: Given::$given, reference: $reference, sample: $sample }
+    ($name:expr, $given:ident, $answers:ident, $sample:expr, $reference:expr) => {
+        Function {
+            name: $name,
+            given: Given::$given,
+            answers: Answer::$answers,
+            reference: $reference,
+            sample: $sample,
+        }
     };
 }
 
 /// In this order they have their numbers in the vectors.
 pub const FUNCTIONS: [Function; 15] = [
-    function!("split_in_thirds", Third, 300, |i| {
+    function!("split_in_thirds", Third, Edge, 300, |i| {
         of_edge(i.edge().split_in_thirds()[i.parameter as usize])
     }),
-    function!("unit_direction", Edge, 160, |i| {
+    function!("unit_direction", Edge, Vector, 160, |i| {
         of_vector(i.edge().direction(i.t()).normalize(false))
     }),
-    function!("direction", Edge, 200, |i| of_vector(i.edge().direction(i.t()))),
-    function!("point", Edge, 200, |i| of_vector(i.edge().point(i.t()))),
-    function!("line", Edge, 40, |i| of_edge(EdgeSegment::line(i.point(0), i.point(1)))),
-    function!("quadratic", Edge, 160, |i| {
+    function!("direction", Edge, Vector, 200, |i| of_vector(i.edge().direction(i.t()))),
+    function!("point", Edge, Vector, 200, |i| of_vector(i.edge().point(i.t()))),
+    function!("line", Edge, Edge, 40, |i| of_edge(EdgeSegment::line(i.point(0), i.point(1)))),
+    function!("quadratic", Edge, Edge, 160, |i| {
         of_edge(EdgeSegment::quadratic(i.point(0), i.point(1), i.point(2)))
     }),
-    function!("cubic", Edge, 240, |i| {
+    function!("cubic", Edge, Edge, 240, |i| {
         of_edge(EdgeSegment::cubic(i.point(0), i.point(1), i.point(2), i.point(3)))
     }),
-    function!("order", Edge, 16, |i| of_number(i.edge().order() as u64)),
-    function!("stored", Edge, 100, |i| of_edge(i.edge())),
-    function!("bits", Color, 32, |i| of_number(i.color().bits() as u64)),
-    function!("has_red", Color, 16, |i| of_number(i.color().has_red() as u64)),
-    function!("has_green", Color, 16, |i| of_number(i.color().has_green() as u64)),
-    function!("has_blue", Color, 16, |i| of_number(i.color().has_blue() as u64)),
-    function!("has_channel", Channel, 64, |i| of_number(has_channel(i) as u64)),
-    function!("default", Nothing, 1, |_| of_number(EdgeColor::default().bits() as u64)),
+    function!("order", Edge, Number, 16, |i| of_number(i.edge().order() as u64)),
+    function!("stored", Edge, Edge, 100, |i| of_edge(i.edge())),
+    function!("bits", Color, Number, 32, |i| of_number(i.color().bits() as u64)),
+    function!("has_red", Color, Number, 16, |i| of_number(i.color().has_red() as u64)),
+    function!("has_green", Color, Number, 16, |i| of_number(i.color().has_green() as u64)),
+    function!("has_blue", Color, Number, 16, |i| of_number(i.color().has_blue() as u64)),
+    function!("has_channel", Channel, Number, 64, |i| of_number(has_channel(i) as u64)),
+    function!("default", Nothing, Number, 1, |_| of_number(EdgeColor::default().bits() as u64)),
 ];
 
 /// A record of 20 words: the function's number, from 32 on; a kind, eight places and a parameter; a

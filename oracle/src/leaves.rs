@@ -6,6 +6,7 @@ use crate::math::{Vector2, cross, dot};
 use crate::numbers::Random;
 use crate::roots;
 use std::hint::black_box;
+use std::ops::Range;
 
 pub type Inputs = [u64; 5];
 pub type Outputs = [u64; 2];
@@ -65,6 +66,11 @@ impl Leaf {
             }
         }
         outputs
+    }
+
+    /// The words of a record that are the answer. Where there is one, the last word is 0 and not compared.
+    pub fn answer_words(&self) -> Range<usize> {
+        6..6 + self.outputs.len()
     }
 }
 

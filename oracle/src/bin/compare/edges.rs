@@ -1,8 +1,8 @@
 //! Edges and their colors.
 
 use crate::Tally;
-use crate::records::is_right;
-use oracle::edges::{FUNCTIONS, Given, Inputs, Outputs, record};
+use crate::records::fault;
+use oracle::edges::{Answer, FUNCTIONS, Given, Inputs, Outputs, record};
 use oracle::numbers::Random;
 
 /// Every input of a function on colors: all bytes, with channels 0 to 300 and the largest numbers.
@@ -25,7 +25,8 @@ fn kinds(part: &mut Tally) {
     for kind in (0..256).filter(|kind| !(1..=3).contains(kind)) {
         let inputs = Inputs { kind, places: [0; 8], parameter: 0 };
         let none = Outputs { number: 0, places: [0; 8] };
-        part.note(is_right(&record(stored, &inputs, &none), &[11]), || format!("kind {kind}"));
+        let fault = fault(&record(stored, &inputs, &none), Answer::Number.words());
+        part.note(fault.is_none(), || format!("kind {kind}: {}", fault.unwrap_or_default()));
     }
 }
 
@@ -34,10 +35,13 @@ pub fn compare(all: &mut Tally) {
         let mut part = Tally::default();
         let mut one = |i: Inputs| {
             let expected = function.answer(&i);
-            part.note(is_right(&record(number, &i, &expected), &[11, 12]), || {
+            let fault = fault(&record(number, &i, &expected), function.answers.words());
+            part.note(fault.is_none(), || {
                 let Inputs { kind, places, parameter } = i;
-                let name = function.name;
-                format!("{name}, {kind}, {places:016X?}, {parameter:016X}, not {expected:016X?}")
+                let (name, fault) = (function.name, fault.unwrap_or_default());
+                format!(
+                    "{name}, {kind}, {places:016X?}, {parameter:016X}, {expected:016X?}: {fault}"
+                )
             });
         };
         match function.given {

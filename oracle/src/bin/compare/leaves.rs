@@ -1,7 +1,7 @@
 //! The square root, the scalar helpers and the vectors.
 
 use crate::Tally;
-use crate::records::is_right;
+use crate::records::fault;
 use oracle::leaves::{Inputs, LEAVES, Leaf, record};
 use oracle::numbers::Random;
 use oracle::roots;
@@ -13,8 +13,10 @@ fn one(part: &mut Tally, number: usize, inputs: &Inputs) {
         return;
     }
     let expected = leaf.answer(inputs);
-    let agree = is_right(&record(number, inputs, &expected), &[6]);
-    part.note(agree, || format!("{} of {inputs:016X?}, not {expected:016X?}", leaf.name));
+    let fault = fault(&record(number, inputs, &expected), leaf.answer_words());
+    part.note(fault.is_none(), || {
+        format!("{} of {inputs:016X?}, {expected:016X?}: {}", leaf.name, fault.unwrap_or_default())
+    });
 }
 
 pub fn compare(all: &mut Tally) {
