@@ -5,7 +5,7 @@ use coloring::by_distance;
 use coloring::outline::Colored;
 ghost use mathlib.Core.Path.{_≡_};
 ghost use Rattle.coloring.specs.Outline.{outline, result};
-ghost use Rattle.coloring.specs.ByDistance.{collectSplines, edgeColoringByDistance};
+ghost use Rattle.coloring.specs.EdgeColoring.{collectSplines, edgeColoringByDistance};
 ghost use Rattle.capi.specs.EdgeColoring.{collectedCode, coloredCode, handed, handOut};
 
 // The number of edges and 2^16 times that of splines, or 2^32 and the number of the refusal.

@@ -14,20 +14,21 @@ use Rattle.graph.specs.declared.refusal.Refusal.the-variants.{TooMany, UnknownK
 use Rattle.graph.specs.declared.refusal.Checked.{Checked}
 use Rattle.graph.specs.declared.refusal.Checked.the-variants.{Passed, Failed}
 use Rattle.graph.specs.Refusal.{refusalNumber, require, andThen}
-use Rattle.graph.specs.SplineColors.{colorSplines, checkSplines}
 use Rattle.graph.specs.Lists.{all}
 use Rattle.graph.specs.Checks.{Check, unless}
 use Rattle.graph.specs.Answers.{Answer, values, refusal, firstOf, checkedAnswer, distanceChecks, told-require, told-distances}
 use Rattle.coloring.specs.declared.settings.Strategy.{Strategy}
-use Rattle.coloring.specs.declared.settings.Marking.the-variants.{Colors, Numbers}
+use Rattle.coloring.specs.declared.settings.Marking.{Marking}
+use Rattle.coloring.specs.declared.settings.Marking.the-variants.{Colors, Numbers, Distances}
 use Rattle.coloring.specs.Answers.{coloredAnswer, told-after, told-refused, told-passed}
 use Rattle.coloring.specs.Places.{total}
-use Rattle.coloring.specs.Outline.{Outline, Result, contours, knownKind, between, coordinatesFit, maxContours, maxEdges, check, fits}
+use Rattle.coloring.specs.Outline.{Outline, Result, contours, knownKind, between, coordinatesFit, check, fits}
 use Rattle.coloring.specs.Shape.{painted, countsOf}
 use Rattle.coloring.specs.Corners.{Cornered, searchCorners}
 use Rattle.coloring.specs.Splines.{splineTotal}
-use Rattle.coloring.specs.EdgeColoring.{edgeColoring}
-use Rattle.coloring.specs.ByDistance.{splineByte, withBytes, collectSplines, edgeColoringByDistance}
+use Rattle.coloring.specs.Layout.{layout}
+use Rattle.coloring.specs.Values.{splineValues, middleValue, checkMarking}
+use Rattle.coloring.specs.EdgeColoring.{edgeColoring, collectSplines, edgeColoringByDistance}
 
 -- ---- colourings: 4, 8, 5, 7, 6, splines 4, distance count 8, 9, 11
 
@@ -42,13 +43,13 @@ outlineChecks o threshold =
     ∷ []
 
 -- the values: the edges of the result, and their splines
-abbrev pub countedAnswer : List Cornered → Result → Answer
-countedAnswer found written = values (length (written .kinds) ∷ splineTotal found ∷ [])
+abbrev pub countedAnswer : List Cornered → Answer
+countedAnswer laid = values (countsOf laid .edges ∷ countsOf laid .splines ∷ [])
 
 told-check : (told : Checked → Answer) → ((r : Refusal) → told (Failed r) ≡ refusal (refusalNumber r))
     → (o : Outline) (threshold : Float) (checks : List Check) (answer : Answer)
     → told Passed ≡ firstOf checks answer → told (check o threshold) ≡ firstOf (outlineChecks o threshold ++ checks) answer
-unfolding check maxContours maxEdges
+unfolding check
 told-check told fails o threshold checks answer e =
     told-require told fails _ TooMany _ _ answer
     (told-require told fails _ LengthMismatch _ _ answer
@@ -62,55 +63,59 @@ unfolding firstOf
 check-in-numbers o threshold = told-check checkedAnswer (λ r. refl) o threshold [] (values []) refl
 
 module _ (o : Outline) (threshold : Float) (old : Result) where
-  abbrev found : List Cornered
-  found = map (searchCorners threshold) (contours o)
+  abbrev laid : List Cornered
+  laid = map layout (map (searchCorners threshold) (contours o))
+
+  abbrev splines : ℕ
+  splines = splineTotal laid
+
+  module _ (marking : Marking) (distances : List Float) where
+    abbrev written : Result
+    written = painted (middleValue marking) (splineValues marking distances laid) laid
+
+    -- what is told of checks, those of the splines after them
+    abbrev told : Checked → Answer
+    told = told-after (countsOf laid) written old
+
+    abbrev fails : (r : Refusal) → told (Failed r) ≡ refusal (refusalNumber r)
+    fails = told-refused (countsOf laid) written old
+
+    abbrev marked : Checked → Answer
+    marked checked = told (andThen checked (checkMarking marking splines distances))
+
+    -- 4 for the distances and the outline's, then the splines' checks, then 11
+    in-numbers : (checks : List Check)
+        → told (checkMarking marking splines distances) ≡ firstOf (checks ++ (unless 11 (fits written old) ∷ [])) (countedAnswer laid)
+        → coloredAnswer (edgeColoring (record { marking = marking; threshold = threshold }) o distances old .answer)
+        ≡ firstOf (unless 4 (leb (length distances) 2016) ∷ outlineChecks o threshold ++ (checks ++ (unless 11 (fits written old) ∷ []))) (countedAnswer laid)
+    unfolding edgeColoring
+    in-numbers checks e = told-require marked fails (leb (length distances) 2016) TooMany _ _ _ (told-check marked fails o threshold _ _ e)
+
+    abbrev passed : told Passed ≡ firstOf (unless 11 (fits written old) ∷ []) (countedAnswer laid)
+    passed = told-passed (countsOf laid) written old
 
   -- simple and ink-trap colouring
-  module _ (strategy : Strategy) (seed : ℕ) where
-    abbrev written : Result
-    written = painted (Colors strategy seed) found
+  pub coloring-in-numbers : (strategy : Strategy) (seed : ℕ) → let marking = Colors strategy seed in
+      coloredAnswer (edgeColoring (record { marking = marking; threshold = threshold }) o [] old .answer)
+      ≡ firstOf (outlineChecks o threshold ++ (unless 11 (fits (written marking []) old) ∷ [])) (countedAnswer laid)
+  unfolding firstOf
+  coloring-in-numbers strategy seed = let marking = Colors strategy seed in in-numbers marking [] [] (passed marking [])
 
-    pub coloring-in-numbers :
-        coloredAnswer (edgeColoring (record { marking = Colors strategy seed; threshold = threshold }) o old .answer)
-        ≡ firstOf (outlineChecks o threshold ++ (unless 11 (fits written old) ∷ [])) (countedAnswer found written)
-    unfolding edgeColoring countsOf
-    coloring-in-numbers =
-        let counts = countsOf found written in
-        let told : Checked → Answer = λ checked. told-after counts written old (andThen checked Passed) in
-        told-check told (told-refused counts written old) o threshold _ _ (told-passed counts written old)
-
-  -- the collecting pass and by-distance colouring
-  abbrev splines : ℕ
-  splines = splineTotal found
-
-  abbrev collected : Result
-  collected = painted Numbers found
-
+  -- the collecting pass
   pub collecting-in-numbers :
       coloredAnswer (collectSplines o threshold old .answer)
-      ≡ firstOf (outlineChecks o threshold ++ (unless 4 (leb splines 64) ∷ unless 11 (fits collected old) ∷ [])) (countedAnswer found collected)
-  unfolding edgeColoring countsOf
+      ≡ firstOf (outlineChecks o threshold ++ (unless 4 (leb splines 64) ∷ unless 11 (fits (written Numbers []) old) ∷ [])) (countedAnswer laid)
+  unfolding firstOf
   collecting-in-numbers =
-      let counts = countsOf found collected in
-      let told = told-after counts collected old in
-      let fails = told-refused counts collected old in
-      told-check (λ checked. told (andThen checked (require (leb splines 64) TooMany Passed))) fails o threshold _ _
-      (told-require told fails (leb splines 64) TooMany Passed _ _ (told-passed counts collected old))
+      in-numbers Numbers [] (unless 4 (leb splines 64) ∷ [])
+      (told-require (told Numbers []) (fails Numbers []) (leb splines 64) TooMany Passed (unless 11 (fits (written Numbers []) old) ∷ []) (countedAnswer laid) (passed Numbers []))
 
-  module _ (seed : ℕ) (distances : List Float) where
-    abbrev byDistance : Result
-    byDistance = withBytes (splineByte (colorSplines splines distances seed)) collected
-
-    pub by-distance-in-numbers :
-        coloredAnswer (edgeColoringByDistance o threshold seed distances old .answer)
-        ≡ firstOf
-        (unless 4 (leb (length distances) 2016) ∷ outlineChecks o threshold ++ distanceChecks splines distances ++ (unless 11 (fits byDistance old) ∷ []))
-        (countedAnswer found byDistance)
-    unfolding edgeColoringByDistance countsOf
-    by-distance-in-numbers =
-        let counts = countsOf found collected in
-        let fails = told-refused counts byDistance old in
-        let after : Checked → Answer = λ checked. told-after counts byDistance old (andThen checked (checkSplines splines distances)) in
-        told-require after fails (leb (length distances) 2016) TooMany _ _ _
-        (told-check after fails o threshold _ _
-        (told-distances (told-after counts byDistance old) fails splines distances _ _ (told-passed counts byDistance old)))
+  -- by-distance colouring
+  pub by-distance-in-numbers : (seed : ℕ) (distances : List Float) → let marking = Distances seed in
+      coloredAnswer (edgeColoringByDistance o threshold seed distances old .answer)
+      ≡ firstOf
+      (unless 4 (leb (length distances) 2016) ∷ outlineChecks o threshold ++ (distanceChecks splines distances ++ (unless 11 (fits (written marking distances) old) ∷ [])))
+      (countedAnswer laid)
+  by-distance-in-numbers seed distances = let marking = Distances seed in
+      in-numbers marking distances (distanceChecks splines distances)
+      (told-distances (told marking distances) (fails marking distances) splines distances _ _ (passed marking distances))

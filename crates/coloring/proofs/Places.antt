@@ -2,15 +2,14 @@
 use Prim.Native.Nat.{ℕ, _+_, _-_, _%_, _≤_, _<_}
 use mathlib.Core.Path.{_≡_, sym, ap, _∙_}
 use mathlib.Core.Logic.{_⊎_, inl, inr, ⊎-elim}
-use mathlib.Core.List.{List, _++_, map, map-append}
+use mathlib.Core.List.{List, _++_}
 use native.Mathlib.Nat.{mod-lt, mod-eq-of-lt, mod-eq-sub-mod}
 use native.Mathlib.Decide.{decLt}
 use native.Mathlib.Omega.{arith}
-use lib.ListN.{length, getD, take, drop, set, length-drop, length-map, length-set, List·getD-append}
+use lib.ListN.{length, getD, take, drop, set, length-drop, length-set, List·getD-append}
 use lib.Seq.{getD-take, getD-drop, getD-append-add, getD-set-same, getD-set-other, ext-getD}
 use Rattle.coloring.specs.Places.{rotate, byPlace}
 use Rattle.coloring.specs.Sizes.{length-byPlace}
-use Rattle.coloring.proofs.Lists.{map-take, map-drop}
 
 -- ---- the place after k steps from a start, of m
 
@@ -75,11 +74,6 @@ module _ {A : Type 0} where
   getD-byPlace start xs k d s h =
       getD-rotate (length xs - start) xs ((start + k) % length xs) d (omega arith) (mod-lt (start + k) (omega arith))
       ∙ ap (λ (p : ℕ). getD xs p d) (place-back start k (length xs) s h)
-
-module _ {A B : Type 0} (f : A → B) where
-  pub map-byPlace : (start : ℕ) (xs : List A) → map f (byPlace start xs) ≡ byPlace start (map f xs)
-  unfolding byPlace
-  map-byPlace start xs = simp (map-append, map-take, map-drop, length-map)
 
 -- ---- written in walking order: after i steps of m, the places passed hold the first i of the list
 

@@ -1,3 +1,3 @@
--- Laws on the edges of a result: how many there are, and that they are written contour by contour.
-pub mod CountLaws
+-- Laws on the layout: contours that are laid out one after the other, and what a split leaves as it is.
 pub mod LayoutLaws
+pub mod SplitLaws

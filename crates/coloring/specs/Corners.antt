@@ -71,24 +71,28 @@ cornerFlags threshold [] = []
 cornerFlags threshold (e ∷ edges) = flagsFrom threshold (direction (lastEdge e edges) f1) (e ∷ edges)
 
 -- the places of the true flags, the first flag at place `index`
-unfoldable pub placesFrom : ℕ → List Bool → List ℕ
-placesFrom index [] = []
-placesFrom index (true ∷ flags) = index ∷ placesFrom (suc index) flags
-placesFrom index (false ∷ flags) = placesFrom (suc index) flags
+unfoldable pub cornersFrom : ℕ → List Bool → List ℕ
+cornersFrom index [] = []
+cornersFrom index (true ∷ flags) = index ∷ cornersFrom (suc index) flags
+cornersFrom index (false ∷ flags) = cornersFrom (suc index) flags
 
--- `identify_corners`: the places of the corners
-unfoldable pub identifyCorners : List Bool → List ℕ
-unfolding placesFrom
-identifyCorners flags = placesFrom 0 flags
+unfoldable pub cornersOf : List Bool → List ℕ
+unfolding cornersFrom
+cornersOf flags = cornersFrom 0 flags
 
--- how many there are, and where the first is
+-- the places of the corners
+unfoldable pub identifyCorners : Float → List EdgeSegment → List ℕ
+unfolding cornerFlags cornersOf
+identifyCorners threshold edges = cornersOf (cornerFlags threshold edges)
+
+-- how many flags are true, and where the first of them is
 unfoldable pub cornerCount : List Bool → ℕ
-unfolding identifyCorners
-cornerCount flags = length (identifyCorners flags)
+unfolding cornersOf
+cornerCount flags = length (cornersOf flags)
 
 unfoldable pub firstCorner : List Bool → ℕ
-unfolding identifyCorners
-firstCorner flags = getD (identifyCorners flags) 0 0
+unfolding cornersOf
+firstCorner flags = getD (cornersOf flags) 0 0
 
 -- what a corner search answers: a contour, and a flag for each of its edges
 pub record Cornered : Type 0 where
@@ -99,9 +103,12 @@ unfoldable pub searchCorners : Float → List EdgeSegment → Cornered
 unfolding cornerFlags
 searchCorners threshold edges = record { edges = edges; corners = cornerFlags threshold edges }
 
--- the flags of several contours
-abbrev pub flagsOf : List Cornered → List (List Bool)
-flagsOf found = map (λ (contour : Cornered). contour .corners) found
+-- the edges of several contours, and their flags
+abbrev pub edgesIn : List Cornered → List (List EdgeSegment)
+edgesIn contours = map (λ (contour : Cornered). contour .edges) contours
+
+abbrev pub flagsIn : List Cornered → List (List Bool)
+flagsIn contours = map (λ (contour : Cornered). contour .corners) contours
 
 -- edges and flags of several contours, cut into pieces of the given lengths
 unfoldable pub cornered : List ℕ → List EdgeSegment → List Bool → List Cornered

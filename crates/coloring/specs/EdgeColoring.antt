@@ -1,23 +1,45 @@
--- Simple and ink-trap colouring of an outline, after `edge_coloring_simple` and `edge_coloring_ink_trap` of coloring/mod.rs, their first line
--- replaced by the given threshold; and the one definition behind them and the collecting pass.
+-- The colourings of an outline, after `edge_coloring_simple` and `edge_coloring_ink_trap` of coloring/mod.rs and `edge_coloring_by_distance` of
+-- by_distance.rs, their first line replaced by the given threshold and the matrix by the given distances; and the collecting pass of the last. One
+-- definition stands behind all four.
 use Prim.Native.Nat.{ℕ}
-use mathlib.Core.List.{map}
+use mathlib.Core.List.{List, [], map}
+use lib.Dec.{leb}
 use lib.Ieee.{Float}
+use lib.ListN.{length}
+use Rattle.graph.specs.declared.refusal.Refusal.the-variants.{TooMany}
+use Rattle.graph.specs.Limits.{maxDistances}
+use Rattle.graph.specs.Refusal.{require}
 use Rattle.coloring.specs.declared.settings.Strategy.the-variants.{Simple, InkTrap}
-use Rattle.coloring.specs.declared.settings.Marking.the-variants.{Colors}
+use Rattle.coloring.specs.declared.settings.Marking.{Marking}
+use Rattle.coloring.specs.declared.settings.Marking.the-variants.{Colors, Numbers, Distances}
 use Rattle.coloring.specs.declared.settings.Settings.{Settings}
 use Rattle.coloring.specs.Corners.{searchCorners}
+use Rattle.coloring.specs.Layout.{layout}
+use Rattle.coloring.specs.Splines.{splineTotal}
+use Rattle.coloring.specs.Values.{splineValues}
 use Rattle.coloring.specs.Outline.{Outline, Result, Outcome, contours, check, deliver}
 use Rattle.coloring.specs.Shape.{painted, countsOf, deliverFound}
 
--- the outcome of an entry, answer and buffers: the checks, the corners of each contour, then the edges of the result and the byte of each
-unfoldable pub edgeColoring : Settings → Outline → Result → Outcome
-unfolding searchCorners contours check deliver painted countsOf
-edgeColoring settings o =
-    deliverFound (check o (settings .threshold)) (settings .marking) (map (searchCorners (settings .threshold)) (contours o))
+-- The outcome of an entry, answer and buffers: the checks, too many distances counted with too many contours and edges; the corners of each contour;
+-- then the edges of the result and the byte of each.
+unfoldable pub edgeColoring : Settings → Outline → List Float → Result → Outcome
+unfolding searchCorners contours check layout deliver painted countsOf splineValues splineTotal
+edgeColoring settings o distances =
+    deliverFound (require (leb (length distances) maxDistances) TooMany (check o (settings .threshold))) (settings .marking) distances
+    (map (searchCorners (settings .threshold)) (contours o))
+
+abbrev settingsOf : Marking → Float → Settings
+settingsOf marking threshold = record { marking = marking; threshold = threshold }
 
 abbrev pub edgeColoringSimple : Outline → Float → ℕ → Result → Outcome
-edgeColoringSimple o threshold seed = edgeColoring (record { marking = Colors Simple seed; threshold = threshold }) o
+edgeColoringSimple o threshold seed = edgeColoring (settingsOf (Colors Simple seed) threshold) o []
 
 abbrev pub edgeColoringInkTrap : Outline → Float → ℕ → Result → Outcome
-edgeColoringInkTrap o threshold seed = edgeColoring (record { marking = Colors InkTrap seed; threshold = threshold }) o
+edgeColoringInkTrap o threshold seed = edgeColoring (settingsOf (Colors InkTrap seed) threshold) o []
+
+abbrev pub edgeColoringByDistance : Outline → Float → ℕ → List Float → Result → Outcome
+edgeColoringByDistance o threshold seed distances = edgeColoring (settingsOf (Distances seed) threshold) o distances
+
+-- the split outline, each edge with the number of its spline
+abbrev pub collectSplines : Outline → Float → Result → Outcome
+collectSplines o threshold = edgeColoring (settingsOf Numbers threshold) o []

@@ -2,7 +2,7 @@
 use Prim.Native.Nat.{ℕ, _*_}
 use mathlib.Core.Path.{_≡_, refl}
 use mathlib.Core.Bool.{Bool, true, false}
-use mathlib.Core.List.{List, [], _∷_, _++_, map}
+use mathlib.Core.List.{List, [], _∷_, _++_, map, flatten}
 use lib.IntN.{ℤ, pos, negsuc}
 use lib.ListN.{replicate}
 use lib.Ieee as Ieee
@@ -18,7 +18,6 @@ use Rattle.graph.specs.declared.refusal.Refusal.the-variants.{ResultTooShort}
 use Rattle.coloring.specs.declared.outline.Colored.the-variants.{Edges, Refused}
 use Rattle.coloring.specs.Trichotomy.{symmetricalTrichotomy}
 use Rattle.coloring.specs.Switching.{switchColor, switchColorBanned}
-use Rattle.coloring.specs.Places.{concat}
 use Rattle.coloring.specs.Corners.{cornerCount, firstCorner}
 use Rattle.coloring.specs.Layout.{thirds, layout}
 use Rattle.coloring.specs.Teardrop.{runs}
@@ -68,7 +67,7 @@ line x0 y0 x1 y1 = x0 ∷ y0 ∷ x1 ∷ y1 ∷ f0 ∷ f0 ∷ f0 ∷ f0 ∷ []
 unfoldable pub squares : ℕ → Outline
 squares n =
     outline (replicate n 4) (replicate (4 * n) 1)
-    (concat (replicate n (line f0 f0 f1 f0 ++ line f1 f0 f1 f1 ++ line f1 f1 f0 f1 ++ line f0 f1 f0 f0)))
+    (flatten (replicate n (line f0 f0 f1 f0 ++ line f1 f0 f1 f1 ++ line f1 f1 f0 f1 ++ line f0 f1 f0 f0)))
 
 -- buffers for their result, and so many colours
 abbrev room : ℕ → List ℕ → Result
@@ -103,7 +102,7 @@ into colors = edgeColoringSimple square eighth 0 (room 1 colors)
 
 -- refutes one that refuses a result that fits exactly, or writes beyond it
 pub exactly-fits :
-    (into (9 ∷ 9 ∷ 9 ∷ 9 ∷ 8 ∷ []) .answer ≡ Edges (record { edges = 4; splines = 4 }))
+    (into (9 ∷ 9 ∷ 9 ∷ 9 ∷ 8 ∷ []) .answer ≡ Edges (record { contours = 1; edges = 4; splines = 4 }))
     × (into (9 ∷ 9 ∷ 9 ∷ 9 ∷ 8 ∷ []) .buffers .colors ≡ (5 ∷ 3 ∷ 6 ∷ 3 ∷ 8 ∷ []))
 unfolding square edgeColoring cornerCount firstCorner direction sub dot cross divScalar squaredLength lengthOf normalize sqrtOf toStored fromStored Ieee.add Ieee.sub Ieee.mul Ieee.div Ieee.neg Ieee.ne Ieee.le Ieee.lt Ieee.ofBits
 exactly-fits = (refl, refl)
@@ -121,7 +120,9 @@ unfolding runs
 split-runs = (refl, refl)
 
 -- refutes a split that starts at the first edge where the corner is at the second
-pub split-from-the-corner : (e f : EdgeSegment) → layout (record { edges = e ∷ f ∷ []; corners = false ∷ true ∷ [] }) ≡ (thirds f ++ thirds e)
+pub split-from-the-corner : (e f : EdgeSegment)
+    → layout (record { edges = e ∷ f ∷ []; corners = false ∷ true ∷ [] })
+    ≡ record { edges = thirds f ++ thirds e; corners = true ∷ false ∷ false ∷ false ∷ false ∷ false ∷ [] }
 unfolding layout cornerCount firstCorner
 split-from-the-corner e f = refl
 

@@ -1,4 +1,5 @@
 -- The definitions that the contracts of the colouring cite.
+pub mod Limits
 pub mod Places
 pub mod Switching
 pub mod Corners
@@ -8,13 +9,13 @@ pub mod Teardrop
 pub mod Splines
 pub mod Simple
 pub mod InkTrap
-pub mod Contour
+pub mod Values
 pub mod Outline
 pub mod Shape
 pub mod EdgeColoring
-pub mod ByDistance
--- laws that crates above cite too: how long the parts of a result are
+-- laws that crates above cite too: how long the parts of a result are, and how it is painted
 pub mod Sizes
+pub mod PaintLaws
 -- the answers in document 01's numbers
 pub mod Answers
 -- worked examples

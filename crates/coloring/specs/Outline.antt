@@ -2,7 +2,7 @@
 use Prim.Native.Nat.{ℕ, suc, _-_, _*_, _≤_}
 use mathlib.Core.Path.{_≡_, refl}
 use mathlib.Core.Bool.{Bool, true, false, _&&_, cond}
-use mathlib.Core.List.{List, [], _∷_, map}
+use mathlib.Core.List.{List, [], _∷_, map, flatten}
 use lib.ListN.{length, take, drop}
 use lib.Dec.{leb, eqb}
 use lib.IntN.{pos}
@@ -23,9 +23,10 @@ use Rattle.graph.specs.Lists.{all, over, overFrom}
 use Rattle.coloring.specs.declared.outline.Counts.{Counts}
 use Rattle.coloring.specs.declared.outline.Colored.{Colored}
 use Rattle.coloring.specs.declared.outline.Colored.the-variants.{Edges, Refused}
-use Rattle.coloring.specs.Places.{concat, total}
-use Rattle.coloring.specs.Corners.{Cornered}
-use Rattle.coloring.specs.Layout.{layout, resultEdges}
+use Rattle.coloring.specs.Places.{total}
+use Rattle.coloring.specs.Limits.{maxContours, maxEdges}
+use Rattle.coloring.specs.Corners.{Cornered, edgesIn, flagsIn}
+use Rattle.coloring.specs.Layout.{resultEdges}
 
 -- an outline's three buffers: contour lengths, the kind of each edge, eight point places an edge
 pub record Outline : Type 0 where
@@ -80,22 +81,16 @@ pub record Result : Type 0 where
 
 -- the edges of each contour, and a byte for each edge: its colour, or what else a pass gives it
 unfoldable pub encode : List (List EdgeSegment) → List (List ℕ) → Result
-unfolding concat
+unfolding flatten
 encode edges bytes =
     record {
       lengths = map (λ (contour : List EdgeSegment). length contour) edges;
-      kinds = map kindOf (concat edges);
-      points = concat (map placesOf (concat edges));
-      colors = concat bytes;
+      kinds = map kindOf (flatten edges);
+      points = flatten (map placesOf (flatten edges));
+      colors = flatten bytes;
     }
 
 -- ---- the checks, in document 01's order
-
-unfoldable pub maxContours : ℕ
-maxContours = 64
-
-unfoldable pub maxEdges : ℕ
-maxEdges = 256
 
 abbrev pub knownKind : ℕ → Bool
 knownKind kind = leb 1 kind && leb kind 3
@@ -129,7 +124,7 @@ coordinatesFit (kind ∷ kinds) points =
 
 -- 4, 8, 5, 7, 6: the first that applies
 unfoldable pub check : Outline → Float → Checked
-unfolding maxContours maxEdges total all coordinatesFit
+unfolding total all coordinatesFit
 check o threshold =
     let edges = total (o .lengths) in
     require (leb (length (o .lengths)) maxContours && leb edges maxEdges) TooMany
@@ -188,17 +183,24 @@ result lengths kinds points colors = record { lengths = lengths; kinds = kinds; 
 abbrev pub outcome : Colored → Result → Outcome
 outcome answer buffers = record { answer = answer; buffers = buffers }
 
--- the buffers of an outline agree, and hold no more edges than are allowed
+-- the buffers of an outline agree, and hold no more contours and edges than are allowed
 pub record Agrees (o : Outline) : Type 0 where
+  pub contours-few : length (o .lengths) ≤ maxContours
   pub edges : length (o .kinds) ≡ total (o .lengths)
-  pub few : length (o .kinds) ≤ 256
+  pub few : length (o .kinds) ≤ maxEdges
   pub places : length (o .points) ≡ 8 * length (o .kinds)
 
 -- three buffers of a contour, or of several one after the other: its edges, and a flag for each
 pub record Matching (kinds : List ℕ) (points : List Float) (flags : List Bool) : Type 0 where
   pub places : length points ≡ 8 * length kinds
   pub flagged : length flags ≡ length kinds
-  pub few : length kinds ≤ 256
+  pub few : length kinds ≤ maxEdges
+
+-- the same with the lengths of the contours
+pub record Cut (lengths kinds : List ℕ) (points : List Float) (flags : List Bool) : Type 0 where
+  pub matching : Matching kinds points flags
+  pub whole : total lengths ≡ length kinds
+  pub contours-few : length lengths ≤ maxContours
 
 abbrev pub whole : List ℕ → List Float → List Bool → Cornered
 whole kinds points flags = record { edges = edgesOf kinds points; corners = flags }
@@ -213,23 +215,32 @@ abbrev pub part : List ℕ → List Float → List Bool → ℕ → ℕ → Corn
 part kinds points flags at end =
     record { edges = take (end - at) (drop at (edgesOf kinds points)); corners = take (end - at) (drop at flags) }
 
--- two buffers hold edges; the same from place `to` on, over what stood there
+-- two buffers hold edges; three hold a contour and its flags; the same from place `to` on, over what stood there
 pub record Stored (edges : List EdgeSegment) (kinds : List ℕ) (points : List Float) : Type 0 where
   pub kinds-are : kinds ≡ map kindOf edges
-  pub points-are : points ≡ concat (map placesOf edges)
+  pub points-are : points ≡ flatten (map placesOf edges)
 
-pub record StoredFrom (to : ℕ) (edges : List EdgeSegment) (kinds₀ : List ℕ) (points₀ : List Float) (kinds : List ℕ) (points : List Float) : Type 0 where
-  pub kinds-are : kinds ≡ overFrom to (map kindOf edges) kinds₀
-  pub points-are : points ≡ overFrom (8 * to) (concat (map placesOf edges)) points₀
+pub record Laid (contour : Cornered) (kinds : List ℕ) (points : List Float) (flags : List Bool) : Type 0 where
+  pub edges-are : Stored (contour .edges) kinds points
+  pub flags-are : flags ≡ contour .corners
 
--- three buffers have room for the result of contours with these flags
-pub record Room (lengths : List ℕ) (flags : List Bool) (outLengths outKinds : List ℕ) (outPoints : List Float) : Type 0 where
+pub record LaidFrom (to : ℕ) (contour : Cornered) (kinds₀ : List ℕ) (points₀ : List Float) (flags₀ : List Bool)
+    (kinds : List ℕ) (points : List Float) (flags : List Bool) : Type 0 where
+  pub kinds-are : kinds ≡ overFrom to (map kindOf (contour .edges)) kinds₀
+  pub points-are : points ≡ overFrom (8 * to) (flatten (map placesOf (contour .edges))) points₀
+  pub flags-are : flags ≡ overFrom to (contour .corners) flags₀
+
+-- four buffers have room for the result of contours with these flags
+pub record ResultRoom (lengths : List ℕ) (flags : List Bool) (outLengths outKinds : List ℕ) (outPoints : List Float) (outFlags : List Bool) : Type 0 where
   pub lengths-fit : length lengths ≤ length outLengths
   pub kinds-fit : total (map resultEdges (cut lengths flags)) ≤ length outKinds
   pub points-fit : 8 * total (map resultEdges (cut lengths flags)) ≤ length outPoints
+  pub flags-fit : total (map resultEdges (cut lengths flags)) ≤ length outFlags
 
--- three buffers hold the edges of a result, over what stood there
-pub record LaidOut (found : List Cornered) (lengths₀ kinds₀ : List ℕ) (points₀ : List Float) (lengths kinds : List ℕ) (points : List Float) : Type 0 where
-  pub lengths-are : lengths ≡ over (encode (map layout found) [] .lengths) lengths₀
-  pub kinds-are : kinds ≡ over (encode (map layout found) [] .kinds) kinds₀
-  pub points-are : points ≡ over (encode (map layout found) [] .points) points₀
+-- four buffers hold laid out contours, over what stood there
+pub record LaidOut (laid : List Cornered) (lengths₀ kinds₀ : List ℕ) (points₀ : List Float) (flags₀ : List Bool)
+    (lengths kinds : List ℕ) (points : List Float) (flags : List Bool) : Type 0 where
+  pub lengths-are : lengths ≡ over (encode (edgesIn laid) [] .lengths) lengths₀
+  pub kinds-are : kinds ≡ over (encode (edgesIn laid) [] .kinds) kinds₀
+  pub points-are : points ≡ over (encode (edgesIn laid) [] .points) points₀
+  pub flags-are : flags ≡ over (flatten (flagsIn laid)) flags₀

@@ -1,4 +1,4 @@
--- Lists by place: a list from a place on and around, and back; lists joined, numbers added up.
+-- Lists by place: a list from a place on and around, and back; numbers added up.
 use Prim.Native.Nat.{ℕ, _+_, _-_}
 use mathlib.Core.List.{List, [], _∷_, _++_}
 use lib.ListN.{length, take, drop}
@@ -11,10 +11,6 @@ rotate k xs = drop k xs ++ take k xs
 unfoldable pub byPlace : {A : Type 0} → ℕ → List A → List A
 unfolding rotate
 byPlace start xs = rotate (length xs - start) xs
-
-unfoldable pub concat : {A : Type 0} → List (List A) → List A
-concat [] = []
-concat (xs ∷ rest) = xs ++ concat rest
 
 unfoldable pub total : List ℕ → ℕ
 total [] = 0

@@ -1,35 +1,29 @@
 -- How long the parts of a result are: laws on the definitions, for the proofs of this crate and of those above it.
 use Prim.Native.Nat.{ℕ, suc, _+_, _-_, _*_, _≤_}
 use mathlib.Core.Path.{_≡_, refl, sym, ap, _∙_}
-use mathlib.Core.Bool.{Bool, true, false, _&&_, cond}
-use mathlib.Core.List.{List, [], _∷_, map}
+use mathlib.Core.Bool.{Bool, true, false, cond}
+use mathlib.Core.List.{List, [], _∷_, map, flatten}
 use native.Mathlib.Omega.{arith}
 use lib.Dec.{leb, eqb}
 use lib.Ieee.{Float}
-use lib.ListN.{length, getD, length-append, length-take, length-drop, length-map}
-use borrow.Author.Tests.{eq-eqb, ne-eqb, eqb-true, leb-true}
+use lib.ListN.{length, getD, take, drop, length-append, length-take, length-drop, length-map}
+use lib.Seq.{take-at, drop-at}
+use borrow.Author.Tests.{eqb-true, leb-true}
 use Rattle.math.specs.Scalar.{f1}
 use Rattle.math.specs.declared.vector2.Vector2.{Vector2}
-use Rattle.geometry.specs.EdgeColor.{bitsOf}
 use Rattle.geometry.specs.EdgeSegment.{direction, toStored}
-use Rattle.geometry.specs.declared.edge_color.EdgeColor.the-variants.{White}
 use Rattle.geometry.specs.declared.edge_segment.EdgeSegment.{EdgeSegment}
 use Rattle.geometry.specs.declared.edge_segment.EdgeSegment.the-variants.{Line, Quadratic, Cubic}
 use Rattle.graph.specs.Bools.{and-left, and-right, branch-true, branch-false}
 use Rattle.graph.specs.Lists.{range, length-range}
-use Rattle.coloring.specs.declared.switching.Pen.{Pen}
-use Rattle.coloring.specs.declared.settings.Strategy.{Strategy}
-use Rattle.coloring.specs.declared.settings.Marking.{Marking}
-use Rattle.coloring.specs.declared.settings.Marking.the-variants.{Colors, Numbers}
-use Rattle.coloring.specs.Places.{rotate, byPlace, concat, total}
-use Rattle.coloring.specs.Switching.{initColor}
-use Rattle.coloring.specs.Corners.{Cornered, lastEdge, flagsFrom, cornerFlags, searchCorners, flagsOf, cornerCount, firstCorner}
-use Rattle.coloring.specs.Layout.{thirds, splits, layout, resultEdges, resultCorner}
+use Rattle.coloring.specs.Limits.{maxContours, maxEdges, maxResultEdges}
+use Rattle.coloring.specs.Places.{rotate, byPlace, total}
+use Rattle.coloring.specs.Corners.{Cornered, lastEdge, flagsFrom, cornerFlags, searchCorners, edgesIn, flagsIn, cornerCount, firstCorner}
+use Rattle.coloring.specs.Layout.{thirds, splits, firstOnly, splitContour, layout, resultEdges}
 use Rattle.coloring.specs.Teardrop.{runs, teardrop}
-use Rattle.coloring.specs.Splines.{splineCount, spread, paint}
-use Rattle.coloring.specs.Contour.{splineColors, ContourColors, colorContour}
-use Rattle.coloring.specs.Outline.{Result, kindOf, placesOf, encode}
-use Rattle.coloring.specs.Shape.{colorContours, noSpline, numberContours, markContours, painted}
+use Rattle.coloring.specs.Splines.{splineCount, spread, paint, paintContours}
+use Rattle.coloring.specs.Outline.{cut, Result, kindOf, placesOf, encode}
+use Rattle.coloring.specs.Shape.{painted}
 
 -- ---- lists
 
@@ -46,10 +40,15 @@ module _ {A : Type 0} where
   unfolding byPlace
   length-byPlace start xs = length-rotate (length xs - start) xs
 
-  pub concat-length : (xss : List (List A)) → length (concat xss) ≡ total (sizes xss)
-  unfolding concat total
-  concat-length [] = refl
-  concat-length (xs ∷ xss) = length-append xs (concat xss) ∙ ap (λ n. length xs + n) (concat-length xss)
+  pub cut-again : (xss : List (List A)) → cut (sizes xss) (flatten xss) ≡ xss
+  unfolding cut flatten
+  cut-again [] = refl
+  cut-again (xs ∷ xss) = rw (take-at xs (flatten xss) (length xs) refl, drop-at xs (flatten xss) (length xs) refl, cut-again xss)
+
+  pub flatten-length : (xss : List (List A)) → length (flatten xss) ≡ total (sizes xss)
+  unfolding flatten total
+  flatten-length [] = refl
+  flatten-length (xs ∷ xss) = length-append xs (flatten xss) ∙ ap (λ n. length xs + n) (flatten-length xss)
 
 module _ {A B : Type 0} (f : A → B) where
   pub sizes-map : (xss : List (List A)) → sizes (map (map f) xss) ≡ sizes xss
@@ -71,8 +70,8 @@ module _ (threshold : Float) where
 
 -- ---- the edges of the result
 
-pub thirds-length : (edges : List EdgeSegment) → length (concat (map thirds edges)) ≡ 3 * length edges
-unfolding concat thirds
+pub thirds-length : (edges : List EdgeSegment) → length (flatten (map thirds edges)) ≡ 3 * length edges
+unfolding flatten thirds
 thirds-length [] = refl
 thirds-length (e ∷ edges) = omega (arith, thirds-length edges)
 
@@ -99,29 +98,36 @@ split-few flags e =
     (eqb-true (cornerCount flags) 1 (and-left (eqb (cornerCount flags) 1) _ e), leb-true (length flags) 2 (and-right (eqb (cornerCount flags) 1) (leb (length flags) 2) e))
 
 module _ (contour : Cornered) where
-  pub layout-split : splits (contour .corners) ≡ true → layout contour ≡ concat (map thirds (rotate (firstCorner (contour .corners)) (contour .edges)))
+  pub layout-split : splits (contour .corners) ≡ true → layout contour ≡ splitContour contour
   unfolding layout
   layout-split e = branch-true (splits (contour .corners)) _ _ e
 
-  pub layout-same : splits (contour .corners) ≡ false → layout contour ≡ contour .edges
+  pub layout-same : splits (contour .corners) ≡ false → layout contour ≡ contour
   unfolding layout
   layout-same e = branch-false (splits (contour .corners)) _ _ e
 
-  by-split : (b : Bool) → splits (contour .corners) ≡ b → length (contour .corners) ≡ length (contour .edges) → length (layout contour) ≡ resultEdges (contour .corners)
-  by-split true e l =
-      rw (layout-split e, edges-split (contour .corners) e)
-      (thirds-length (rotate (firstCorner (contour .corners)) (contour .edges)) ∙ ap (λ n. 3 * n) (length-rotate (firstCorner (contour .corners)) (contour .edges) ∙ sym l))
-  by-split false e l = rw (layout-same e, edges-same (contour .corners) e) (sym l)
+  pub split-length : length (splitContour contour .edges) ≡ 3 * length (contour .edges)
+  unfolding splitContour
+  split-length =
+      thirds-length (rotate (firstCorner (contour .corners)) (contour .edges)) ∙ ap (λ n. 3 * n) (length-rotate (firstCorner (contour .corners)) (contour .edges))
 
-  pub layout-length : length (contour .corners) ≡ length (contour .edges) → length (layout contour) ≡ resultEdges (contour .corners)
-  layout-length l = by-split (splits (contour .corners)) refl l
+  module _ (l : length (contour .corners) ≡ length (contour .edges)) where
+    by-split : (b : Bool) → splits (contour .corners) ≡ b → length (layout contour .edges) ≡ resultEdges (contour .corners)
+    by-split true e = rw (layout-split e, edges-split (contour .corners) e) (split-length ∙ ap (λ n. 3 * n) (sym l))
+    by-split false e = rw (layout-same e, edges-same (contour .corners) e) (sym l)
+
+    pub layout-length : length (layout contour .edges) ≡ resultEdges (contour .corners)
+    layout-length = by-split (splits (contour .corners)) refl
+
+    flags-by-split : (b : Bool) → splits (contour .corners) ≡ b → length (layout contour .corners) ≡ length (layout contour .edges)
+    unfolding splitContour firstOnly
+    flags-by-split true e = rw (layout-split e) (length-map (range 0 (length (splitContour contour .edges))) (λ i. eqb i 0) ∙ length-range 0 (length (splitContour contour .edges)))
+    flags-by-split false e = rw (layout-same e) l
+
+    pub layout-flagged : length (layout contour .corners) ≡ length (layout contour .edges)
+    layout-flagged = flags-by-split (splits (contour .corners)) refl
 
 -- ---- what is painted
-
--- a contour whose corners are not one is not split
-pub unsplit : (flags : List Bool) → eqb (cornerCount flags) 1 ≡ false → resultEdges flags ≡ length flags
-unfolding splits
-unsplit flags e = edges-same flags (ap (λ b. b && leb (length flags) 2) e)
 
 module _ {A : Type 0} where
   runs-length : (first middle last : A) (m : ℕ) → length (runs first middle last m) ≡ m
@@ -137,7 +143,7 @@ module _ {A : Type 0} where
 
   module _ (middle : A) (values : List A) (flags : List Bool) where
     pub paint-one : eqb (cornerCount flags) 1 ≡ true
-        → paint middle values flags ≡ byPlace (resultCorner flags) (runs (getD values 0 middle) middle (getD values 1 middle) (resultEdges flags))
+        → paint middle values flags ≡ byPlace (firstCorner flags) (runs (getD values 0 middle) middle (getD values 1 middle) (length flags))
     unfolding paint teardrop
     paint-one e = branch-true (eqb (cornerCount flags) 1) _ _ e
 
@@ -145,38 +151,18 @@ module _ {A : Type 0} where
     unfolding paint
     paint-spread e = branch-false (eqb (cornerCount flags) 1) _ _ e
 
-    by-count : (b : Bool) → eqb (cornerCount flags) 1 ≡ b → length (paint middle values flags) ≡ resultEdges flags
-    by-count true e = rw (paint-one e) (length-byPlace (resultCorner flags) _ ∙ runs-length _ middle _ (resultEdges flags))
-    by-count false e = rw (paint-spread e) (spread-length _ values flags ∙ sym (unsplit flags e))
+    by-count : (b : Bool) → eqb (cornerCount flags) 1 ≡ b → length (paint middle values flags) ≡ length flags
+    by-count true e = rw (paint-one e) (length-byPlace (firstCorner flags) _ ∙ runs-length _ middle _ (length flags))
+    by-count false e = rw (paint-spread e) (spread-length _ values flags)
 
-    pub paint-length : length (paint middle values flags) ≡ resultEdges flags
+    pub paint-length : length (paint middle values flags) ≡ length flags
     paint-length = by-count (eqb (cornerCount flags) 1) refl
 
-module _ (strategy : Strategy) (pen : Pen) (contour : Cornered) where
-  pub contour-empty : length (contour .corners) ≡ 0 → colorContour strategy pen contour ≡ record { colors = []; pen = pen }
-  unfolding colorContour
-  contour-empty h = branch-true (eqb (length (contour .corners)) 0) _ _ (eq-eqb _ _ h)
-
-  -- a contour that is not empty
-  abbrev some : ContourColors
-  some =
-      let splines = splineColors strategy pen contour in
-      record { colors = paint White (splines .colors) (contour .corners); pen = splines .pen }
-
-  pub contour-some : (length (contour .corners) ≡ 0 → ⊥) → colorContour strategy pen contour ≡ some
-  unfolding colorContour
-  contour-some h = branch-false (eqb (length (contour .corners)) 0) _ _ (ne-eqb _ _ h)
-
-  by-size : (b : Bool) → eqb (length (contour .corners)) 0 ≡ b → length (colorContour strategy pen contour .colors) ≡ resultEdges (contour .corners)
-  by-size true e =
-      let none = eqb-true (length (contour .corners)) 0 e in
-      ap (λ (c : ContourColors). length (c .colors)) (contour-empty none) ∙ omega (arith, edges-bound (contour .corners), none)
-  by-size false e =
-      ap (λ (c : ContourColors). length (c .colors)) (contour-some (λ h. let z : true ≡ false = sym (eq-eqb (length (contour .corners)) 0 h) ∙ e in let n : _≡_ {A = ℕ} 0 1 = cc in omega arith))
-      ∙ paint-length White _ (contour .corners)
-
-  pub contour-length : length (colorContour strategy pen contour .colors) ≡ resultEdges (contour .corners)
-  contour-length = by-size (eqb (length (contour .corners)) 0) refl
+  pub paint-sizes : (middle : A) (values : List A) (contours : List (List Bool)) → sizes (paintContours middle values contours) ≡ sizes contours
+  unfolding paintContours
+  paint-sizes middle values [] = refl
+  paint-sizes middle values (flags ∷ rest) =
+      rw (paint-length middle (take (splineCount flags) values) flags, paint-sizes middle (drop (splineCount flags) values) rest)
 
 -- ---- contours with their corners, contour by contour
 
@@ -190,32 +176,49 @@ unfolding Flagged searchCorners
 search-flagged threshold [] = tt
 search-flagged threshold (edges ∷ contours) = (flags-length threshold edges, search-flagged threshold contours)
 
--- what their flags count to
-abbrev pub counted : (List Bool → ℕ) → List Cornered → List ℕ
-counted count found = map (λ (contour : Cornered). count (contour .corners)) found
-
-pub laid-lengths : (found : List Cornered) → Flagged found → sizes (map layout found) ≡ counted resultEdges found
+pub laid-flagged : (found : List Cornered) → Flagged found → Flagged (map layout found)
 unfolding Flagged
-laid-lengths [] f = refl
-laid-lengths (contour ∷ found) f = rw (layout-length contour (f .0), laid-lengths found (f .1))
+laid-flagged [] f = tt
+laid-flagged (contour ∷ found) f = (layout-flagged contour (f .0), laid-flagged found (f .1))
 
-color-lengths : (strategy : Strategy) (pen : Pen) (found : List Cornered)
-    → sizes (map (map bitsOf) (colorContours strategy pen found)) ≡ counted resultEdges found
-unfolding colorContours
-color-lengths strategy pen [] = refl
-color-lengths strategy pen (contour ∷ found) =
-    rw (length-map (colorContour strategy pen contour .colors) bitsOf, contour-length strategy pen contour, color-lengths strategy (colorContour strategy pen contour .pen) found)
+pub flagged-sizes : (contours : List Cornered) → Flagged contours → sizes (flagsIn contours) ≡ sizes (edgesIn contours)
+unfolding Flagged
+flagged-sizes [] f = refl
+flagged-sizes (contour ∷ contours) f = rw (f .0, flagged-sizes contours (f .1))
 
-number-lengths : (first : ℕ) (found : List Cornered) → sizes (numberContours first (flagsOf found)) ≡ counted resultEdges found
-unfolding numberContours
-number-lengths first [] = refl
-number-lengths first (contour ∷ found) =
-    rw (paint-length noSpline (range first (splineCount (contour .corners))) (contour .corners), number-lengths (first + splineCount (contour .corners)) found)
+-- what is laid out has as many edges as their flags count to
+pub laid-sizes : (found : List Cornered) → Flagged found → sizes (edgesIn (map layout found)) ≡ map resultEdges (flagsIn found)
+unfolding Flagged
+laid-sizes [] f = refl
+laid-sizes (contour ∷ found) f = rw (layout-length contour (f .0), laid-sizes found (f .1))
 
-pub mark-lengths : (marking : Marking) (found : List Cornered) → sizes (markContours marking found) ≡ counted resultEdges found
-unfolding markContours
-mark-lengths (Colors strategy seed) found = color-lengths strategy (initColor seed) found
-mark-lengths Numbers found = number-lengths 0 found
+-- ---- at most 508 edges: two thirds more for each of at most two edges of a split contour
+
+-- all are split, or one is not
+data Few (contours edges out : ℕ) : Type 0 where
+  all-split : edges ≤ 2 * contours → out ≤ 3 * edges → Few contours edges out
+  one-not : out + 4 ≤ edges + 4 * contours → Few contours edges out
+
+few-most : (contours edges out : ℕ) → Few contours edges out → out ≤ edges + 4 * contours
+few-most contours edges out (all-split h k) = omega arith
+few-most contours edges out (one-not h) = omega arith
+
+few-more : (flags : List Bool) (contours edges out : ℕ) (b : Bool) → splits flags ≡ b → Few contours edges out → Few (suc contours) (length flags + edges) (resultEdges flags + out)
+few-more flags contours edges out true h (all-split k l) = all-split (omega (arith, split-few flags h)) (omega (arith, edges-split flags h))
+few-more flags contours edges out true h (one-not k) = one-not (omega (arith, split-few flags h, edges-split flags h))
+few-more flags contours edges out false h few = one-not (omega (arith, edges-same flags h, few-most contours edges out few))
+
+few : (contours : List (List Bool)) → Few (length contours) (total (sizes contours)) (total (map resultEdges contours))
+unfolding total
+few [] = all-split (omega arith) (omega arith)
+few (flags ∷ rest) = few-more flags (length rest) (total (sizes rest)) (total (map resultEdges rest)) (splits flags) refl (few rest)
+
+by-few : (contours edges out : ℕ) → Few contours edges out → contours ≤ maxContours → edges ≤ maxEdges → out ≤ maxResultEdges
+by-few contours edges out (all-split h k) c e = omega arith
+by-few contours edges out (one-not h) c e = omega arith
+
+pub edges-most : (contours : List (List Bool)) → length contours ≤ maxContours → total (sizes contours) ≤ maxEdges → total (map resultEdges contours) ≤ maxResultEdges
+edges-most contours c e = by-few (length contours) (total (sizes contours)) (total (map resultEdges contours)) (few contours) c e
 
 -- ---- a whole result
 
@@ -225,10 +228,10 @@ places-length (Line p0 p1) = refl
 places-length (Quadratic p0 p1 p2) = refl
 places-length (Cubic p0 p1 p2 p3) = refl
 
-pub points-length : (edges : List EdgeSegment) → length (concat (map placesOf edges)) ≡ 8 * length edges
-unfolding concat
+pub points-length : (edges : List EdgeSegment) → length (flatten (map placesOf edges)) ≡ 8 * length edges
+unfolding flatten
 points-length [] = refl
-points-length (e ∷ edges) = length-append (placesOf e) (concat (map placesOf edges)) ∙ omega (arith, places-length e, points-length edges)
+points-length (e ∷ edges) = length-append (placesOf e) (flatten (map placesOf edges)) ∙ omega (arith, places-length e, points-length edges)
 
 pub record Sized (result : Result) (contours edges : ℕ) : Type 0 where
   pub lengths-long : length (result .lengths) ≡ contours
@@ -236,25 +239,31 @@ pub record Sized (result : Result) (contours edges : ℕ) : Type 0 where
   pub points-long : length (result .points) ≡ 8 * edges
   pub colors-long : length (result .colors) ≡ edges
 
-pub encoded-sized : (edges : List (List EdgeSegment)) (bytes : List (List ℕ)) → sizes bytes ≡ sizes edges → Sized (encode edges bytes) (length edges) (length (concat edges))
+pub encoded-sized : (edges : List (List EdgeSegment)) (bytes : List (List ℕ)) → sizes bytes ≡ sizes edges → Sized (encode edges bytes) (length edges) (length (flatten edges))
 unfolding encode
 encoded-sized edges bytes e =
     record {
       lengths-long = length-map edges _;
-      kinds-long = length-map (concat edges) kindOf;
-      points-long = points-length (concat edges);
-      colors-long = concat-length bytes ∙ ap total e ∙ sym (concat-length edges);
+      kinds-long = length-map (flatten edges) kindOf;
+      points-long = points-length (flatten edges);
+      colors-long = flatten-length bytes ∙ ap total e ∙ sym (flatten-length edges);
     }
 
-pub painted-sized : (marking : Marking) (found : List Cornered) → Flagged found → Sized (painted marking found) (length found) (total (counted resultEdges found))
-unfolding painted
-painted-sized marking found f =
-    let laid = map layout found in
-    let edges : length (concat laid) ≡ total (counted resultEdges found) = concat-length laid ∙ ap total (laid-lengths found f) in
-    let s = encoded-sized laid (markContours marking found) (mark-lengths marking found ∙ sym (laid-lengths found f)) in
-    record {
-      lengths-long = s .lengths-long ∙ length-map found layout;
-      kinds-long = s .kinds-long ∙ edges;
-      points-long = s .points-long ∙ ap (λ n. 8 * n) edges;
-      colors-long = s .colors-long ∙ edges;
-    }
+module _ (found : List Cornered) (f : Flagged found) where
+  -- the byte of each edge, and the edges
+  pub painted-sizes : (middle : ℕ) (values : List ℕ) → sizes (paintContours middle values (flagsIn (map layout found))) ≡ sizes (edgesIn (map layout found))
+  painted-sizes middle values = paint-sizes middle values (flagsIn (map layout found)) ∙ flagged-sizes (map layout found) (laid-flagged found f)
+
+  pub painted-sized : (middle : ℕ) (values : List ℕ) → Sized (painted middle values (map layout found)) (length found) (total (map resultEdges (flagsIn found)))
+  unfolding painted
+  painted-sized middle values =
+      let laid = edgesIn (map layout found) in
+      let contours : length laid ≡ length found = length-map (map layout found) _ ∙ length-map found layout in
+      let edges : length (flatten laid) ≡ total (map resultEdges (flagsIn found)) = flatten-length laid ∙ ap total (laid-sizes found f) in
+      let s = encoded-sized laid (paintContours middle values (flagsIn (map layout found))) (painted-sizes middle values) in
+      record {
+        lengths-long = s .lengths-long ∙ contours;
+        kinds-long = s .kinds-long ∙ edges;
+        points-long = s .points-long ∙ ap (λ n. 8 * n) edges;
+        colors-long = s .colors-long ∙ edges;
+      }

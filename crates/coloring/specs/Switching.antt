@@ -2,8 +2,8 @@
 use Prim.Native.Nat.{ℕ, zero, suc, _+_, _-_, _*_, _/_, _%_, _^_}
 use mathlib.Core.Bool.{Bool, _||_, cond}
 use mathlib.Core.Path.{_≡_}
-use mathlib.Core.List.{List, [], _∷_, map}
-use lib.ListN.{getD}
+use mathlib.Core.List.{List, [], _∷_, _++_, map}
+use lib.ListN.{getD, take}
 use lib.Dec.{eqb}
 use Rattle.geometry.specs.EdgeColor.{bitsOf, fromBits}
 use Rattle.geometry.specs.declared.edge_color.EdgeColor.{EdgeColor}
@@ -68,7 +68,11 @@ switchEach (suc k) pen =
     let rest = switchEach k next in
     record { colors = next .color ∷ rest .colors; pen = rest .pen }
 
--- bytes and a pen hold the colours of splines
-pub record Drawn (splines : SplineColors) (bytes : List ℕ) (pen : Pen) : Type 0 where
+-- bytes and a pen hold the colours of splines; the bytes before place `next` hold them from place `to` on
+pub record ColorsHeld (splines : SplineColors) (bytes : List ℕ) (pen : Pen) : Type 0 where
   pub colors-are : bytes ≡ map bitsOf (splines .colors)
+  pub pen-is : pen ≡ splines .pen
+
+pub record ColorsHeldFrom (to next : ℕ) (splines : SplineColors) (bytes₀ bytes : List ℕ) (pen : Pen) : Type 0 where
+  pub colors-are : take next bytes ≡ take to bytes₀ ++ map bitsOf (splines .colors)
   pub pen-is : pen ≡ splines .pen

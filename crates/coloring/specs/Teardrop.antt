@@ -3,21 +3,22 @@ use Prim.Native.Nat.{ℕ, zero, suc}
 use mathlib.Core.Bool.{Bool}
 use mathlib.Core.List.{List, map}
 use lib.IntN.{ℤ, pos, negsuc}
+use lib.ListN.{length}
 use Rattle.graph.specs.Lists.{range}
 use Rattle.coloring.specs.Trichotomy.{symmetricalTrichotomy}
 use Rattle.coloring.specs.Places.{byPlace}
-use Rattle.coloring.specs.Layout.{resultEdges, resultCorner}
+use Rattle.coloring.specs.Corners.{firstCorner}
 
 abbrev pub thirdOf : {A : Type 0} → A → A → A → ℤ → A
 thirdOf first middle last (pos zero) = middle
 thirdOf first middle last (pos (suc n)) = last
 thirdOf first middle last (negsuc n) = first
 
--- The runs of m edges. Of the 3 or 6 edges of a split contour they are a third each.
+-- The runs of m edges. Of the 3 or 6 edges of a contour that was split they are a third each.
 unfoldable pub runs : {A : Type 0} → A → A → A → ℕ → List A
 unfolding range symmetricalTrichotomy
 runs first middle last m = map (λ i. thirdOf first middle last (symmetricalTrichotomy i m)) (range 0 m)
 
 unfoldable pub teardrop : {A : Type 0} → A → A → A → List Bool → List A
-unfolding byPlace runs resultEdges resultCorner
-teardrop first middle last flags = byPlace (resultCorner flags) (runs first middle last (resultEdges flags))
+unfolding byPlace runs
+teardrop first middle last flags = byPlace (firstCorner flags) (runs first middle last (length flags))

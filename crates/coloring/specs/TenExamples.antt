@@ -14,8 +14,7 @@ use Rattle.geometry.specs.declared.edge_segment.EdgeSegment.the-variants.{Line}
 use Rattle.graph.specs.SplineTable.{kept, declined}
 use Rattle.graph.specs.SplineColors.{offerSplines, colorSplines}
 use Rattle.graph.specs.SplineColorsExamples.{squareDistances, square-colors, square-answers}
-use Rattle.coloring.specs.EdgeColoring.{edgeColoringSimple, edgeColoringInkTrap}
-use Rattle.coloring.specs.ByDistance.{collectSplines, edgeColoringByDistance}
+use Rattle.coloring.specs.EdgeColoring.{edgeColoringSimple, edgeColoringInkTrap, collectSplines, edgeColoringByDistance}
 use Rattle.coloring.specs.Examples.{trichotomies, trichotomy-of-3, trichotomy-of-5, trichotomy-of-47, afterCyan, switches-of-cyan, square, fourEdges, eighth, simple-square, ink-trap-square}
 use Rattle.coloring.specs.ByDistanceExamples.{square-edges}
 

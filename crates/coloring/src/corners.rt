@@ -9,14 +9,13 @@ ghost use mathlib.Core.Bool.{false};
 ghost use mathlib.Core.List.{map};
 ghost use Prim.Native.Nat.{_-_};
 ghost use lib.Ieee.{lt};
-ghost use lib.ListN.{length, take, drop};
+ghost use lib.ListN.{take, drop};
 ghost use Rattle.math.specs.Scalar.{f0, f1};
 ghost use Rattle.math.specs.Vector2.{lengthOf, normalize};
 ghost use Rattle.geometry.specs.EdgeSegment.{direction};
 ghost use Rattle.graph.specs.Lists.{overFrom};
 ghost use Rattle.coloring.specs.Corners.{abs, isCorner, estimateEdgeLength, cornerFlags, searchCorners, cornered, cornerCount, firstCorner};
-ghost use Rattle.coloring.specs.Outline.{edgesOf, contours, outline, Matching, Part};
-ghost use Rattle.coloring.specs.Places.{total};
+ghost use Rattle.coloring.specs.Outline.{edgesOf, contours, outline, Matching, Cut, Part};
 
 // Whether the magnitude of x is above the threshold.
 fn exceeds(x: f64, threshold: f64) -> bool
@@ -130,7 +129,7 @@ pub(crate) fn find_corners(
     threshold: f64,
     flags: &mut [bool],
 )
-    requires { ⌜ Matching (now kinds) (now points) (now flags) × (total (now lengths) ≡ length (now kinds)) ⌝ }
+    requires { ⌜ Cut (now lengths) (now kinds) (now points) (now flags) ⌝ }
     ensures { λ _. ⌜ cornered (now (lengths .entry)) (edgesOf (now (kinds .entry)) (now (points .entry))) (now (flags .exit)) ≡
         map (searchCorners threshold) (contours (outline (now (lengths .entry)) (now (kinds .entry)) (now (points .entry)))) ⌝ }
 {

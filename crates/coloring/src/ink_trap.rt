@@ -1,6 +1,7 @@
 // The colours of a contour's splines in ink-trap colouring, after `edge_coloring_ink_trap` of coloring/mod.rs, as bytes. The corner records stand in an
 // array of the function that has the loops over it.
 use crate::corners::estimate_edge_length;
+use crate::limits::MAX_EDGES;
 use crate::outline::edge_at;
 use crate::simple::simple_colors;
 use crate::switching::Pen;
@@ -13,7 +14,7 @@ ghost use Prim.Native.Nat.{_-_, _+_, _<_};
 ghost use lib.ListN.{length};
 ghost use lib.Ieee as Ieee;
 ghost use Rattle.geometry.specs.EdgeColor.{fromBits};
-ghost use Rattle.coloring.specs.Switching.{shared, Drawn};
+ghost use Rattle.coloring.specs.Switching.{shared, ColorsHeld};
 ghost use Rattle.coloring.specs.Corners.{cornerCount};
 ghost use Rattle.coloring.specs.Outline.{whole, Matching};
 ghost use Rattle.coloring.specs.InkTrap.{cornerAt, closed, withMinor, withColor, isBlack, inkTrapColors};
@@ -106,11 +107,11 @@ fn colors_by_length(
     colors: &mut [u8],
 ) -> Pen
     requires { ⌜ Matching (now kinds) (now points) (now flags) × (3 < cornerCount (now flags)) × (length (now colors) ≡ cornerCount (now flags)) ⌝ }
-    ensures { λ r. ⌜ Drawn (inkTrapColors (whole (now (kinds .entry)) (now (points .entry)) (now (flags .entry))) pen) (now (colors .exit)) r ⌝ }
+    ensures { λ r. ⌜ ColorsHeld (inkTrapColors (whole (now (kinds .entry)) (now (points .entry)) (now (flags .entry))) pen) (now (colors .exit)) r ⌝ }
 {
     // the corners, each with the estimated length since the one before
     let none = corner_at(0, 0.0);
-    let mut corners = [none; 256];
+    let mut corners = [none; MAX_EDGES];
     let mut spline_length = 0.0;
     let mut count = 0;
     let mut index = 0;
@@ -191,7 +192,7 @@ pub(crate) fn ink_trap_colors(
     colors: &mut [u8],
 ) -> Pen
     requires { ⌜ Matching (now kinds) (now points) (now flags) × (1 < cornerCount (now flags)) × (length (now colors) ≡ cornerCount (now flags)) ⌝ }
-    ensures { λ r. ⌜ Drawn (inkTrapColors (whole (now (kinds .entry)) (now (points .entry)) (now (flags .entry))) pen) (now (colors .exit)) r ⌝ }
+    ensures { λ r. ⌜ ColorsHeld (inkTrapColors (whole (now (kinds .entry)) (now (points .entry)) (now (flags .entry))) pen) (now (colors .exit)) r ⌝ }
 {
     if colors.len() <= 3 {
         return simple_colors(pen, colors);

@@ -1,5 +1,5 @@
-// The edges of the result, apart from their colours: a contour of one edge or two with one corner is split in thirds, any other is copied. After the
-// split in `color_teardrop` of coloring/mod.rs.
+// The edges of the result with their flags: a contour of one edge or two with one corner is split in thirds, any other is copied. After the split in
+// `color_teardrop` of coloring/mod.rs.
 use crate::corners::count_corners;
 use crate::corners::first_corner;
 use crate::outline::copy_edges;
@@ -7,14 +7,15 @@ use crate::outline::edge_at;
 use crate::outline::write_edge;
 use geometry::edge_segment::EdgeSegment;
 ghost use mathlib.Core.Path.{_≡_};
-ghost use mathlib.Core.List.{map};
+ghost use mathlib.Core.List.{map, flatten};
 ghost use Prim.Native.Nat.{_+_, _*_, _-_, _≤_, _<_};
 ghost use lib.ListN.{length, take, drop};
 ghost use Rattle.graph.specs.Lists.{overFrom};
-ghost use Rattle.coloring.specs.Places.{rotate, concat, total};
+ghost use Rattle.coloring.specs.Limits.{maxEdges};
+ghost use Rattle.coloring.specs.Places.{rotate};
 ghost use Rattle.coloring.specs.Corners.{cornered};
-ghost use Rattle.coloring.specs.Layout.{thirds, splits, layout, resultEdges, resultCorner};
-ghost use Rattle.coloring.specs.Outline.{edgesOf, kindOf, placesOf, Matching, whole, Part, part, Stored, StoredFrom, Room, LaidOut};
+ghost use Rattle.coloring.specs.Layout.{thirds, splits, firstOnly, layout, resultEdges};
+ghost use Rattle.coloring.specs.Outline.{edgesOf, kindOf, placesOf, Matching, Cut, whole, Part, part, Stored, Laid, LaidFrom, ResultRoom, LaidOut};
 
 // ---- one contour
 
@@ -27,7 +28,7 @@ pub(crate) fn splits(flags: &[bool]) -> bool
 
 // How many edges a contour comes to.
 pub(crate) fn result_edges(flags: &[bool]) -> usize
-    requires { ⌜ length (now flags) ≤ 256 ⌝ }
+    requires { ⌜ length (now flags) ≤ maxEdges ⌝ }
     ensures { λ r. ⌜ r ≡ resultEdges (now (flags .entry)) ⌝ }
 {
     if splits(flags) {
@@ -36,21 +37,11 @@ pub(crate) fn result_edges(flags: &[bool]) -> usize
     flags.len()
 }
 
-// Where the first corner is among them.
-pub(crate) fn result_corner(flags: &[bool]) -> usize
-    ensures { λ r. ⌜ r ≡ resultCorner (now (flags .entry)) ⌝ }
-{
-    if splits(flags) {
-        return 0;
-    }
-    first_corner(flags)
-}
-
 // The thirds of an edge, written from place i on.
 fn write_thirds(e: EdgeSegment, i: usize, out_kinds: &mut [u8], out_points: &mut [f64])
     requires { ⌜ (i + 3 ≤ length (now «out_kinds»)) × (length (now «out_points») ≡ 8 * length (now «out_kinds»)) ⌝ }
     ensures { λ _. ⌜ now («out_kinds» .exit) ≡ overFrom i (map kindOf (thirds e)) (now («out_kinds» .entry)) ⌝ }
-    ensures { λ _. ⌜ now («out_points» .exit) ≡ overFrom (8 * i) (concat (map placesOf (thirds e))) (now («out_points» .entry)) ⌝ }
+    ensures { λ _. ⌜ now («out_points» .exit) ≡ overFrom (8 * i) (flatten (map placesOf (thirds e))) (now («out_points» .entry)) ⌝ }
 {
     let parts = e.split_in_thirds();
     let first = parts.first;
@@ -71,7 +62,7 @@ fn split_edges(
 )
     requires { ⌜ (length (now points) ≡ 8 * length (now kinds)) × (length (now kinds) ≤ 2) × (corner < length (now kinds)) ⌝ }
     requires { ⌜ (length (now «out_kinds») ≡ 3 * length (now kinds)) × (length (now «out_points») ≡ 8 * length (now «out_kinds»)) ⌝ }
-    ensures { λ _. ⌜ Stored (concat (map thirds (rotate corner (edgesOf (now (kinds .entry)) (now (points .entry))))))
+    ensures { λ _. ⌜ Stored (flatten (map thirds (rotate corner (edgesOf (now (kinds .entry)) (now (points .entry))))))
         (now («out_kinds» .exit)) (now («out_points» .exit)) ⌝ }
 {
     let m = kinds.len();
@@ -83,24 +74,50 @@ fn split_edges(
     }
 }
 
-// The edges that a contour comes to.
+// The flags of a contour that was split: the first alone is true.
+fn flag_first(out_flags: &mut [bool])
+    ensures { λ _. ⌜ now («out_flags» .exit) ≡ firstOnly (length (now («out_flags» .entry))) ⌝ }
+{
+    let mut i = 0;
+    while i < out_flags.len() {
+        out_flags[i] = i == 0;
+        i += 1;
+    }
+}
+
+// The flags of a contour that stays as it is.
+fn copy_flags(flags: &[bool], out_flags: &mut [bool])
+    requires { ⌜ length (now «out_flags») ≡ length (now flags) ⌝ }
+    ensures { λ _. ⌜ now («out_flags» .exit) ≡ now (flags .entry) ⌝ }
+{
+    let mut i = 0;
+    while i < flags.len() {
+        out_flags[i] = flags[i];
+        i += 1;
+    }
+}
+
+// The edges that a contour comes to, and their flags.
 fn lay_out_contour(
     kinds: &[u8],
     points: &[f64],
     flags: &[bool],
     out_kinds: &mut [u8],
     out_points: &mut [f64],
+    out_flags: &mut [bool],
 )
-    requires { ⌜ Matching (now kinds) (now points) (now flags) ⌝ }
+    requires { ⌜ Matching (now kinds) (now points) (now flags) × (length (now «out_flags») ≡ resultEdges (now flags)) ⌝ }
     requires { ⌜ (length (now «out_kinds») ≡ resultEdges (now flags)) × (length (now «out_points») ≡ 8 * length (now «out_kinds»)) ⌝ }
-    ensures { λ _. ⌜ Stored (layout (whole (now (kinds .entry)) (now (points .entry)) (now (flags .entry))))
-        (now («out_kinds» .exit)) (now («out_points» .exit)) ⌝ }
+    ensures { λ _. ⌜ Laid (layout (whole (now (kinds .entry)) (now (points .entry)) (now (flags .entry))))
+        (now («out_kinds» .exit)) (now («out_points» .exit)) (now («out_flags» .exit)) ⌝ }
 {
     if splits(flags) {
         split_edges(kinds, points, first_corner(flags), out_kinds, out_points);
+        flag_first(out_flags);
         return;
     }
     copy_edges(kinds, points, out_kinds, out_points);
+    copy_flags(flags, out_flags);
 }
 
 // ---- all contours
@@ -116,11 +133,13 @@ fn lay_out_part(
     next: usize,
     out_kinds: &mut [u8],
     out_points: &mut [f64],
+    out_flags: &mut [bool],
 )
     requires { ⌜ Part (now kinds) (now points) (now flags) at end × (next ≡ to + resultEdges (part (now kinds) (now points) (now flags) at end .corners)) ⌝ }
-    requires { ⌜ (next ≤ length (now «out_kinds»)) × (8 * next ≤ length (now «out_points»)) ⌝ }
-    ensures { λ _. ⌜ StoredFrom to (layout (part (now (kinds .entry)) (now (points .entry)) (now (flags .entry)) at end))
-        (now («out_kinds» .entry)) (now («out_points» .entry)) (now («out_kinds» .exit)) (now («out_points» .exit)) ⌝ }
+    requires { ⌜ (next ≤ length (now «out_kinds»)) × (8 * next ≤ length (now «out_points»)) × (next ≤ length (now «out_flags»)) ⌝ }
+    ensures { λ _. ⌜ LaidFrom to (layout (part (now (kinds .entry)) (now (points .entry)) (now (flags .entry)) at end))
+        (now («out_kinds» .entry)) (now («out_points» .entry)) (now («out_flags» .entry))
+        (now («out_kinds» .exit)) (now («out_points» .exit)) (now («out_flags» .exit)) ⌝ }
 {
     let from = 8 * at;
     let up_to = 8 * end;
@@ -132,18 +151,19 @@ fn lay_out_part(
         &flags[at..end],
         &mut out_kinds[to..next],
         &mut out_points[first..last],
+        &mut out_flags[to..next],
     );
 }
 
 // How many edges the contour of the edges from `at` up to `end` comes to.
 pub(crate) fn part_edges(flags: &[bool], at: usize, end: usize) -> usize
-    requires { ⌜ (at ≤ end) × (end ≤ length (now flags)) × (length (now flags) ≤ 256) ⌝ }
+    requires { ⌜ (at ≤ end) × (end ≤ length (now flags)) × (length (now flags) ≤ maxEdges) ⌝ }
     ensures { λ r. ⌜ r ≡ resultEdges (take (end - at) (drop at (now (flags .entry)))) ⌝ }
 {
     result_edges(&flags[at..end])
 }
 
-// The edges of the result, contour by contour.
+// The edges of the result and their flags, contour by contour.
 pub(crate) fn lay_out(
     lengths: &[u16],
     kinds: &[u8],
@@ -152,12 +172,13 @@ pub(crate) fn lay_out(
     out_lengths: &mut [u16],
     out_kinds: &mut [u8],
     out_points: &mut [f64],
+    out_flags: &mut [bool],
 )
-    requires { ⌜ Matching (now kinds) (now points) (now flags) × (total (now lengths) ≡ length (now kinds)) ⌝ }
-    requires { ⌜ Room (now lengths) (now flags) (now «out_lengths») (now «out_kinds») (now «out_points») ⌝ }
-    ensures { λ _. ⌜ LaidOut (cornered (now (lengths .entry)) (edgesOf (now (kinds .entry)) (now (points .entry))) (now (flags .entry)))
-        (now («out_lengths» .entry)) (now («out_kinds» .entry)) (now («out_points» .entry))
-        (now («out_lengths» .exit)) (now («out_kinds» .exit)) (now («out_points» .exit)) ⌝ }
+    requires { ⌜ Cut (now lengths) (now kinds) (now points) (now flags) ⌝ }
+    requires { ⌜ ResultRoom (now lengths) (now flags) (now «out_lengths») (now «out_kinds») (now «out_points») (now «out_flags») ⌝ }
+    ensures { λ _. ⌜ LaidOut (map layout (cornered (now (lengths .entry)) (edgesOf (now (kinds .entry)) (now (points .entry))) (now (flags .entry))))
+        (now («out_lengths» .entry)) (now («out_kinds» .entry)) (now («out_points» .entry)) (now («out_flags» .entry))
+        (now («out_lengths» .exit)) (now («out_kinds» .exit)) (now («out_points» .exit)) (now («out_flags» .exit)) ⌝ }
 {
     let mut at: usize = 0;
     let mut to: usize = 0;
@@ -177,6 +198,7 @@ pub(crate) fn lay_out(
             next,
             out_kinds,
             out_points,
+            out_flags,
         );
         at = end;
         to = next;

@@ -1,10 +1,10 @@
 // The colouring itself, after the source's coloring/: simple, ink-trap and by-distance colouring of outlines.
 pub mod by_distance;
-mod contour;
 mod corners;
 pub mod edge_coloring;
 mod ink_trap;
 mod layout;
+mod limits;
 pub mod outline;
 pub mod settings;
 mod shape;
@@ -13,3 +13,4 @@ mod splines;
 mod switching;
 mod teardrop;
 mod trichotomy;
+mod values;

@@ -1,4 +1,7 @@
 // Outline buffers: contour lengths, the kind of each edge, eight point places an edge. Their checks, and an edge read or written.
+use crate::limits::MAX_CONTOURS;
+use crate::limits::MAX_COORDINATE;
+use crate::limits::MAX_EDGES;
 use geometry::edge_segment::Decoded;
 use geometry::edge_segment::EdgeSegment;
 use graph::refusal::Checked;
@@ -10,10 +13,12 @@ ghost use Prim.Native.Nat.{_≤_, _<_, _*_};
 ghost use lib.ListN.{length, getD, set};
 ghost use Rattle.graph.specs.Lists.{all, overFrom};
 ghost use Rattle.coloring.specs.Outline.{knownKind, between, inRange, usedPlaces, coordinatesFit, check, anyEdge, edgesOf, kindOf, placesOf, outline, Stored};
+ghost use Rattle.coloring.specs.Limits.{maxContours};
 ghost use Rattle.coloring.specs.Places.{total};
 
-// What a colouring wrote: how many edges, and how many splines they belong to.
+// What a colouring wrote: how many contours and edges, and how many splines they have.
 pub struct Counts {
+    pub contours: usize,
     pub edges: usize,
     pub splines: usize,
 }
@@ -26,7 +31,7 @@ pub enum Colored {
 
 // The sum of the contour lengths.
 fn total(lengths: &[u16]) -> usize
-    requires { ⌜ length (now lengths) ≤ 64 ⌝ }
+    requires { ⌜ length (now lengths) ≤ maxContours ⌝ }
     ensures { λ r. ⌜ r ≡ total (now (lengths .entry)) ⌝ }
 {
     let mut sum: usize = 0;
@@ -48,7 +53,7 @@ fn between(low: f64, x: f64, high: f64) -> bool
 fn in_range(x: f64) -> bool
     ensures { λ r. ⌜ r ≡ inRange x ⌝ }
 {
-    between(-1048576.0, x, 1048576.0)
+    between(-MAX_COORDINATE, x, MAX_COORDINATE)
 }
 
 // 1 line, 2 quadratic, 3 cubic.
@@ -114,11 +119,11 @@ fn coordinates_fit(kinds: &[u8], points: &[f64]) -> bool
 pub fn check(lengths: &[u16], kinds: &[u8], points: &[f64], threshold: f64) -> Checked
     ensures { λ r. ⌜ r ≡ check (outline (now (lengths .entry)) (now (kinds .entry)) (now (points .entry))) threshold ⌝ }
 {
-    if lengths.len() > 64 {
+    if lengths.len() > MAX_CONTOURS {
         return Checked::Failed(Refusal::TooMany);
     }
     let edges = total(lengths);
-    if edges > 256 {
+    if edges > MAX_EDGES {
         return Checked::Failed(Refusal::TooMany);
     }
     if kinds.len() != edges {

@@ -5,13 +5,13 @@ use crate::switching::switch_color;
 use crate::switching::switch_color_banned;
 ghost use Prim.Native.Nat.{_-_, _<_};
 ghost use lib.ListN.{length};
-ghost use Rattle.coloring.specs.Switching.{Drawn};
+ghost use Rattle.coloring.specs.Switching.{ColorsHeld};
 ghost use Rattle.coloring.specs.Simple.{simpleColors};
 
 // Two splines or more.
 pub(crate) fn simple_colors(pen: Pen, colors: &mut [u8]) -> Pen
     requires { ⌜ 0 < length (now colors) ⌝ }
-    ensures { λ r. ⌜ Drawn (simpleColors (length (now (colors .entry)) - 1) pen) (now (colors .exit)) r ⌝ }
+    ensures { λ r. ⌜ ColorsHeld (simpleColors (length (now (colors .entry)) - 1) pen) (now (colors .exit)) r ⌝ }
 {
     let k = colors.len();
     let first = switch_color(pen);

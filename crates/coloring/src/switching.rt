@@ -4,7 +4,7 @@ use graph::seed::seed_extract2;
 use graph::seed::seed_extract3;
 ghost use mathlib.Core.Path.{_≡_};
 ghost use lib.ListN.{length};
-ghost use Rattle.coloring.specs.Switching.{initColor, switchColor, oneChannel, switchColorBanned, bannedBefore, switchEach, Drawn};
+ghost use Rattle.coloring.specs.Switching.{initColor, switchColor, oneChannel, switchColorBanned, bannedBefore, switchEach, ColorsHeld};
 
 // The colour that is being drawn with, and the seed that is left.
 pub struct Pen {
@@ -78,7 +78,7 @@ pub(crate) fn banned_before(initial: EdgeColor, left: usize) -> EdgeColor
 
 // A colour for each spline, switched from the one before.
 pub(crate) fn switch_each(pen: Pen, colors: &mut [u8]) -> Pen
-    ensures { λ r. ⌜ Drawn (switchEach (length (now (colors .entry))) pen) (now (colors .exit)) r ⌝ }
+    ensures { λ r. ⌜ ColorsHeld (switchEach (length (now (colors .entry))) pen) (now (colors .exit)) r ⌝ }
 {
     let mut pen = pen;
     let mut i = 0;

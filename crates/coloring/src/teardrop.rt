@@ -3,6 +3,7 @@ use crate::trichotomy::symmetrical_trichotomy;
 ghost use mathlib.Core.Path.{_≡_};
 ghost use Prim.Native.Nat.{_≤_, _<_};
 ghost use lib.ListN.{length};
+ghost use Rattle.coloring.specs.Limits.{maxResultEdges};
 ghost use Rattle.coloring.specs.Places.{byPlace};
 ghost use Rattle.coloring.specs.Teardrop.{thirdOf, runs};
 
@@ -21,7 +22,7 @@ fn third_of(first: u8, middle: u8, last: u8, third: i32) -> u8
 
 // The runs, from the corner on.
 pub(crate) fn paint_runs(corner: usize, first: u8, middle: u8, last: u8, out: &mut [u8])
-    requires { ⌜ (corner < length (now out)) × (length (now out) ≤ 256) ⌝ }
+    requires { ⌜ (corner < length (now out)) × (length (now out) ≤ maxResultEdges) ⌝ }
     ensures { λ _. ⌜ now (out .exit) ≡ byPlace corner (runs first middle last (length (now (out .entry)))) ⌝ }
 {
     let m = out.len();

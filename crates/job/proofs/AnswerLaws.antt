@@ -1,7 +1,7 @@
 -- What reading and colouring a file give where every result has room: the answer, and the text.
 use mathlib.Core.Path.{_≡_, refl, sym, ap, _∙_}
 use mathlib.Core.Bool.{Bool, true, false, cond}
-use mathlib.Core.List.{List, map}
+use mathlib.Core.List.{List, map, flatten}
 use Prim.Native.Nat.{ℕ, _≤_, _<_}
 use native.Mathlib.Omega.{arith}
 use lib.Dec.{leb}
@@ -17,17 +17,17 @@ use Rattle.graph.specs.Refusal.{refusalNumber}
 use Rattle.graph.specs.Lists.{over}
 use Rattle.coloring.specs.declared.outline.Counts.{Counts}
 use Rattle.coloring.specs.declared.outline.Colored.the-variants.{Edges, Refused}
-use Rattle.coloring.specs.Places.{concat, total}
-use Rattle.coloring.specs.Sizes.{sizes, sizes-map, concat-length}
+use Rattle.coloring.specs.Places.{total}
+use Rattle.coloring.specs.Sizes.{sizes, sizes-map, cut-again, flatten-length}
 use Rattle.coloring.specs.Outline.{kindOf, cut, encode, Result, Outcome, outcome, fits, delivered, deliver}
 use Rattle.coloring.specs.Shape.{countsOf}
 use Rattle.job.specs.Job.{Job, Reading, reads, refuses, readJob}
-use Rattle.job.specs.Color.{foundIn, checkJob, coloredEdges, edgeColors, colored, colorJob, colorReading, colorFile, answered, checkReading, checkFile, HoldsResults}
+use Rattle.job.specs.Color.{laidIn, checkJob, coloredEdges, edgeColors, colored, colorJob, colorReading, colorFile, answered, checkReading, checkFile, HoldsResults}
 use Rattle.job.specs.declared.listing.Listed.the-variants as listed
 use Rattle.job.specs.Listing as list
 use Rattle.job.specs.Listing.{listing, refusalLine, checkedText, readingText, fileText, listFile, contourCount}
 use Rattle.job.proofs.listing.ListingLaws.{listing-few, refusal-few}
-use Rattle.job.proofs.color.ColorLaws.{cut-again, map-concat}
+use Rattle.job.proofs.color.ColorLaws.{map-flatten}
 use Rattle.job.proofs.color.ShapeLaws.{ShapeOf, shape-of}
 
 -- ---- the text is at most 5,598 bytes long
@@ -61,7 +61,7 @@ text-few file = go (readJob file) refl
         of : (k : Checked) → length (checkedText k (coloredEdges job) (edgeColors job)) ≤ 5598
         of Passed =
             listing-few (map (map kindOf) (coloredEdges job)) (edgeColors job) (omega (arith, length-map (coloredEdges job) (map kindOf), s .contours-fit))
-            (omega (arith, ap length (map-concat kindOf (coloredEdges job)), length-map (concat (coloredEdges job)) kindOf, s .edges-fit)) (s .are-colors)
+            (omega (arith, ap length (map-flatten kindOf (coloredEdges job)), length-map (flatten (coloredEdges job)) kindOf, s .edges-fit)) (s .are-colors)
         of (Failed refusal) = refusal-short refusal
     go (refuses refusal) e = refusal-short refusal
 
@@ -87,14 +87,14 @@ within-over xs ys e h = rw e (omega (arith, h, length-append xs (drop (length xs
 
 -- what is stored of a shape is cut into its contours again
 stored-listing : (edges : List (List EdgeSegment)) (colors : List (List ℕ)) → sizes colors ≡ sizes edges
-    → listing (map (map kindOf) edges) colors ≡ listing (cut (sizes edges) (map kindOf (concat edges))) (cut (sizes edges) (concat colors))
+    → listing (map (map kindOf) edges) colors ≡ listing (cut (sizes edges) (map kindOf (flatten edges))) (cut (sizes edges) (flatten colors))
 stored-listing edges colors e =
-    let kinds : cut (sizes edges) (map kindOf (concat edges)) ≡ map (map kindOf) edges =
-    rw (map-concat kindOf edges, ← sizes-map kindOf edges) (cut-again (map (map kindOf) edges)) in
-    let bytes : cut (sizes edges) (concat colors) ≡ colors = rw (← e) (cut-again colors) in
+    let kinds : cut (sizes edges) (map kindOf (flatten edges)) ≡ map (map kindOf) edges =
+    rw (map-flatten kindOf edges, ← sizes-map kindOf edges) (cut-again (map (map kindOf) edges)) in
+    let bytes : cut (sizes edges) (flatten colors) ≡ colors = rw (← e) (cut-again colors) in
     rw (kinds, bytes)
 
-front-of : (file : List ℕ) (contours edges : ℕ) (job : Job) (old new : Result) → ShapeOf job → contours ≡ length (coloredEdges job) → edges ≡ length (concat (coloredEdges job))
+front-of : (file : List ℕ) (contours edges : ℕ) (job : Job) (old new : Result) → ShapeOf job → contours ≡ length (coloredEdges job) → edges ≡ length (flatten (coloredEdges job))
     → new .lengths ≡ over (colored job .lengths) (old .lengths) → new .kinds ≡ over (colored job .kinds) (old .kinds) → new .colors ≡ over (colored job .colors) (old .colors)
     → fileText file ≡ listing (map (map kindOf) (coloredEdges job)) (edgeColors job) → Front file contours edges new
 unfolding colored encode
@@ -106,7 +106,7 @@ front-of file contours edges job old new s c e l k m text =
     let l-is = take-over (shape .lengths) (old .lengths) l lengths in
     let k-is = take-over (shape .kinds) (old .kinds) k kinds in
     let m-is = take-over (shape .colors) (old .colors) m colors in
-    let sum : total (shape .lengths) ≡ length (shape .kinds) = sym (concat-length (coloredEdges job)) ∙ sym (s .sized .kinds-long) in
+    let sum : total (shape .lengths) ≡ length (shape .kinds) = sym (flatten-length (coloredEdges job)) ∙ sym (s .sized .kinds-long) in
     record {
       lengths-within = within-over (shape .lengths) (old .lengths) l lengths;
       kinds-within = within-over (shape .kinds) (old .kinds) k kinds;
@@ -136,7 +136,7 @@ module _ (file : List ℕ) (old : Result) (room : HoldsResults old) where
       go : (reading : Reading) → readJob file ≡ reading → colorReading reading old .answer ≡ checkReading reading
       go (reads job) e = of (checkJob job)
         where
-          of : (k : Checked) → deliver k (countsOf (foundIn job) (colored job)) (colored job) old .answer ≡ answered k (countsOf (foundIn job) (colored job))
+          of : (k : Checked) → deliver k (countsOf (laidIn job)) (colored job) old .answer ≡ answered k (countsOf (laidIn job))
           of Passed = rw (fits-all job e)
           of (Failed refusal) = refl
       go (refuses refusal) e = refl
@@ -150,7 +150,7 @@ module _ (file : List ℕ) (old : Result) (room : HoldsResults old) where
           → Front file contours (counts .edges) new
       go (reads job) e c same = of (checkJob job) refl same
         where
-          of : (k : Checked) → checkJob job ≡ k → outcome (Edges counts) new ≡ deliver k (countsOf (foundIn job) (colored job)) (colored job) old
+          of : (k : Checked) → checkJob job ≡ k → outcome (Edges counts) new ≡ deliver k (countsOf (laidIn job)) (colored job) old
               → Front file contours (counts .edges) new
           of Passed p same =
               let s = shape-of job file e in
@@ -169,7 +169,7 @@ module _ (file : List ℕ) (old : Result) (room : HoldsResults old) where
       go : (reading : Reading) → readJob file ≡ reading → outcome (Refused refusal) new ≡ colorReading reading old → readingText reading ≡ refusalLine refusal
       go (reads job) e same = of (checkJob job) same
         where
-          of : (k : Checked) → outcome (Refused refusal) new ≡ deliver k (countsOf (foundIn job) (colored job)) (colored job) old → checkedText k (coloredEdges job) (edgeColors job) ≡ refusalLine refusal
+          of : (k : Checked) → outcome (Refused refusal) new ≡ deliver k (countsOf (laidIn job)) (colored job) old → checkedText k (coloredEdges job) (edgeColors job) ≡ refusalLine refusal
           of Passed same = let given = rw (fits-all job e) at same in let no = ap (λ (o : Outcome). o .answer) given in let z : _≡_ {A = ℕ} 0 1 = cc in absurd (omega arith)
           of (Failed other) same = let is : other ≡ refusal = (let a = ap (λ (o : Outcome). o .answer) same in cc) in ap refusalLine is
       go (refuses other) e same = let is : other ≡ refusal = (let a = ap (λ (o : Outcome). o .answer) same in cc) in ap refusalLine is

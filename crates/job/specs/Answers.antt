@@ -10,10 +10,12 @@ use Rattle.graph.specs.Refusal.{refusalNumber}
 use Rattle.graph.specs.declared.refusal.Refusal.{Refusal}
 use Rattle.graph.specs.declared.refusal.Checked.{Checked}
 use Rattle.graph.specs.declared.refusal.Checked.the-variants.{Passed, Failed}
-use Rattle.graph.specs.SplineColors.{checkSplines}
 use Rattle.graph.specs.Checks.{Check, unless}
 use Rattle.graph.specs.Answers.{Answer, values, refusal, firstOf, distanceChecks, told-distances}
 use Rattle.coloring.specs.Answers.{coloredAnswer, told-after, told-refused, told-passed}
+use Rattle.coloring.specs.declared.settings.Strategy.the-variants.{Simple, InkTrap}
+use Rattle.coloring.specs.declared.settings.Marking.the-variants.{Colors, Distances}
+use Rattle.coloring.specs.Values.{checkMarking}
 use Rattle.coloring.specs.Splines.{splineTotal}
 use Rattle.coloring.specs.Outline.{Result, fits}
 use Rattle.coloring.specs.Shape.{countsOf}
@@ -26,7 +28,7 @@ use Rattle.job.specs.Job.{Job, Reading, reads, refuses}
 use Rattle.job.specs.Buffers.{Buffers, hasRoom}
 use Rattle.job.specs.Progress.{numbersOf}
 use Rattle.job.specs.Reader.{readInto}
-use Rattle.job.specs.Color.{byStrategy, foundIn, checkJob, colored, colorReading, answered, checkReading}
+use Rattle.job.specs.Color.{byStrategy, laidIn, checkJob, colored, colorReading, answered, checkReading}
 use Rattle.job.specs.Listing.{fileText, listFile}
 
 -- strategy, seed, the threshold's bits, and how many contours, edges and distances
@@ -60,11 +62,11 @@ reading-in-numbers (reads job) old = go (hasRoom (numbersOf job) old) refl
 -- ---- checking and colouring: for strategy 3 splines 4, distance count 8, the distances again 9; 11 last
 
 abbrev pub jobChecks : Job → List Check
-jobChecks job = byStrategy (job .strategy) [] [] (distanceChecks (splineTotal (foundIn job)) (job .distances))
+jobChecks job = byStrategy (job .strategy) [] [] (distanceChecks (splineTotal (laidIn job)) (job .distances))
 
 -- the edges of the result and their splines
 abbrev pub jobCounted : Job → Answer
-jobCounted job = values (length (colored job .kinds) ∷ splineTotal (foundIn job) ∷ [])
+jobCounted job = values (countsOf (laidIn job) .edges ∷ countsOf (laidIn job) .splines ∷ [])
 
 abbrev pub toldChecking : Reading → Answer
 toldChecking (refuses r) = refusal (refusalNumber r)
@@ -80,10 +82,10 @@ unfolding checkJob
 told-job told fails job checks answer e = go (eqb (job .strategy) 1) (eqb (job .strategy) 2)
   where
     splines : ℕ
-    splines = splineTotal (foundIn job)
+    splines = splineTotal (laidIn job)
 
     go : (simple inkTrap : Bool)
-        → told (cond simple Passed (cond inkTrap Passed (checkSplines splines (job .distances))))
+        → told (checkMarking (cond simple (Colors Simple (job .seed)) (cond inkTrap (Colors InkTrap (job .seed)) (Distances (job .seed)))) splines (job .distances))
         ≡ firstOf (cond simple [] (cond inkTrap [] (distanceChecks splines (job .distances))) ++ checks) answer
     go true inkTrap = e
     go false true = e
@@ -93,13 +95,13 @@ pub checking-in-numbers : (reading : Reading) → coloredAnswer (checkReading re
 unfolding checkReading countsOf firstOf
 checking-in-numbers (refuses r) = refl
 checking-in-numbers (reads job) =
-    rw append-nil at (told-job (λ checked. coloredAnswer (answered checked (countsOf (foundIn job) (colored job)))) (λ r. refl) job [] (jobCounted job) refl)
+    rw append-nil at (told-job (λ checked. coloredAnswer (answered checked (countsOf (laidIn job)))) (λ r. refl) job [] (jobCounted job) refl)
 
 pub coloring-in-numbers : (reading : Reading) (old : Result) → coloredAnswer (colorReading reading old .answer) ≡ toldColoring reading old
 unfolding colorReading countsOf
 coloring-in-numbers (refuses r) old = refl
 coloring-in-numbers (reads job) old =
-    let counts = countsOf (foundIn job) (colored job) in
+    let counts = countsOf (laidIn job) in
     told-job (told-after counts (colored job) old) (told-refused counts (colored job) old) job _ (jobCounted job) (told-passed counts (colored job) old)
 
 -- ---- listing: 11

@@ -3,13 +3,12 @@ use Prim.Native.Nat.{ℕ, suc, _+_, _-_, _*_, _<_, _≤_}
 use mathlib.Core.Path.{_≡_}
 use mathlib.Core.Bool.{Bool, _&&_}
 use lib.Dec.{leb}
-use mathlib.Core.List.{List, map, _++_}
+use mathlib.Core.List.{List, map, _++_, flatten}
 use lib.ListN.{length, take, drop, getD, set}
 use lib.Ieee.{Float}
 use Rattle.geometry.specs.declared.edge_segment.EdgeSegment.{EdgeSegment}
 use Rattle.geometry.specs.EdgeSegment.{toStored}
 use Rattle.graph.specs.Lists.{over}
-use Rattle.coloring.specs.Places.{concat}
 use Rattle.job.specs.declared.records.Kind.{Kind}
 use Rattle.job.specs.declared.records.Kind.the-variants.{Line, Quadratic, Cubic}
 use Rattle.job.specs.declared.records.State.{State}
@@ -32,14 +31,14 @@ kindsOf edges = map (λ (e : EdgeSegment). toStored e .kind) edges
 
 -- unused places are +0
 abbrev pub placesOf : List EdgeSegment → List Float
-placesOf edges = concat (map (λ (e : EdgeSegment). toStored e .points) edges)
+placesOf edges = flatten (map (λ (e : EdgeSegment). toStored e .points) edges)
 
 -- a job as it is stored
 unfoldable pub stored : Job → Buffers
 stored job = record {
   lengths = map (λ (contour : List EdgeSegment). length contour) (job .contours);
-  kinds = kindsOf (concat (job .contours));
-  points = placesOf (concat (job .contours));
+  kinds = kindsOf (flatten (job .contours));
+  points = placesOf (flatten (job .contours));
   distances = job .distances;
 }
 

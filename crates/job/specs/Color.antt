@@ -9,19 +9,19 @@ use Rattle.geometry.specs.declared.edge_segment.EdgeSegment.{EdgeSegment}
 use Rattle.graph.specs.declared.refusal.Checked.{Checked}
 use Rattle.graph.specs.declared.refusal.Checked.the-variants.{Passed, Failed}
 use Rattle.graph.specs.Refusal.{refusalNumber}
-use Rattle.graph.specs.SplineColors.{colorSplines, checkSplines}
 use Rattle.coloring.specs.declared.outline.Counts.{Counts}
 use Rattle.coloring.specs.declared.outline.Colored.{Colored}
 use Rattle.coloring.specs.declared.outline.Colored.the-variants.{Edges, Refused}
 use Rattle.coloring.specs.declared.settings.Strategy.the-variants.{Simple, InkTrap}
-use Rattle.coloring.specs.declared.settings.Marking.the-variants.{Colors, Numbers}
-use Rattle.coloring.specs.Corners.{Cornered, searchCorners}
-use Rattle.coloring.specs.Splines.{splineTotal}
+use Rattle.coloring.specs.declared.settings.Marking.{Marking}
+use Rattle.coloring.specs.declared.settings.Marking.the-variants.{Colors, Distances}
+use Rattle.coloring.specs.Corners.{Cornered, searchCorners, edgesIn, flagsIn}
 use Rattle.coloring.specs.Layout.{layout}
+use Rattle.coloring.specs.Splines.{splineTotal, paintContours}
+use Rattle.coloring.specs.Values.{splineValues, middleValue, checkMarking}
 use Rattle.coloring.specs.Outline.{Outline, Result, Outcome, encode, deliver}
-use Rattle.coloring.specs.Shape.{markContours, countsOf}
-use Rattle.coloring.specs.EdgeColoring.{edgeColoringSimple, edgeColoringInkTrap}
-use Rattle.coloring.specs.ByDistance.{splineColor, splineByte, edgeColoringByDistance}
+use Rattle.coloring.specs.Shape.{countsOf}
+use Rattle.coloring.specs.EdgeColoring.{edgeColoring, edgeColoringSimple, edgeColoringInkTrap, edgeColoringByDistance}
 use Rattle.job.specs.Job.{Job, Reading, reads, refuses, readJob}
 use Rattle.job.specs.Buffers.{Buffers}
 
@@ -31,33 +31,29 @@ use Rattle.job.specs.Buffers.{Buffers}
 abbrev pub byStrategy : {A : Type 0} → ℕ → A → A → A → A
 byStrategy strategy simple inkTrap distance = cond (eqb strategy 1) simple (cond (eqb strategy 2) inkTrap distance)
 
--- its contours with their corners
-unfoldable pub foundIn : Job → List Cornered
-unfolding searchCorners
-foundIn job = map (searchCorners (job .threshold)) (job .contours)
+-- how its edges are marked
+abbrev pub markingOf : Job → Marking
+markingOf job = byStrategy (job .strategy) (Colors Simple (job .seed)) (Colors InkTrap (job .seed)) (Distances (job .seed))
+
+-- its contours with their corners, laid out
+unfoldable pub laidIn : Job → List Cornered
+unfolding searchCorners layout
+laidIn job = map layout (map (searchCorners (job .threshold)) (job .contours))
 
 -- what is left to check of a job that was read, for strategy 3 only: splines 4, then the distances
 unfoldable pub checkJob : Job → Checked
-unfolding foundIn splineTotal
-checkJob job =
-    let splines = splineTotal (foundIn job) in
-    byStrategy (job .strategy) Passed Passed (checkSplines splines (job .distances))
+unfolding laidIn splineTotal
+checkJob job = checkMarking (markingOf job) (splineTotal (laidIn job)) (job .distances)
 
 -- the edges of its coloured shape, contour by contour
 unfoldable pub coloredEdges : Job → List (List EdgeSegment)
-unfolding foundIn layout
-coloredEdges job = map layout (foundIn job)
+unfolding laidIn
+coloredEdges job = edgesIn (laidIn job)
 
 -- the colour of each of them, as a byte
 unfoldable pub edgeColors : Job → List (List ℕ)
-unfolding foundIn splineTotal markContours splineColor
-edgeColors job =
-    let found = foundIn job in
-    let coloring = colorSplines (splineTotal found) (job .distances) (job .seed) in
-    byStrategy (job .strategy)
-    (markContours (Colors Simple (job .seed)) found)
-    (markContours (Colors InkTrap (job .seed)) found)
-    (map (map (splineByte coloring)) (markContours Numbers found))
+unfolding laidIn splineValues paintContours
+edgeColors job = paintContours (middleValue (markingOf job)) (splineValues (markingOf job) (job .distances) (laidIn job)) (flagsIn (laidIn job))
 
 -- the coloured shape as it is stored
 unfoldable pub colored : Job → Result
@@ -66,8 +62,8 @@ colored job = encode (coloredEdges job) (edgeColors job)
 
 -- answer and buffers: a refusal of the checks; 11 where the result would not fit; or the coloured shape
 unfoldable pub colorJob : Job → Result → Outcome
-unfolding foundIn checkJob colored countsOf deliver
-colorJob job old = deliver (checkJob job) (countsOf (foundIn job) (colored job)) (colored job) old
+unfolding laidIn checkJob colored countsOf deliver
+colorJob job old = deliver (checkJob job) (countsOf (laidIn job)) (colored job) old
 
 -- ---- a file
 
@@ -86,8 +82,8 @@ answered Passed counts = Edges counts
 answered (Failed refusal) counts = Refused refusal
 
 unfoldable pub checkReading : Reading → Colored
-unfolding foundIn checkJob colored countsOf
-checkReading (reads job) = answered (checkJob job) (countsOf (foundIn job) (colored job))
+unfolding laidIn checkJob countsOf
+checkReading (reads job) = answered (checkJob job) (countsOf (laidIn job))
 checkReading (refuses refusal) = Refused refusal
 
 unfoldable pub checkFile : List ℕ → Colored
@@ -120,7 +116,7 @@ outlineOf b = record { lengths = b .lengths; kinds = b .kinds; points = b .point
 
 -- the colouring of buffers by a strategy
 unfoldable pub colorStored : ℕ → ℕ → Float → Buffers → Result → Outcome
-unfolding edgeColoringByDistance
+unfolding edgeColoring
 colorStored strategy seed threshold b old =
     byStrategy strategy
     (edgeColoringSimple (outlineOf b) threshold seed old)

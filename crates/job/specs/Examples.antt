@@ -234,7 +234,7 @@ pub short : (colorFile squareFile noPlaces ≡ outcome (Refused ResultTooShort) 
 unfolding colorFile accepted ofBits
 short = (refl, refl)
 
-pub square-checked : checkFile squareFile ≡ Edges (record { edges = 4; splines = 4 })
+pub square-checked : checkFile squareFile ≡ Edges (record { contours = 1; edges = 4; splines = 4 })
 unfolding checkFile ofBits searchCorners cornerCount firstCorner direction sub dot cross divScalar squaredLength lengthOf normalize sqrtOf Ieee.add Ieee.sub Ieee.mul Ieee.div Ieee.ne Ieee.le Ieee.lt
 square-checked = refl
 

@@ -3,7 +3,7 @@
 use Prim.Native.Nat.{ℕ, zero, suc, _+_, _/_, _%_}
 use mathlib.Core.Path.{_≡_}
 use mathlib.Core.Bool.{true, false, cond}
-use mathlib.Core.List.{List, [], _∷_, _++_, map}
+use mathlib.Core.List.{List, [], _∷_, _++_, map, flatten}
 use lib.ListN.{length, take, drop}
 use lib.Dec.{leb, ltb}
 use Rattle.geometry.specs.declared.edge_segment.EdgeSegment.{EdgeSegment}
@@ -13,7 +13,6 @@ use Rattle.graph.specs.declared.refusal.Refusal.the-variants.{ResultTooShort}
 use Rattle.graph.specs.declared.refusal.Checked.{Checked}
 use Rattle.graph.specs.declared.refusal.Checked.the-variants.{Passed, Failed}
 use Rattle.graph.specs.Lists.{over}
-use Rattle.coloring.specs.Places.{concat}
 use Rattle.coloring.specs.Outline.{kindOf}
 use Rattle.job.specs.declared.listing.Listed.{Listed}
 use Rattle.job.specs.declared.listing.Listed.the-variants.{Bytes, Refused}
@@ -82,8 +81,8 @@ countLine edges = edgesWord ++ (decimal edges ++ (newline ∷ []))
 
 -- a coloured shape: the kinds of its edges, contour by contour, and their colours
 unfoldable pub listing : List (List ℕ) → List (List ℕ) → List ℕ
-unfolding concat shapeLines countLine
-listing kinds colors = shapeLines 0 kinds colors ++ countLine (length (concat kinds))
+unfolding flatten shapeLines countLine
+listing kinds colors = shapeLines 0 kinds colors ++ countLine (length (flatten kinds))
 
 unfoldable pub refusalLine : Refusal → List ℕ
 unfolding decimal

@@ -1,10 +1,9 @@
 -- How far a file is read, and the numbers of its job.
 use Prim.Native.Nat.{ℕ, _+_, _*_, _<_, _^_}
-use mathlib.Core.List.{List}
+use mathlib.Core.List.{List, flatten}
 use lib.ListN.{length}
 use lib.Ieee.{binary64, toBits}
 use Rattle.geometry.specs.declared.edge_segment.EdgeSegment.{EdgeSegment}
-use Rattle.coloring.specs.Places.{concat}
 use Rattle.job.specs.declared.records.Phase.the-variants.{Outside, Inside, Closing}
 use Rattle.job.specs.declared.records.Item.{Item}
 use Rattle.job.specs.declared.records.Item.the-variants.{Header, Contour, Edge, Distances}
@@ -18,7 +17,7 @@ use Rattle.job.specs.Job.{Job, Reading, reads, refuses}
 -- ---- the numbers of a job
 
 abbrev pub edgeCount : List (List EdgeSegment) → ℕ
-edgeCount contours = length (concat contours)
+edgeCount contours = length (flatten contours)
 
 abbrev pub numbersOf : Job → Numbers
 numbersOf job = record {

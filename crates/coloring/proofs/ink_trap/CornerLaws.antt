@@ -19,7 +19,7 @@ use Rattle.graph.specs.Bools.{branch-true, branch-false}
 use Rattle.graph.specs.Lists.{range, length-range}
 use Rattle.coloring.specs.declared.switching.Pen.{Pen}
 use Rattle.coloring.specs.declared.ink_trap.InkTrapCorner.{InkTrapCorner}
-use Rattle.coloring.specs.Switching.{shared, switchColorBanned, bannedBefore, SplineColors, Drawn}
+use Rattle.coloring.specs.Switching.{shared, switchColorBanned, bannedBefore, SplineColors, ColorsHeld}
 use Rattle.coloring.specs.Corners.{Cornered}
 use Rattle.coloring.specs.InkTrap.{withMinor, withColor, noCorner, closed, closeFirst, around, isMinor, Measured, markMinors, majorCount, isBlack, Inked, colorMajors, colorMinors, measureCorners, colorCorners, inkTrapColors}
 use Rattle.coloring.proofs.Lists.{range-snoc}
@@ -354,10 +354,10 @@ splines inked =
 
 pub drawn : (contour : Cornered) (pen ink : Pen) (cs : List InkTrapCorner) (bytes : List ℕ) (last : EdgeColor)
     → colorCorners (measureCorners contour) pen ≡ record { corners = cs; pen = ink } → bytes ≡ map bitsOf (map colorOf cs)
-    → last ≡ colorOf (getD cs (length cs - 1) noCorner) → Drawn (inkTrapColors contour pen) bytes (record { color = last; seed = ink .seed })
+    → last ≡ colorOf (getD cs (length cs - 1) noCorner) → ColorsHeld (inkTrapColors contour pen) bytes (record { color = last; seed = ink .seed })
 unfolding inkTrapColors
 drawn contour pen ink cs bytes last e b l =
     let whole : inkTrapColors contour pen ≡ splines (record { corners = cs; pen = ink }) = ap splines e in
     let color : last ≡ getD (map colorOf cs) (length (map colorOf cs) - 1) Black = l ∙ rw (length-map cs colorOf, List·getD-map colorOf cs (length cs - 1) noCorner) in
-    subst (λ (all : SplineColors). Drawn all bytes (record { color = last; seed = ink .seed })) (sym whole)
+    subst (λ (all : SplineColors). ColorsHeld all bytes (record { color = last; seed = ink .seed })) (sym whole)
     (record { colors-are = b; pen-is = ap (λ (c : EdgeColor). record { color = c; seed = ink .seed }) color })

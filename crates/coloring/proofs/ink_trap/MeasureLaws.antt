@@ -12,7 +12,7 @@ use lib.Ieee.{Float, binary64}
 use Rattle.math.specs.Scalar.{f0}
 use Rattle.geometry.specs.declared.edge_segment.EdgeSegment.{EdgeSegment}
 use Rattle.coloring.specs.declared.ink_trap.InkTrapCorner.{InkTrapCorner}
-use Rattle.coloring.specs.Corners.{Cornered, estimateEdgeLength, placesFrom, identifyCorners, cornerCount}
+use Rattle.coloring.specs.Corners.{Cornered, estimateEdgeLength, cornersFrom, cornersOf, cornerCount}
 use Rattle.coloring.specs.Outline.{anyEdge}
 use Rattle.coloring.specs.InkTrap.{Measured, cornerAt, majorCount, measureFrom, measureCorners}
 
@@ -56,8 +56,8 @@ module _ (count index : ℕ) (s : Float) (array : List InkTrapCorner) (edges : L
 -- ---- what is known of measured corners
 
 from-count : (index : ℕ) (s : Float) (edges : List EdgeSegment) (flags : List Bool) → length flags ≡ length edges
-    → length (measureFrom index s edges flags .corners) ≡ length (placesFrom index flags)
-unfolding measureFrom placesFrom
+    → length (measureFrom index s edges flags .corners) ≡ length (cornersFrom index flags)
+unfolding measureFrom cornersFrom
 from-count index s [] [] l = refl
 from-count index s [] (flag ∷ flags) l = absurd (omega arith)
 from-count index s (e ∷ edges) [] l = absurd (omega arith)
@@ -65,7 +65,7 @@ from-count index s (e ∷ edges) (true ∷ flags) l = ap suc (from-count (suc in
 from-count index s (e ∷ edges) (false ∷ flags) l = from-count (suc index) (longer s e) edges flags (omega arith)
 
 pub measured-count : (contour : Cornered) → length (contour .corners) ≡ length (contour .edges) → length (measureCorners contour .corners) ≡ cornerCount (contour .corners)
-unfolding measureCorners cornerCount identifyCorners
+unfolding measureCorners cornerCount cornersOf
 measured-count contour l = from-count 0 f0 (contour .edges) (contour .corners) l
 
 from-majors : (index : ℕ) (s : Float) (edges : List EdgeSegment) (flags : List Bool)

@@ -1,17 +1,17 @@
 -- Contour by contour along the buffers: how far a pass has come, and what is still to be cut.
-use mathlib.Core.Path.{_≡_}
+use mathlib.Core.Path.{_≡_, refl, ap}
 use mathlib.Core.Bool.{Bool}
 use mathlib.Core.List.{List, [], _∷_, map}
-use Prim.Native.Nat.{ℕ, _+_, _*_, _≤_, _<_}
+use Prim.Native.Nat.{ℕ, suc, _+_, _≤_, _<_}
 use native.Mathlib.Omega.{arith}
-use native.Mathlib.Nat.{mul-add}
 use native.Mathlib.Numerals.{add-one}
-use lib.ListN.{length, getD, take, drop, length-append, take-append-drop, drop-of-length-le}
-use lib.Seq.{drop-cons, drop-drop}
+use lib.ListN.{length, getD, take, drop, length-drop, drop-of-length-le}
+use lib.Seq.{drop-cons, drop-drop, length-take-le}
 use Rattle.geometry.specs.declared.edge_segment.EdgeSegment.{EdgeSegment}
 use Rattle.coloring.specs.Places.{total}
 use Rattle.coloring.specs.Corners.{cornered}
 use Rattle.coloring.specs.Outline.{cut}
+use Rattle.coloring.specs.Sizes.{sizes}
 use Rattle.coloring.proofs.outline.CheckLaws.{total-step}
 
 -- i contours are passed, and they end before the edge `at` of n
@@ -55,14 +55,17 @@ module _ (count : List Bool → ℕ) (lengths : List ℕ) (flags : List Bool) (i
   unfolding total
   left-step h = rw (cut-step lengths flags i at h)
 
--- counts of k an edge at most come to k an edge at most
-module _ (count : List Bool → ℕ) (k : ℕ) (bound : (flags : List Bool) → count flags ≤ k * length flags) where
-  pub total-most : (lengths : List ℕ) (flags : List Bool) → total (map count (cut lengths flags)) ≤ k * length flags
+-- as many pieces as lengths, and of these lengths
+module _ {A : Type 0} where
+  pub cut-length : (lengths : List ℕ) (xs : List A) → length (cut lengths xs) ≡ length lengths
+  unfolding cut
+  cut-length [] xs = refl
+  cut-length (n ∷ lengths) xs = ap suc (cut-length lengths (drop n xs))
+
+  pub cut-sizes : (lengths : List ℕ) (xs : List A) → total lengths ≤ length xs → sizes (cut lengths xs) ≡ lengths
   unfolding cut total
-  total-most [] flags = omega arith
-  total-most (n ∷ lengths) flags =
-      let parts : k * length (take n flags) + k * length (drop n flags) ≡ k * length flags = rw (← mul-add, ← length-append, take-append-drop) in
-      omega (arith, bound (take n flags), total-most lengths (drop n flags))
+  cut-sizes [] xs h = refl
+  cut-sizes (n ∷ lengths) xs h = rw (length-take-le n xs (omega arith), cut-sizes lengths (drop n xs) (rw length-drop (omega arith)))
 
 module _ (lengths : List ℕ) (xs : List EdgeSegment) (flags : List Bool) (i at : ℕ) where
   pub cornered-step : i < length lengths

@@ -1,34 +1,42 @@
 -- What an entry does with its buffers: a checked outline's agree, and the count decides whether the result fits.
 use mathlib.Core.Path.{_≡_, refl, sym, ap, _∙_}
 use mathlib.Core.Bool.{Bool, true, false, _&&_, cond}
-use mathlib.Core.List.{List, [], _∷_, map}
+use mathlib.Core.List.{List, [], _∷_, _++_, map, flatten}
 use Prim.Native.Nat.{ℕ, suc, _*_, _≤_}
 use lib.Dec.{leb, eqb}
 use lib.Ieee.{Float}
-use lib.ListN.{length, take, drop, length-take, length-drop}
+use lib.ListN.{length, take, drop, length-take, length-drop, length-map}
+use lib.Seq.{take-at}
 use borrow.Author.Tests.{leb-true, eqb-true}
 use Rattle.geometry.specs.declared.edge_segment.EdgeSegment.{EdgeSegment}
+use Rattle.graph.specs.declared.refusal.Refusal.{Refusal}
 use Rattle.graph.specs.declared.refusal.Refusal.the-variants.{ResultTooShort}
-use Rattle.graph.specs.declared.refusal.Checked.the-variants.{Passed}
+use Rattle.graph.specs.declared.refusal.Checked.{Checked}
+use Rattle.graph.specs.declared.refusal.Checked.the-variants.{Passed, Failed}
 use Rattle.graph.specs.Bools.{and-left, and-right}
+use Rattle.graph.specs.Lists.{over}
 use Rattle.graph.specs.Refusal.{required}
 use Rattle.coloring.specs.declared.outline.Counts.{Counts}
-use Rattle.coloring.specs.declared.outline.Colored.the-variants.{Refused}
+use Rattle.coloring.specs.declared.outline.Colored.the-variants.{Edges, Refused}
 use Rattle.coloring.specs.Places.{total}
-use Rattle.coloring.specs.Corners.{flagsOf, cornered}
-use Rattle.coloring.specs.Outline.{Outline, Result, cut, maxContours, maxEdges, check, fits, delivered, deliver, outcome, Agrees}
-use Rattle.coloring.specs.Splines.{splineCount, splineTotal}
-use Rattle.coloring.specs.Sizes.{Flagged, counted, Sized}
+use Rattle.coloring.specs.Corners.{Cornered, edgesIn, flagsIn, cornered}
+use Rattle.coloring.specs.Layout.{layout, resultEdges}
+use Rattle.coloring.specs.Outline.{Outline, Result, cut, encode, check, result, fits, delivered, deliver, outcome, Agrees, LaidOut}
+use Rattle.coloring.specs.Splines.{splineCount, splineTotal, paintContours}
+use Rattle.coloring.specs.Shape.{painted, countsOf, Counted}
+use Rattle.coloring.specs.Sizes.{sizes, cut-again, flatten-length, Flagged, laid-flagged, flagged-sizes, laid-sizes, Sized, painted-sized}
+use Rattle.coloring.proofs.layout.SplitLaws.{total-laid}
 
 -- ---- an outline that passed
 
 pub passed-agrees : (o : Outline) (threshold : Float) → check o threshold ≡ Passed → Agrees o
-unfolding check maxContours maxEdges
+unfolding check
 passed-agrees o threshold e =
     let few = required (leb (length (o .lengths)) 64 && leb (total (o .lengths)) 256) _ _ e in
     let same = required (eqb (length (o .kinds)) (total (o .lengths)) && eqb (length (o .points)) (8 * total (o .lengths))) _ _ (few .1) in
     let edges = eqb-true (length (o .kinds)) (total (o .lengths)) (and-left _ _ (same .0)) in
     record {
+      contours-few = leb-true (length (o .lengths)) 64 (and-left _ _ (few .0));
       edges = edges;
       few = rw edges (leb-true (total (o .lengths)) 256 (and-right (leb (length (o .lengths)) 64) _ (few .0)));
       places = rw edges (eqb-true (length (o .points)) (8 * total (o .lengths)) (and-right (eqb (length (o .kinds)) (total (o .lengths))) _ (same .0)));
@@ -42,25 +50,19 @@ cut-flagged [] xs flags l = tt
 cut-flagged (n ∷ lengths) xs flags l =
     (length-take n flags ∙ rw l (sym (length-take n xs)), cut-flagged lengths (drop n xs) (drop n flags) (length-drop n flags ∙ rw l (sym (length-drop n xs))))
 
-pub counted-cut : (count : List Bool → ℕ) (lengths : List ℕ) (xs : List EdgeSegment) (flags : List Bool)
-    → counted count (cornered lengths xs flags) ≡ map count (cut lengths flags)
+pub flags-cut : (lengths : List ℕ) (xs : List EdgeSegment) (flags : List Bool) → flagsIn (cornered lengths xs flags) ≡ cut lengths flags
 unfolding cornered cut
-counted-cut count [] xs flags = refl
-counted-cut count (n ∷ lengths) xs flags = ap (λ l. count (take n flags) ∷ l) (counted-cut count lengths (drop n xs) (drop n flags))
+flags-cut [] xs flags = refl
+flags-cut (n ∷ lengths) xs flags = ap (λ l. take n flags ∷ l) (flags-cut lengths (drop n xs) (drop n flags))
 
 pub splines-cut : (lengths : List ℕ) (xs : List EdgeSegment) (flags : List Bool) → splineTotal (cornered lengths xs flags) ≡ total (map splineCount (cut lengths flags))
 unfolding splineTotal
-splines-cut lengths xs flags = ap total (counted-cut splineCount lengths xs flags)
+splines-cut lengths xs flags = ap (λ contours. total (map splineCount contours)) (flags-cut lengths xs flags)
 
 pub cornered-length : (lengths : List ℕ) (xs : List EdgeSegment) (flags : List Bool) → length (cornered lengths xs flags) ≡ length lengths
 unfolding cornered
 cornered-length [] xs flags = refl
 cornered-length (n ∷ lengths) xs flags = ap suc (cornered-length lengths (drop n xs) (drop n flags))
-
-pub flags-cut : (lengths : List ℕ) (xs : List EdgeSegment) (flags : List Bool) → flagsOf (cornered lengths xs flags) ≡ cut lengths flags
-unfolding cornered cut
-flags-cut [] xs flags = refl
-flags-cut (n ∷ lengths) xs flags = ap (λ l. take n flags ∷ l) (flags-cut lengths (drop n xs) (drop n flags))
 
 -- ---- the count decides
 
@@ -92,6 +94,86 @@ module _ (counts : Counts) (written old : Result) where
   unfolding deliver
   deliver-fits e = ap (λ b. cond b (delivered counts written old) (outcome (Refused ResultTooShort) old)) e
 
+  pub deliver-failed : {checked : Checked} (refusal : Refusal) → checked ≡ Failed refusal → outcome (Refused refusal) old ≡ deliver checked counts written old
+  unfolding deliver
+  deliver-failed refusal e = rw e
+
   pub deliver-short : fits written old ≡ false → deliver Passed counts written old ≡ outcome (Refused ResultTooShort) old
   unfolding deliver
   deliver-short e = ap (λ b. cond b (delivered counts written old) (outcome (Refused ResultTooShort) old)) e
+
+-- ---- the result of contours that were counted
+
+-- the contours of the result
+abbrev pub laidOut : List ℕ → List EdgeSegment → List Bool → List Cornered
+laidOut lengths xs flags = map layout (cornered lengths xs flags)
+
+module _ (lengths : List ℕ) (xs : List EdgeSegment) (flags : List Bool) (counts : Counts) (same : length flags ≡ length xs) (counted : Counted lengths flags counts) where
+  abbrev found : List Cornered
+  found = cornered lengths xs flags
+
+  abbrev laid : List Cornered
+  laid = laidOut lengths xs flags
+
+  pub found-flagged : Flagged found
+  found-flagged = cut-flagged lengths xs flags same
+
+  edges-counted : total (map resultEdges (flagsIn found)) ≡ counts .edges
+  edges-counted = ap (λ contours. total (map resultEdges contours)) (flags-cut lengths xs flags) ∙ sym (counted .edges-are)
+
+  pub splines-counted : splineTotal laid ≡ counts .splines
+  splines-counted = total-laid found found-flagged ∙ splines-cut lengths xs flags ∙ sym (counted .splines-are)
+
+  pub counted-sized : (middle : ℕ) (values : List ℕ) → Sized (painted middle values laid) (counts .contours) (counts .edges)
+  counted-sized middle values =
+      rw (cornered-length lengths xs flags, edges-counted, ← counted .contours-are) at (painted-sized found found-flagged middle values)
+
+  pub counts-laid : counts ≡ countsOf laid
+  unfolding countsOf painted encode
+  counts-laid =
+      let s = counted-sized 0 [] in
+      rw (s .lengths-long, s .kinds-long, splines-counted)
+
+  -- the flags of the result
+  sizes-laid : sizes (flagsIn laid) ≡ sizes (edgesIn laid)
+  sizes-laid = flagged-sizes laid (laid-flagged found found-flagged)
+
+  edges-laid : length (flatten (flagsIn laid)) ≡ counts .edges
+  edges-laid = flatten-length (flagsIn laid) ∙ ap total (sizes-laid ∙ laid-sizes found found-flagged) ∙ edges-counted
+
+  module _ {lengths₀ kinds₀ : List ℕ} {points₀ : List Float} {flags₀ : List Bool} {outLengths outKinds : List ℕ} {outPoints : List Float} {outFlags : List Bool}
+      (out : LaidOut laid lengths₀ kinds₀ points₀ flags₀ outLengths outKinds outPoints outFlags) where
+    front-lengths : take (counts .contours) outLengths ≡ sizes (flagsIn laid)
+    unfolding over encode
+    front-lengths = rw (out .lengths-are) (take-at _ _ (counts .contours) (length-map (edgesIn laid) _ ∙ length-map laid _ ∙ length-map found layout ∙ cornered-length lengths xs flags ∙ sym (counted .contours-are)) ∙ sym sizes-laid)
+
+    front-flags : take (counts .edges) outFlags ≡ flatten (flagsIn laid)
+    unfolding over
+    front-flags = rw (out .flags-are) (take-at (flatten (flagsIn laid)) _ (counts .edges) edges-laid)
+
+    pub front-contours : cut (take (counts .contours) outLengths) (take (counts .edges) outFlags) ≡ flagsIn laid
+    front-contours = rw (front-lengths, front-flags) (cut-again (flagsIn laid))
+
+    pub front-total : total (take (counts .contours) outLengths) ≡ length (take (counts .edges) outFlags)
+    front-total = rw (front-lengths, front-flags) (sym (flatten-length (flagsIn laid)))
+
+    pub front-length : length (take (counts .edges) outFlags) ≡ counts .edges
+    front-length = rw front-flags edges-laid
+
+    pub front-splines : counts .splines ≡ total (map splineCount (cut (take (counts .contours) outLengths) (take (counts .edges) outFlags)))
+    unfolding splineTotal
+    front-splines = rw front-contours (sym splines-counted)
+
+    -- laid out and painted
+    pub painted-delivered : (middle : ℕ) (values colors₀ : List ℕ) {middle' : ℕ} {bytes colors : List ℕ}
+        → fits (painted middle values laid) (result lengths₀ kinds₀ points₀ colors₀) ≡ true
+        → middle' ≡ middle → bytes ≡ flatten (paintContours middle' values (cut (take (counts .contours) outLengths) (take (counts .edges) outFlags)))
+        → colors ≡ bytes ++ drop (counts .edges) colors₀
+        → outcome (Edges counts) (result outLengths outKinds outPoints colors)
+        ≡ deliver Passed (countsOf laid) (painted middle values laid) (result lengths₀ kinds₀ points₀ colors₀)
+    unfolding delivered painted encode over
+    painted-delivered middle values colors₀ fit middle-is bytes-are colors-are =
+        let bytes = paintContours middle values (flagsIn laid) in
+        let long : length (flatten bytes) ≡ counts .edges = counted-sized middle values .colors-long in
+        rw (deliver-fits (countsOf laid) (painted middle values laid) (result lengths₀ kinds₀ points₀ colors₀) fit)
+        (rw (colors-are, bytes-are, middle-is, front-contours, out .lengths-are, out .kinds-are, out .points-are, long, ← counts-laid))

@@ -9,7 +9,7 @@ use Rattle.geometry.specs.declared.edge_color.EdgeColor.{EdgeColor}
 use Rattle.graph.specs.Lists.{overFrom}
 use Rattle.graph.proofs.Writing.{over-all, over-next, over-nothing}
 use Rattle.coloring.specs.declared.switching.Pen.{Pen}
-use Rattle.coloring.specs.Switching.{SplineColors, Drawn}
+use Rattle.coloring.specs.Switching.{SplineColors, ColorsHeld}
 
 -- The bytes will be the colours `all`: i of n are there already, and `rest` is still to be drawn.
 pub record Drawing (all : SplineColors) (n i : ℕ) (bytes : List ℕ) (rest : SplineColors) : Type 0 where
@@ -31,5 +31,5 @@ module _ {all : SplineColors} {n i : ℕ} {bytes : List ℕ} where
         pen-so-far = d .pen-so-far;
       }
 
-  pub drawing-ends : (pen : Pen) → Drawing all n i bytes (record { colors = []; pen = pen }) → Drawn all bytes pen
+  pub drawing-ends : (pen : Pen) → Drawing all n i bytes (record { colors = []; pen = pen }) → ColorsHeld all bytes pen
   drawing-ends pen d = record { colors-are = sym (d .colors-so-far ∙ over-nothing i bytes); pen-is = sym (d .pen-so-far) }

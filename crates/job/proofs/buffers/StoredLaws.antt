@@ -1,13 +1,12 @@
 -- A job as it is stored: what one record more adds, and that the buffers follow it.
 use mathlib.Core.Path.{_≡_, refl, sym, ap, _∙_}
-use mathlib.Core.List.{List, [], _∷_, _++_, map, append-nil, append-assoc}
+use mathlib.Core.List.{List, [], _∷_, _++_, map, append-nil, append-assoc, flatten}
 use Prim.Native.Nat.{ℕ, suc, _+_, _-_, _<_, _≤_}
 use native.Mathlib.Omega.{arith}
 use lib.ListN.{length, getD, set, length-append, length-map}
 use Rattle.geometry.specs.declared.edge_segment.EdgeSegment.{EdgeSegment}
 use Rattle.geometry.specs.declared.edge_segment.EdgeSegment.the-variants as segment
 use Rattle.geometry.specs.EdgeSegment.{toStored}
-use Rattle.coloring.specs.Places.{concat}
 use Rattle.coloring.specs.Sizes.{sizes}
 use Rattle.job.specs.Records.{kindOf}
 use Rattle.job.specs.Job.{withEdge}
@@ -20,10 +19,10 @@ pub map-snoc : {A B : Type 0} (f : A → B) (xs : List A) (x : A) → map f (xs 
 map-snoc f [] x = refl
 map-snoc f (y ∷ xs) x = ap (λ r. f y ∷ r) (map-snoc f xs x)
 
-concat-snoc : {A : Type 0} (xss : List (List A)) (xs : List A) → concat (xss ++ (xs ∷ [])) ≡ concat xss ++ xs
-unfolding concat
+concat-snoc : {A : Type 0} (xss : List (List A)) (xs : List A) → flatten (xss ++ (xs ∷ [])) ≡ flatten xss ++ xs
+unfolding flatten
 concat-snoc [] xs = append-nil xs
-concat-snoc (ys ∷ xss) xs = ap (λ r. ys ++ r) (concat-snoc xss xs) ∙ sym (append-assoc ys (concat xss) xs)
+concat-snoc (ys ∷ xss) xs = ap (λ r. ys ++ r) (concat-snoc xss xs) ∙ sym (append-assoc ys (flatten xss) xs)
 
 -- ---- an edge more
 
@@ -38,12 +37,12 @@ lengths-edge (c ∷ d ∷ contours) e h =
 
 -- the last contour is no longer than all of them
 pub last-few : (contours : List (List EdgeSegment)) → 0 < length contours → getD (sizes contours) (length contours - 1) 0 ≤ edgeCount contours
-unfolding concat
+unfolding flatten
 last-few [] h = absurd (omega arith)
 last-few (c ∷ []) h = omega (arith, length-append c [])
 last-few (c ∷ d ∷ contours) h =
     let one : suc (suc (length contours)) - 1 ≡ suc (suc (length contours) - 1) = omega arith in
-    rw one (omega (arith, last-few (d ∷ contours) (omega arith), length-append c (concat (d ∷ contours))))
+    rw one (omega (arith, last-few (d ∷ contours) (omega arith), length-append c (flatten (d ∷ contours))))
 
 pub kind-number : (e : EdgeSegment) → toStored e .kind ≡ kindNumber (kindOf e)
 unfolding toStored
@@ -55,7 +54,7 @@ pub kinds-edge : (edges : List EdgeSegment) (e : EdgeSegment) → kindsOf (edges
 kinds-edge edges e = map-snoc _ edges e
 
 pub places-edge : (edges : List EdgeSegment) (e : EdgeSegment) → placesOf (edges ++ (e ∷ [])) ≡ placesOf edges ++ toStored e .points
-places-edge edges e = ap concat (map-snoc (λ (x : EdgeSegment). toStored x .points) edges e) ∙ concat-snoc (map (λ (x : EdgeSegment). toStored x .points) edges) (toStored e .points)
+places-edge edges e = ap flatten (map-snoc (λ (x : EdgeSegment). toStored x .points) edges e) ∙ concat-snoc (map (λ (x : EdgeSegment). toStored x .points) edges) (toStored e .points)
 
 pub kinds-length : (edges : List EdgeSegment) → length (kindsOf edges) ≡ length edges
 kinds-length edges = length-map edges (λ (e : EdgeSegment). toStored e .kind)

@@ -1,7 +1,7 @@
 -- A job that was read passes the checks of an outline, and its buffers hold its contours: so colouring the buffers is colouring the job.
 use mathlib.Core.Path.{_≡_, refl, sym, ap, _∙_}
 use mathlib.Core.Bool.{Bool, true, false, cond, _&&_}
-use mathlib.Core.List.{List, [], _∷_, map, map-append}
+use mathlib.Core.List.{List, [], _∷_, map, map-append, flatten}
 use Prim.Native.Nat.{ℕ, _-_, _*_, _/_, _≤_}
 use native.Mathlib.Omega.{arith}
 use lib.Dec.{leb, eqb}
@@ -18,23 +18,22 @@ use Rattle.graph.specs.declared.refusal.Refusal.the-variants.{TooMany, LengthMi
 use Rattle.graph.specs.Refusal.{refusalNumber, require}
 use Rattle.graph.specs.PairOrder.{distancesValid}
 use Rattle.graph.specs.Limits.{maxSplines, maxDistances}
-use Rattle.graph.specs.SplineColors.{colorSplines, checkSplines}
 use Rattle.graph.specs.declared.refusal.Refusal.{Refusal}
 use Rattle.graph.specs.Lists.{all, over}
 use Rattle.coloring.specs.declared.outline.Counts.{Counts}
 use Rattle.coloring.specs.declared.outline.Colored.{Colored}
 use Rattle.coloring.specs.declared.settings.Strategy.the-variants.{Simple, InkTrap}
-use Rattle.coloring.specs.declared.settings.Strategy.{Strategy}
-use Rattle.coloring.specs.declared.settings.Marking.the-variants.{Colors, Numbers}
-use Rattle.coloring.specs.Places.{concat}
+use Rattle.coloring.specs.declared.settings.Marking.{Marking}
+use Rattle.coloring.specs.declared.settings.Marking.the-variants.{Colors, Distances}
+use Rattle.coloring.specs.Corners.{searchCorners}
+use Rattle.coloring.specs.Values.{splineValues, checkMarking}
 use Rattle.coloring.specs.Splines.{splineTotal}
 use Rattle.coloring.specs.Outline as outline
 use Rattle.coloring.specs.declared.outline.Colored.the-variants as color
-use Rattle.coloring.specs.Outline.{Result, Outcome, outcome, cut, encode, edgeOf, contours, knownKind, coordinatesFit, maxContours, maxEdges, check, fits, delivered, deliver}
-use Rattle.coloring.specs.Shape.{markContours, painted, countsOf}
-use Rattle.coloring.specs.Sizes.{sizes, concat-length, points-length}
+use Rattle.coloring.specs.Outline.{Result, Outcome, outcome, edgeOf, contours, knownKind, coordinatesFit, check, fits, delivered, deliver}
+use Rattle.coloring.specs.Shape.{painted, deliverFound}
+use Rattle.coloring.specs.Sizes.{sizes, cut-again, flatten-length, points-length}
 use Rattle.coloring.specs.EdgeColoring.{edgeColoring}
-use Rattle.coloring.specs.ByDistance.{splineByte, withBytes, edgeColoringByDistance}
 use Rattle.job.specs.declared.progress.Numbers.{Numbers as JobNumbers}
 use Rattle.job.specs.declared.progress.Read.{Read}
 use Rattle.job.specs.declared.progress.Read.the-variants as read
@@ -42,7 +41,7 @@ use Rattle.job.specs.Job.{Job, Reading, reads, refuses, readJob}
 use Rattle.job.specs.Progress.{edgeCount, numbersOf}
 use Rattle.job.specs.Buffers.{Buffers, buffers, kindsOf, placesOf, stored, overEach, roomFor, hasRoom, Hold}
 use Rattle.job.specs.Reader.{readInto, Delivers}
-use Rattle.job.specs.Color.{foundIn, checkJob, coloredEdges, edgeColors, colored, colorJob, colorReading, colorFile, isPassed, acceptedReading, accepted, noOther, outlineOf, colorStored, HoldsJobs}
+use Rattle.job.specs.Color.{laidIn, checkJob, coloredEdges, edgeColors, colored, colorJob, colorReading, colorFile, isPassed, acceptedReading, accepted, noOther, outlineOf, colorStored, HoldsJobs}
 use Rattle.job.proofs.records.ReadingLaws.{edgeFits}
 use Rattle.job.proofs.progress.ProgressLaws.{Sound, job-sound, contours-few, edges-few}
 use Rattle.job.proofs.buffers.StoredLaws.{kinds-length}
@@ -50,26 +49,21 @@ use Rattle.job.proofs.buffers.StoredLaws.{kinds-length}
 -- ---- the buffers hold the contours
 
 edges-again : (edges : List EdgeSegment) → outline.edgesOf (kindsOf edges) (placesOf edges) ≡ edges
-unfolding outline.edgesOf edgeOf toStored fromStored concat
+unfolding outline.edgesOf edgeOf toStored fromStored flatten
 edges-again [] = refl
 edges-again (segment.Line p0 p1 ∷ edges) = ap (λ (r : List EdgeSegment). segment.Line p0 p1 ∷ r) (edges-again edges)
 edges-again (segment.Quadratic p0 p1 p2 ∷ edges) = ap (λ (r : List EdgeSegment). segment.Quadratic p0 p1 p2 ∷ r) (edges-again edges)
 edges-again (segment.Cubic p0 p1 p2 p3 ∷ edges) = ap (λ (r : List EdgeSegment). segment.Cubic p0 p1 p2 p3 ∷ r) (edges-again edges)
 
-pub cut-again : {A : Type 0} (xss : List (List A)) → cut (sizes xss) (concat xss) ≡ xss
-unfolding cut concat
-cut-again [] = refl
-cut-again (xs ∷ xss) = rw (take-at xs (concat xss) (length xs) refl, drop-at xs (concat xss) (length xs) refl, cut-again xss)
-
 contours-again : (job : Job) → contours (outlineOf (stored job)) ≡ job .contours
 unfolding contours stored
-contours-again job = rw (edges-again (concat (job .contours))) (cut-again (job .contours))
+contours-again job = rw (edges-again (flatten (job .contours))) (cut-again (job .contours))
 
 -- bytes replaced all at once, or contour by contour
-pub map-concat : {A B : Type 0} (f : A → B) (xss : List (List A)) → map f (concat xss) ≡ concat (map (map f) xss)
-unfolding concat
-map-concat f [] = refl
-map-concat f (xs ∷ xss) = map-append f xs (concat xss) ∙ rw (map-concat f xss)
+pub map-flatten : {A B : Type 0} (f : A → B) (xss : List (List A)) → map f (flatten xss) ≡ flatten (map (map f) xss)
+unfolding flatten
+map-flatten f [] = refl
+map-flatten f (xs ∷ xss) = map-append f xs (flatten xss) ∙ rw (map-flatten f xss)
 
 -- ---- and pass the checks
 
@@ -85,7 +79,7 @@ and-next true b c h then = then h
 and-next false b c h then = h
 
 coordinates-pass : (edges : List EdgeSegment) → all edgeFits edges ≡ true → coordinatesFit (kindsOf edges) (placesOf edges) ≡ true
-unfolding coordinatesFit all toStored concat
+unfolding coordinatesFit all toStored flatten
 coordinates-pass [] h = refl
 coordinates-pass (segment.Line p0 p1 ∷ edges) h = and-next (edgeFits (segment.Line p0 p1)) _ _ h (λ k. coordinates-pass edges k)
 coordinates-pass (segment.Quadratic p0 p1 p2 ∷ edges) h = and-next (edgeFits (segment.Quadratic p0 p1 p2)) _ _ h (λ k. coordinates-pass edges k)
@@ -93,10 +87,10 @@ coordinates-pass (segment.Cubic p0 p1 p2 p3 ∷ edges) h = and-next (edgeFits (s
 
 module _ (job : Job) (so : Sound job) (contours-fit : length (job .contours) ≤ 64) (edges-fit : edgeCount (job .contours) ≤ 256) where
   pub passes : check (outlineOf (stored job)) (job .threshold) ≡ Passed
-  unfolding check maxContours maxEdges stored
+  unfolding check stored
   passes =
-      let edges = concat (job .contours) in
-      let sum = sym (concat-length (job .contours)) in
+      let edges = flatten (job .contours) in
+      let sum = sym (flatten-length (job .contours)) in
       rw (
         sum,
         length-map (job .contours) (λ (c : List EdgeSegment). length c),
@@ -114,50 +108,37 @@ module _ (job : Job) (so : Sound job) (contours-fit : length (job .contours) ≤
   -- ---- so each colouring of the buffers is that of the job
 
   module _ (old : Result) where
-    -- its result with some colours
-    abbrev with : List (List ℕ) → Result
-    with colors = encode (coloredEdges job) colors
+    -- by a marking, and with distances or without
+    abbrev marked : Marking → List Float → Outcome
+    marked marking distances = deliverFound Passed marking distances (map (searchCorners (job .threshold)) (job .contours)) old
 
-    abbrev delivered-with : Checked → List (List ℕ) → Outcome
-    delivered-with checked colors = deliver checked (countsOf (foundIn job) (with colors)) (with colors) old
+    abbrev colored-by : Marking → List Float → Outcome
+    colored-by marking distances = edgeColoring (record { marking = marking; threshold = job .threshold }) (outlineOf (stored job)) distances old
 
-    by-colors : (strategy : Strategy) → edgeColoring (record { marking = Colors strategy (job .seed); threshold = job .threshold }) (outlineOf (stored job)) old
-        ≡ delivered-with Passed (markContours (Colors strategy (job .seed)) (foundIn job))
-    unfolding edgeColoring foundIn coloredEdges painted
-    by-colors strategy = rw (passes, contours-again job)
+    without : (marking : Marking) → colored-by marking [] ≡ marked marking []
+    unfolding edgeColoring
+    without marking = rw (passes, contours-again job)
 
-    abbrev byte : ℕ → ℕ
-    byte = splineByte (colorSplines (splineTotal (foundIn job)) (job .distances) (job .seed))
-
-    abbrev distances-checked : Checked
-    distances-checked = checkSplines (splineTotal (foundIn job)) (job .distances)
-
-    numbered : withBytes byte (painted Numbers (foundIn job)) ≡ with (map (map byte) (markContours Numbers (foundIn job)))
-    unfolding painted encode coloredEdges
-    numbered = rw (map-concat byte (markContours Numbers (foundIn job)))
-
-    by-numbers : edgeColoringByDistance (outlineOf (stored job)) (job .threshold) (job .seed) (job .distances) old
-        ≡ delivered-with distances-checked (map (map byte) (markContours Numbers (foundIn job)))
-    unfolding edgeColoringByDistance foundIn countsOf
-    by-numbers =
-        let few = le-leb (length (job .distances)) 2016 (so .distances-few) in
-        rw (few, passes, contours-again job)
-        (rw few at (ap (λ (r : Result). deliver distances-checked (countsOf (foundIn job) r) r old) numbered))
+    with : (marking : Marking) → colored-by marking (job .distances) ≡ marked marking (job .distances)
+    unfolding edgeColoring
+    with marking = rw (le-leb (length (job .distances)) 2016 (so .distances-few), passes, contours-again job)
 
     stored-is : stored job .distances ≡ job .distances
     unfolding stored
     stored-is = refl
 
     stored-colored : colorStored (job .strategy) (job .seed) (job .threshold) (stored job) old ≡ colorJob job old
-    unfolding colorStored colorJob checkJob colored edgeColors
-    stored-colored = rw (stored-is, by-colors Simple, by-colors InkTrap, by-numbers) (go (eqb (job .strategy) 1) (eqb (job .strategy) 2) _ _ _ _)
+    unfolding colorStored colorJob checkJob colored edgeColors coloredEdges laidIn painted splineValues
+    stored-colored =
+        rw (stored-is, without (Colors Simple (job .seed)), without (Colors InkTrap (job .seed)), with (Distances (job .seed)))
+        (go (eqb (job .strategy) 1) (eqb (job .strategy) 2))
       where
-        go : (a b : Bool) (x y z : List (List ℕ)) (k : Checked)
-            → cond a (delivered-with Passed x) (cond b (delivered-with Passed y) (delivered-with k z))
-            ≡ delivered-with (cond a Passed (cond b Passed k)) (cond a x (cond b y z))
-        go true b x y z k = refl
-        go false true x y z k = refl
-        go false false x y z k = refl
+        go : (a b : Bool)
+            → cond a (marked (Colors Simple (job .seed)) []) (cond b (marked (Colors InkTrap (job .seed)) []) (marked (Distances (job .seed)) (job .distances)))
+            ≡ marked (cond a (Colors Simple (job .seed)) (cond b (Colors InkTrap (job .seed)) (Distances (job .seed)))) (job .distances)
+        go true b = refl
+        go false true = refl
+        go false false = refl
 
 -- ---- from what the reader delivers
 
@@ -225,7 +206,7 @@ module _ {file : List ℕ} {n : JobNumbers} {old : Buffers} {lengths kinds : Lis
   unfolding overEach stored
   held-is =
       let job = h .job in
-      let edges = concat (job .contours) in
+      let edges = flatten (job .contours) in
       rw (
         h .numbers,
         h .holds .lengths-are,
@@ -256,11 +237,11 @@ module _ {file : List ℕ} {n : JobNumbers} {old : Buffers} {lengths kinds : Lis
 
   pub kinds-within : n .edges ≤ length kinds
   unfolding overEach stored
-  kinds-within = rw (h .numbers, h .holds .kinds-are) (within (kindsOf (concat (h .job .contours))) (old .kinds) (kinds-length (concat (h .job .contours))))
+  kinds-within = rw (h .numbers, h .holds .kinds-are) (within (kindsOf (flatten (h .job .contours))) (old .kinds) (kinds-length (flatten (h .job .contours))))
 
   pub places-within : 8 * n .edges ≤ length points
   unfolding overEach stored
-  places-within = rw (h .numbers, h .holds .points-are) (within (placesOf (concat (h .job .contours))) (old .points) (points-length (concat (h .job .contours))))
+  places-within = rw (h .numbers, h .holds .points-are) (within (placesOf (flatten (h .job .contours))) (old .points) (points-length (flatten (h .job .contours))))
 
   pub distances-within : n .distances ≤ length distances
   unfolding overEach stored
@@ -273,23 +254,24 @@ abbrev Early : Checked → Type 0
 Early Passed = Unit
 Early (Failed refusal) = eqb (refusalNumber refusal) 11 ≡ false
 
-early-by : (a b : Bool) (k : Checked) → Early k → Early (cond a Passed (cond b Passed k))
-early-by true b k h = tt
-early-by false true k h = tt
-early-by false false k h = h
-
 checks-early : (job : Job) → Early (checkJob job)
 unfolding checkJob
-checks-early job =
-    let splines = splineTotal (foundIn job) in
-    early-by (eqb (job .strategy) 1) (eqb (job .strategy) 2) (checkSplines splines (job .distances))
-    (required (leb splines maxSplines && leb (length (job .distances)) maxDistances) TooMany _ refl
-    (required (eqb (length (job .distances)) (splines * (splines - 1) / 2)) LengthMismatch _ refl
-    (required (distancesValid (job .distances)) BadDistance Passed refl tt)))
+checks-early job = go (eqb (job .strategy) 1) (eqb (job .strategy) 2)
   where
+    splines : ℕ
+    splines = splineTotal (laidIn job)
+
     required : (b : Bool) (refusal : Refusal) (rest : Checked) → eqb (refusalNumber refusal) 11 ≡ false → Early rest → Early (require b refusal rest)
     required true refusal rest h k = k
     required false refusal rest h k = h
+
+    go : (a b : Bool) → Early (checkMarking (cond a (Colors Simple (job .seed)) (cond b (Colors InkTrap (job .seed)) (Distances (job .seed)))) splines (job .distances))
+    go true b = tt
+    go false true = tt
+    go false false =
+        required (leb splines maxSplines && leb (length (job .distances)) maxDistances) TooMany _ refl
+        (required (eqb (length (job .distances)) (splines * (splines - 1) / 2)) LengthMismatch _ refl
+        (required (distancesValid (job .distances)) BadDistance Passed refl tt))
 
 delivered-passed : (checked : Checked) (counts : Counts) (written old : Result) → Early checked → noOther (deliver checked counts written old .answer) ≡ isPassed checked
 unfolding deliver delivered

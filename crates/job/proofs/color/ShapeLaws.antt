@@ -1,69 +1,41 @@
 -- The coloured shape of a job: as many colours as edges, at most 64 contours and 508 edges, and each colour below 8.
 use mathlib.Core.Path.{_≡_, refl, sym, ap, _∙_}
 use mathlib.Core.Bool.{Bool, true, false, cond}
-use mathlib.Core.List.{List, [], _∷_, map}
-use Prim.Native.Nat.{ℕ, zero, suc, _+_, _*_, _≤_}
+use mathlib.Core.List.{List, [], _∷_, map, map-map, flatten}
+use Prim.Native.Nat.{ℕ, zero, suc, _≤_}
 use native.Mathlib.Omega.{arith}
 use lib.Dec.{eqb}
 use lib.Ieee.{Float}
 use lib.ListN.{length, length-map}
 use Rattle.geometry.specs.EdgeColor.{bitsOf, bits-below}
 use Rattle.geometry.specs.declared.edge_color.EdgeColor.{EdgeColor}
+use Rattle.geometry.specs.declared.edge_color.EdgeColor.the-variants.{White}
 use Rattle.geometry.specs.declared.edge_segment.EdgeSegment.{EdgeSegment}
 use Rattle.graph.specs.SplineColors.{colorSplines}
 use Rattle.coloring.specs.declared.settings.Strategy.{Strategy}
 use Rattle.coloring.specs.declared.settings.Strategy.the-variants.{Simple, InkTrap}
-use Rattle.coloring.specs.declared.settings.Marking.the-variants.{Colors, Numbers}
-use Rattle.coloring.specs.Places.{concat, total}
+use Rattle.coloring.specs.declared.settings.Marking.{Marking}
+use Rattle.coloring.specs.declared.settings.Marking.the-variants.{Colors, Distances}
+use Rattle.coloring.specs.Places.{total}
 use Rattle.coloring.specs.Switching.{initColor}
-use Rattle.coloring.specs.Corners.{Cornered, searchCorners}
-use Rattle.coloring.specs.Layout.{splits, layout, resultEdges}
-use Rattle.coloring.specs.Splines.{splineTotal}
-use Rattle.coloring.specs.Shape.{colorContours, markContours}
-use Rattle.coloring.specs.ByDistance.{splineColor, splineByte}
-use Rattle.coloring.specs.Sizes.{sizes, sizes-map, concat-length, flags-length, edges-split, edges-same, split-few, search-flagged, counted, laid-lengths, mark-lengths, Sized, encoded-sized}
+use Rattle.coloring.specs.Corners.{Cornered, searchCorners, edgesIn, flagsIn}
+use Rattle.coloring.specs.Layout.{layout}
+use Rattle.coloring.specs.Splines.{splineTotal, paintContours}
+use Rattle.coloring.specs.Values.{shapeColors, splineColor, splineValues, middleValue}
+use Rattle.coloring.specs.Sizes.{sizes, flatten-length, flags-length, Flagged, search-flagged, laid-sizes, edges-most, Sized, encoded-sized, painted-sizes}
+use Rattle.coloring.specs.PaintLaws.{contours-map}
 use Rattle.job.specs.Job.{Job, reads, readJob}
 use Rattle.job.specs.Progress.{edgeCount}
-use Rattle.job.specs.Color.{foundIn, coloredEdges, edgeColors, colored}
+use Rattle.job.specs.Color.{laidIn, coloredEdges, edgeColors, colored}
 use Rattle.job.proofs.progress.ProgressLaws.{contours-few, edges-few}
 use Rattle.job.proofs.listing.ListingLaws.{AreColors, EachColors}
 
--- ---- at most 508 edges: two thirds more for each of at most two edges of a split contour
+-- ---- edges in
 
--- all are split, or one is not
-data Few (contours edges out : ℕ) : Type 0 where
-  all-split : edges ≤ 2 * contours → out ≤ 3 * edges → Few contours edges out
-  one-not : out + 4 ≤ edges + 4 * contours → Few contours edges out
-
-few-most : (contours edges out : ℕ) → Few contours edges out → out ≤ edges + 4 * contours
-few-most contours edges out (all-split h k) = omega arith
-few-most contours edges out (one-not h) = omega arith
-
-few-more : (flags : List Bool) (contours edges out : ℕ) (b : Bool) → splits flags ≡ b → Few contours edges out → Few (suc contours) (length flags + edges) (resultEdges flags + out)
-few-more flags contours edges out true h (all-split k l) = all-split (omega (arith, split-few flags h)) (omega (arith, edges-split flags h))
-few-more flags contours edges out true h (one-not k) = one-not (omega (arith, split-few flags h, edges-split flags h))
-few-more flags contours edges out false h few = one-not (omega (arith, edges-same flags h, few-most contours edges out few))
-
--- edges in, and edges out
-abbrev edgesIn : List Cornered → ℕ
-edgesIn found = total (counted (λ (flags : List Bool). length flags) found)
-
-abbrev edgesOut : List Cornered → ℕ
-edgesOut found = total (counted resultEdges found)
-
-few : (found : List Cornered) → Few (length found) (edgesIn found) (edgesOut found)
-unfolding total
-few [] = all-split (omega arith) (omega arith)
-few (c ∷ found) = few-more (c .corners) (length found) (edgesIn found) (edgesOut found) (splits (c .corners)) refl (few found)
-
-edges-most : (contours edges out : ℕ) → Few contours edges out → contours ≤ 64 → edges ≤ 256 → out ≤ 508
-edges-most contours edges out (all-split h k) c e = omega arith
-edges-most contours edges out (one-not h) c e = omega arith
-
-all-in : (threshold : Float) (contours : List (List EdgeSegment)) → counted (λ (flags : List Bool). length flags) (map (searchCorners threshold) contours) ≡ sizes contours
+flags-in : (threshold : Float) (contours : List (List EdgeSegment)) → sizes (flagsIn (map (searchCorners threshold) contours)) ≡ sizes contours
 unfolding searchCorners
-all-in threshold [] = refl
-all-in threshold (c ∷ contours) = rw (flags-length threshold c, all-in threshold contours)
+flags-in threshold [] = refl
+flags-in threshold (c ∷ contours) = rw (flags-length threshold c, flags-in threshold contours)
 
 -- ---- colours
 
@@ -79,66 +51,76 @@ colors-each color (xs ∷ xss) (suc i) = colors-each color xss i
 
 -- ---- the coloured shape of a job that was read
 
--- a byte for each edge, which is a colour
-record Marked (edges : List (List EdgeSegment)) (colors : List (List ℕ)) : Type 0 where
-  pub each : sizes colors ≡ sizes edges
-  pub are-colors : EachColors colors
-
 pub record ShapeOf (job : Job) : Type 0 where
   pub contours-are : length (coloredEdges job) ≡ length (job .contours)
   pub contours-fit : length (coloredEdges job) ≤ 64
-  pub edges-fit : length (concat (coloredEdges job)) ≤ 508
+  pub edges-fit : length (flatten (coloredEdges job)) ≤ 508
   pub marked : sizes (edgeColors job) ≡ sizes (coloredEdges job)
   pub are-colors : EachColors (edgeColors job)
-  pub sized : Sized (colored job) (length (coloredEdges job)) (length (concat (coloredEdges job)))
+  pub sized : Sized (colored job) (length (coloredEdges job)) (length (flatten (coloredEdges job)))
 
 module _ (job : Job) where
-  laid-out : sizes (coloredEdges job) ≡ counted resultEdges (foundIn job)
-  unfolding coloredEdges foundIn
-  laid-out = laid-lengths (foundIn job) (search-flagged (job .threshold) (job .contours))
+  abbrev found : List Cornered
+  found = map (searchCorners (job .threshold)) (job .contours)
 
-  by-colors : (strategy : Strategy) → Marked (coloredEdges job) (markContours (Colors strategy (job .seed)) (foundIn job))
-  unfolding markContours
-  by-colors strategy = record {
-    each = mark-lengths (Colors strategy (job .seed)) (foundIn job) ∙ sym laid-out;
-    are-colors = colors-each (λ (x : EdgeColor). x) (colorContours strategy (initColor (job .seed)) (foundIn job));
-  }
+  found-flagged : Flagged found
+  found-flagged = search-flagged (job .threshold) (job .contours)
 
-  by-numbers : (coloring : List ℕ) → Marked (coloredEdges job) (map (map (splineByte coloring)) (markContours Numbers (foundIn job)))
-  by-numbers coloring = record {
-    each = sizes-map (splineByte coloring) (markContours Numbers (foundIn job)) ∙ mark-lengths Numbers (foundIn job) ∙ sym laid-out;
-    are-colors = colors-each (splineColor coloring) (markContours Numbers (foundIn job));
-  }
+  -- what the splines get are colours, and the middle run of a teardrop gets one
+  painted-colors : (marking : Marking) (colors : List EdgeColor) → middleValue marking ≡ bitsOf White → splineValues marking (job .distances) (laidIn job) ≡ map bitsOf colors
+      → EachColors (paintContours (middleValue marking) (splineValues marking (job .distances) (laidIn job)) (flagsIn (laidIn job)))
+  painted-colors marking colors middle values =
+      rw (middle, values, ← contours-map bitsOf White colors (flagsIn (laidIn job))) (colors-each (λ (c : EdgeColor). c) (paintContours White colors (flagsIn (laidIn job))))
 
-  all-marked : Marked (coloredEdges job) (edgeColors job)
+  colors-by : (strategy : Strategy)
+      → let marking = Colors strategy (job .seed) in
+      EachColors (paintContours (middleValue marking) (splineValues marking (job .distances) (laidIn job)) (flagsIn (laidIn job)))
+  unfolding splineValues
+  colors-by strategy = painted-colors (Colors strategy (job .seed)) (shapeColors strategy (initColor (job .seed)) (laidIn job)) refl refl
+
+  colors-by-distance : let marking = Distances (job .seed) in
+      EachColors (paintContours (middleValue marking) (splineValues marking (job .distances) (laidIn job)) (flagsIn (laidIn job)))
+  unfolding splineValues
+  colors-by-distance =
+      let coloring = colorSplines (splineTotal (laidIn job)) (job .distances) (job .seed) in
+      painted-colors (Distances (job .seed)) (map splineColor coloring) refl (sym (map-map bitsOf splineColor coloring))
+
+  are-colors-all : EachColors (edgeColors job)
   unfolding edgeColors
-  all-marked = go (eqb (job .strategy) 1) (eqb (job .strategy) 2) (by-colors Simple) (by-colors InkTrap) (by-numbers (colorSplines (splineTotal (foundIn job)) (job .distances) (job .seed)))
+  are-colors-all = go (eqb (job .strategy) 1) (eqb (job .strategy) 2)
     where
-      go : (a b : Bool) {x y z : List (List ℕ)} → Marked (coloredEdges job) x → Marked (coloredEdges job) y → Marked (coloredEdges job) z → Marked (coloredEdges job) (cond a x (cond b y z))
-      go true b x y z = x
-      go false true x y z = y
-      go false false x y z = z
+      go : (a b : Bool)
+          → let marking = cond a (Colors Simple (job .seed)) (cond b (Colors InkTrap (job .seed)) (Distances (job .seed))) in
+          EachColors (paintContours (middleValue marking) (splineValues marking (job .distances) (laidIn job)) (flagsIn (laidIn job)))
+      go true b = colors-by Simple
+      go false true = colors-by InkTrap
+      go false false = colors-by-distance
+
+  -- a byte for each edge
+  bytes-each : sizes (edgeColors job) ≡ sizes (coloredEdges job)
+  unfolding edgeColors coloredEdges laidIn
+  bytes-each = painted-sizes found found-flagged _ _
 
   contours-kept : length (coloredEdges job) ≡ length (job .contours)
-  unfolding coloredEdges foundIn
-  contours-kept = length-map (foundIn job) layout ∙ length-map (job .contours) (searchCorners (job .threshold))
+  unfolding coloredEdges laidIn
+  contours-kept = length-map (map layout found) _ ∙ length-map found layout ∙ length-map (job .contours) (searchCorners (job .threshold))
 
   module _ (file : List ℕ) (e : readJob file ≡ reads job) where
-    out-few : edgesOut (foundIn job) ≤ 508
-    unfolding foundIn
+    out-few : length (flatten (coloredEdges job)) ≤ 508
+    unfolding coloredEdges laidIn
     out-few =
-        let found = foundIn job in
-        let edges : edgesIn found ≡ edgeCount (job .contours) = ap total (all-in (job .threshold) (job .contours)) ∙ sym (concat-length (job .contours)) in
-        edges-most (length found) (edgesIn found) (edgesOut found) (few found)
-        (omega (arith, length-map (job .contours) (searchCorners (job .threshold)), contours-few file job e)) (omega (arith, edges, edges-few file job e))
+        let edges : total (sizes (flagsIn found)) ≡ edgeCount (job .contours) = ap total (flags-in (job .threshold) (job .contours)) ∙ sym (flatten-length (job .contours)) in
+        let contours : length (flagsIn found) ≡ length (job .contours) = length-map found _ ∙ length-map (job .contours) (searchCorners (job .threshold)) in
+        let most = edges-most (flagsIn found) (omega (arith, contours, contours-few file job e)) (omega (arith, edges, edges-few file job e)) in
+        omega (arith, flatten-length (edgesIn (map layout found)), ap total (laid-sizes found found-flagged), most)
 
     pub shape-of : ShapeOf job
     unfolding colored
     shape-of = record {
       contours-are = contours-kept;
       contours-fit = omega (arith, contours-kept, contours-few file job e);
-      edges-fit = omega (arith, concat-length (coloredEdges job), ap total laid-out, out-few);
-      marked = all-marked .each;
-      are-colors = all-marked .are-colors;
-      sized = encoded-sized (coloredEdges job) (edgeColors job) (all-marked .each);
+      edges-fit = out-few;
+      marked = bytes-each;
+      are-colors = are-colors-all;
+      sized = encoded-sized (coloredEdges job) (edgeColors job) bytes-each;
     }

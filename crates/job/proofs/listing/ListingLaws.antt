@@ -1,7 +1,7 @@
 -- The text of an answer: its numbers of up to three digits, and how long it can get.
 use mathlib.Core.Path.{_≡_, refl, ap, _∙_}
 use mathlib.Core.Bool.{Bool, true, false}
-use mathlib.Core.List.{List, [], _∷_, _++_, append-assoc}
+use mathlib.Core.List.{List, [], _∷_, _++_, append-assoc, flatten}
 use Prim.Native.Nat.{ℕ, suc, _+_, _*_, _/_, _%_, _<_, _≤_}
 use native.Mathlib.Omega.{arith}
 use lib.ListN.{length, take, drop, getD, length-append, length-drop, take-append-drop}
@@ -11,7 +11,7 @@ use lib.Dec.{leb, ltb}
 use borrow.Author.Tests.{lt-ltb, le-ltb, leb-true, leb-false}
 use Rattle.graph.specs.Refusal.{refusalNumber}
 use Rattle.graph.specs.declared.refusal.Refusal.{Refusal}
-use Rattle.coloring.specs.Places.{concat, total}
+use Rattle.coloring.specs.Places.{total}
 use Rattle.coloring.specs.Outline.{cut}
 use Rattle.job.specs.Listing.{digit, decimal, decimalWithin, letter, space, newline, edgesWord, refusedWord, field, line, contourLines, shapeLines, countLine, listing, refusalLine}
 
@@ -92,13 +92,13 @@ contour-few contour place (kind ∷ kinds) (color ∷ colors) h k l =
 abbrev pub EachColors : List (List ℕ) → Type 0
 EachColors colors = (i : ℕ) → AreColors (getD colors i [])
 
-shape-few : (contour : ℕ) (kinds colors : List (List ℕ)) → contour + length kinds ≤ 100 → length (concat kinds) ≤ 1000 → EachColors colors
-    → length (shapeLines contour kinds colors) ≤ 11 * length (concat kinds)
-unfolding shapeLines concat
+shape-few : (contour : ℕ) (kinds colors : List (List ℕ)) → contour + length kinds ≤ 100 → length (flatten kinds) ≤ 1000 → EachColors colors
+    → length (shapeLines contour kinds colors) ≤ 11 * length (flatten kinds)
+unfolding shapeLines flatten
 shape-few contour [] colors h k l = omega arith
 shape-few contour (here ∷ kinds) [] h k l = omega arith
 shape-few contour (here ∷ kinds) (marked ∷ colors) h k l =
-    let sum = length-append here (concat kinds) in
+    let sum = length-append here (flatten kinds) in
     omega (
       arith,
       sum,
@@ -108,10 +108,10 @@ shape-few contour (here ∷ kinds) (marked ∷ colors) h k l =
     )
 
 -- the longest text: 508 lines of 11 bytes, and the count's line of 10
-pub listing-few : (kinds colors : List (List ℕ)) → length kinds ≤ 64 → length (concat kinds) ≤ 508 → EachColors colors → length (listing kinds colors) ≤ 5598
+pub listing-few : (kinds colors : List (List ℕ)) → length kinds ≤ 64 → length (flatten kinds) ≤ 508 → EachColors colors → length (listing kinds colors) ≤ 5598
 unfolding listing
 listing-few kinds colors h k l =
-    let n = length (concat kinds) in
+    let n = length (flatten kinds) in
     omega (arith, length-append (shapeLines 0 kinds colors) (countLine n), shape-few 0 kinds colors (omega arith) (omega arith) l, count-length n, three-digits n (omega arith))
   where
     count-length : (n : ℕ) → length (countLine n) ≡ length (decimal n) + 7
@@ -153,8 +153,8 @@ total-step contour lengths h = rw (drop-cons lengths contour 0 h, add-one contou
 -- ---- the whole text
 
 -- all edges of a shape that is cut out of one list
-concat-cut : {A : Type 0} (lengths : List ℕ) (xs : List A) → total lengths ≡ length xs → concat (cut lengths xs) ≡ xs
-unfolding total concat cut
+concat-cut : {A : Type 0} (lengths : List ℕ) (xs : List A) → total lengths ≡ length xs → flatten (cut lengths xs) ≡ xs
+unfolding total flatten cut
 concat-cut [] [] e = refl
 concat-cut [] (x ∷ xs) e = absurd (omega arith)
 concat-cut (n ∷ lengths) xs e = rw (concat-cut lengths (drop n xs) (rw length-drop (omega arith))) (take-append-drop n xs)

@@ -1,7 +1,7 @@
 -- How far a file is read: the counts that the code keeps are those of the job so far, and the records ahead decide the rest.
 use mathlib.Core.Path.{_≡_, refl, sym, ap, subst, _∙_}
 use mathlib.Core.Bool.{Bool, true, false, _&&_}
-use mathlib.Core.List.{List, [], _∷_, _++_, append-nil, append-assoc}
+use mathlib.Core.List.{List, [], _∷_, _++_, append-nil, append-assoc, flatten}
 use Prim.Native.Nat.{ℕ, zero, suc, _+_, _*_, _-_, _<_, _≤_, _^_}
 use native.Mathlib.Omega.{arith}
 use lib.ListN.{length, drop, length-append, length-drop}
@@ -15,7 +15,6 @@ use Rattle.graph.specs.declared.refusal.Refusal.{Refusal}
 use Rattle.graph.specs.Bools.{and-left}
 use Rattle.graph.specs.Lists.{all}
 use Rattle.coloring.specs.Outline.{between}
-use Rattle.coloring.specs.Places.{concat}
 use Rattle.job.specs.declared.records.Phase.{Phase}
 use Rattle.job.specs.declared.records.Phase.the-variants.{Start, Outside, Inside, Closing}
 use Rattle.job.specs.declared.records.State.{State}
@@ -34,15 +33,15 @@ with-edge-length [] e = refl
 with-edge-length (c ∷ []) e = refl
 with-edge-length (c ∷ d ∷ contours) e = ap suc (with-edge-length (d ∷ contours) e)
 
-pub with-edge-concat : (contours : List (List EdgeSegment)) (e : EdgeSegment) → 0 < length contours → concat (withEdge contours e) ≡ concat contours ++ (e ∷ [])
-unfolding withEdge concat
+pub with-edge-concat : (contours : List (List EdgeSegment)) (e : EdgeSegment) → 0 < length contours → flatten (withEdge contours e) ≡ flatten contours ++ (e ∷ [])
+unfolding withEdge flatten
 with-edge-concat [] e h = absurd (omega arith)
 with-edge-concat (c ∷ []) e h = append-nil (c ++ (e ∷ [])) ∙ ap (λ (x : List EdgeSegment). x ++ (e ∷ [])) (sym (append-nil c))
 with-edge-concat (c ∷ d ∷ contours) e h =
-    ap (λ (x : List EdgeSegment). c ++ x) (with-edge-concat (d ∷ contours) e (omega arith)) ∙ sym (append-assoc c (concat (d ∷ contours)) (e ∷ []))
+    ap (λ (x : List EdgeSegment). c ++ x) (with-edge-concat (d ∷ contours) e (omega arith)) ∙ sym (append-assoc c (flatten (d ∷ contours)) (e ∷ []))
 
-pub more-concat : (contours : List (List EdgeSegment)) → concat (contours ++ ([] ∷ [])) ≡ concat contours
-unfolding concat
+pub more-concat : (contours : List (List EdgeSegment)) → flatten (contours ++ ([] ∷ [])) ≡ flatten contours
+unfolding flatten
 more-concat [] = refl
 more-concat (c ∷ contours) = ap (λ (x : List EdgeSegment). c ++ x) (more-concat contours)
 
@@ -72,11 +71,11 @@ Ready job (distances ds) = Unit
 
 progress-next : (at : ℕ) (phase : Phase) (job : Job) (r : Record) → Ready job r
     → advanced (progressAt at phase job) (itemOf r) ≡ progressAt (at + recordSize r) (phaseAfter phase r) (enter job r)
-unfolding advanced enter concat
+unfolding advanced enter flatten
 progress-next at phase job (header strategy seed threshold) ready = refl
 progress-next at phase job contour ready = rw (length-append (job .contours) ([] ∷ []), more-concat (job .contours))
 progress-next at phase job (edge e) ready =
-    rw (with-edge-length (job .contours) e, with-edge-concat (job .contours) e ready, length-append (concat (job .contours)) (e ∷ []))
+    rw (with-edge-length (job .contours) e, with-edge-concat (job .contours) e ready, length-append (flatten (job .contours)) (e ∷ []))
 progress-next at phase job (distances ds) ready = refl
 
 -- ---- a job whose floats lie within their ranges
@@ -84,11 +83,11 @@ progress-next at phase job (distances ds) ready = refl
 pub record Sound (job : Job) : Type 0 where
   pub threshold-fits : between (Ieee.neg f1) (job .threshold) f1 ≡ true
   pub threshold-back : ofBits binary64 (toBits binary64 (job .threshold)) ≡ job .threshold
-  pub coordinates-fit : all edgeFits (concat (job .contours)) ≡ true
+  pub coordinates-fit : all edgeFits (flatten (job .contours)) ≡ true
   pub distances-few : length (job .distances) ≤ 2016
 
 sound-begin : Sound noJob
-unfolding concat all toBits ofBits Ieee.neg Ieee.le
+unfolding flatten all toBits ofBits Ieee.neg Ieee.le
 sound-begin = record { threshold-fits = refl; threshold-back = refl; coordinates-fit = refl; distances-few = omega arith }
 
 all-snoc : {A : Type 0} (test : A → Bool) (xs : List A) (x : A) → all test xs ≡ true → test x ≡ true → all test (xs ++ (x ∷ [])) ≡ true
@@ -110,7 +109,7 @@ sound-next job (edge e) bytes is-ready held fits so =
     record {
       threshold-fits = so .threshold-fits;
       threshold-back = so .threshold-back;
-      coordinates-fit = rw (with-edge-concat (job .contours) e is-ready) (all-snoc edgeFits (concat (job .contours)) e (so .coordinates-fit) fits);
+      coordinates-fit = rw (with-edge-concat (job .contours) e is-ready) (all-snoc edgeFits (flatten (job .contours)) e (so .coordinates-fit) fits);
       distances-few = so .distances-few;
     }
 sound-next job (distances ds) bytes is-ready held fits so =
@@ -138,7 +137,7 @@ pub record Reached (file : List ℕ) (p : Progress) : Type 0 where
   pub sound : Sound job
 
 pub reached-begin : (file : List ℕ) → Reached file begin
-unfolding readJob concat toBits ofBits
+unfolding readJob flatten toBits ofBits
 reached-begin file = record {
   job = noJob;
   counted = refl;
@@ -231,11 +230,11 @@ contours-after job s (edge x) e h few = rw (with-edge-length (job .contours) x) 
 contours-after job s (distances ds) e h few = few
 
 edges-after : (job : Job) (s : State) (r : Record) → Ready job r → s .edges ≡ edgeCount (job .contours) → fits s (recordMark r) ≡ true → edgeCount (job .contours) ≤ 256 → edgeCount (enter job r .contours) ≤ 256
-unfolding enter concat
+unfolding enter flatten
 edges-after job s (header strategy seed threshold) is-ready e h few = few
 edges-after job s contour is-ready e h few = rw (more-concat (job .contours)) few
 edges-after job s (edge x) is-ready e h few =
-    rw (with-edge-concat (job .contours) x is-ready, length-append (concat (job .contours)) (x ∷ [])) (omega (arith, ltb-true (s .edges) 256 h))
+    rw (with-edge-concat (job .contours) x is-ready, length-append (flatten (job .contours)) (x ∷ [])) (omega (arith, ltb-true (s .edges) 256 h))
 edges-after job s (distances ds) is-ready e h few = few
 
 record-few : (bytes : List ℕ) (r : Record) → Held r bytes → recordSize r ≤ 4 + 8 * 2016
@@ -253,7 +252,7 @@ among-besides Closing h = cc
 size-after : (job : Job) (s : State) (at : ℕ) (r : Record) → Ready job r → allowed s (recordMark r) ≡ true → recordSize r ≤ 4 + 8 * 2016
     → at ≤ besides (s .phase) + 2 * length (job .contours) + 66 * edgeCount (job .contours)
     → at + recordSize r ≤ besides (after s r .phase) + 2 * length (enter job r .contours) + 66 * edgeCount (enter job r .contours)
-unfolding enter concat
+unfolding enter flatten
 size-after job s at (header strategy seed threshold) is-ready may few h = omega (arith, start (s .phase) may)
   where
     start : (phase : Phase) → atStart phase ≡ true → besides phase ≡ 0
@@ -263,7 +262,7 @@ size-after job s at (header strategy seed threshold) is-ready may few h = omega 
     start Closing h = cc
 size-after job s at contour is-ready may few h = rw (length-append (job .contours) ([] ∷ []), more-concat (job .contours)) (omega (arith, among-besides (s .phase) may))
 size-after job s at (edge e) is-ready may few h =
-    rw (with-edge-length (job .contours) e, with-edge-concat (job .contours) e is-ready, length-append (concat (job .contours)) (e ∷ [])) (omega (arith, controls-few (kindOf e)))
+    rw (with-edge-length (job .contours) e, with-edge-concat (job .contours) e is-ready, length-append (flatten (job .contours)) (e ∷ [])) (omega (arith, controls-few (kindOf e)))
 size-after job s at (distances ds) is-ready may few h = omega (arith, among-besides (s .phase) (and-left (among (s .phase)) (byDistance (s .strategy)) may))
 
 -- a record, read at such a place

@@ -1,7 +1,7 @@
 -- The buffers follow the job: after each record they hold the job so far, over what stood there.
 use mathlib.Core.Path.{_≡_, refl, sym, ap, subst, _∙_}
 use mathlib.Core.Bool.{Bool, true, false, _&&_}
-use mathlib.Core.List.{List, [], _∷_, _++_}
+use mathlib.Core.List.{List, [], _∷_, _++_, flatten}
 use Prim.Native.Nat.{ℕ, _+_, _*_, _-_, _<_, _≤_}
 use native.Mathlib.Omega.{arith}
 use lib.Dec.{leb}
@@ -12,7 +12,6 @@ use Rattle.geometry.specs.declared.edge_segment.EdgeSegment.{EdgeSegment}
 use Rattle.geometry.specs.EdgeSegment.{toStored}
 use Rattle.graph.specs.declared.refusal.Refusal.{Refusal}
 use Rattle.graph.specs.Lists.{over}
-use Rattle.coloring.specs.Places.{concat}
 use Rattle.coloring.specs.Sizes.{sizes, places-length, points-length}
 use Rattle.job.specs.declared.records.State.{State}
 use Rattle.job.specs.declared.records.Item.{Item}
@@ -31,14 +30,14 @@ use Rattle.job.proofs.buffers.StoredLaws.{map-snoc, lengths-edge, last-
 -- ---- a job so far is a part of the whole
 
 enter-grows : (job : Job) (r : Record) → (length (job .contours) ≤ length (enter job r .contours)) × (edgeCount (job .contours) ≤ edgeCount (enter job r .contours))
-unfolding enter withEdge concat
+unfolding enter withEdge flatten
 enter-grows job (header strategy seed threshold) = (omega arith, omega arith)
 enter-grows job contour = (omega (arith, length-append (job .contours) ([] ∷ [])), omega (arith, ap length (more-concat (job .contours))))
 enter-grows job (edge e) = (omega (arith, with-edge-length (job .contours) e), more (job .contours))
   where
     more : (contours : List (List EdgeSegment)) → edgeCount contours ≤ edgeCount (withEdge contours e)
     more [] = omega arith
-    more (c ∷ contours) = omega (arith, ap length (with-edge-concat (c ∷ contours) e (omega arith)), length-append (concat (c ∷ contours)) (e ∷ []))
+    more (c ∷ contours) = omega (arith, ap length (with-edge-concat (c ∷ contours) e (omega arith)), length-append (flatten (c ∷ contours)) (e ∷ []))
 enter-grows job (distances ds) = (omega arith, omega arith)
 
 grows : (job whole : Job) (records : Records) → jobFrom job records ≡ reads whole
@@ -105,8 +104,8 @@ fitting : (job : Job) (old : Buffers) (contours edges : ℕ) → length (job .co
 unfolding stored
 fitting job old contours edges h k room = record {
   lengths-fit = omega (arith, length-map (job .contours) (λ (c : List EdgeSegment). length c), room .contours-fit);
-  kinds-fit = omega (arith, kinds-length (concat (job .contours)), room .edges-fit);
-  points-fit = omega (arith, points-length (concat (job .contours)), room .places-fit);
+  kinds-fit = omega (arith, kinds-length (flatten (job .contours)), room .edges-fit);
+  points-fit = omega (arith, points-length (flatten (job .contours)), room .places-fit);
   distances-fit = room .distances-fit;
 }
 
@@ -121,7 +120,7 @@ module _ (job : Job) (old : Buffers) (s : State) (bytes : List ℕ) (contours-at
   contours = job .contours
 
   abbrev edges : List EdgeSegment
-  edges = concat contours
+  edges = flatten contours
 
   count : length (sizes contours) ≡ length contours
   count = length-map contours (λ (c : List EdgeSegment). length c)
@@ -144,13 +143,13 @@ module _ (job : Job) (old : Buffers) (s : State) (bytes : List ℕ) (contours-at
       → written (itemOf (edge e)) s bytes (overEach (stored job) old) ≡ overEach (stored (enter job (edge e))) old
   unfolding written overEach stored enter placesFrom
   written-edge e opened fit held =
-      let all : concat (withEdge contours e) ≡ edges ++ (e ∷ []) = with-edge-concat contours e opened in
+      let all : flatten (withEdge contours e) ≡ edges ++ (e ∷ []) = with-edge-concat contours e opened in
       let last : s .contours - 1 ≡ length contours - 1 = omega arith in
       let inside : length contours - 1 < length (sizes contours) = omega (arith, count) in
       let fewer : length (sizes contours) ≤ length (old .lengths) = omega (arith, count, fit .lengths-fit, length-map (withEdge contours e) (λ (c : List EdgeSegment). length c), with-edge-length contours e) in
       let at : s .edges ≡ length (kindsOf edges) = edges-at ∙ sym (kinds-length edges) in
-      let kinds : kindsOf (concat (withEdge contours e)) ≡ kindsOf edges ++ (kindNumber (kindOf e) ∷ []) = ap kindsOf all ∙ kinds-edge edges e ∙ ap (λ (n : ℕ). kindsOf edges ++ (n ∷ [])) (kind-number e) in
-      let points : placesOf (concat (withEdge contours e)) ≡ placesOf edges ++ toStored e .points = ap placesOf all ∙ places-edge edges e in
+      let kinds : kindsOf (flatten (withEdge contours e)) ≡ kindsOf edges ++ (kindNumber (kindOf e) ∷ []) = ap kindsOf all ∙ kinds-edge edges e ∙ ap (λ (n : ℕ). kindsOf edges ++ (n ∷ [])) (kind-number e) in
+      let points : placesOf (flatten (withEdge contours e)) ≡ placesOf edges ++ toStored e .points = ap placesOf all ∙ places-edge edges e in
       same
       (rw (last, over-getD (sizes contours) (old .lengths) (length contours - 1) 0 inside) (over-set (sizes contours) (old .lengths) (length contours - 1) _ inside fewer)
       ∙ ap (λ (x : List ℕ). over x (old .lengths)) (sym (lengths-edge contours e opened)))
@@ -187,8 +186,8 @@ module _ (job : Job) (old : Buffers) (s : State) (bytes : List ℕ) (contours-at
   room-edge e opened few whole fit =
       let all : edgeCount (withEdge contours e) ≡ edgeCount contours + 1 = ap length (with-edge-concat contours e opened) ∙ length-append edges (e ∷ []) in
       let lengths-in : length (sizes contours) ≤ length (old .lengths) = omega (arith, count, fit .lengths-fit, length-map (withEdge contours e) (λ (c : List EdgeSegment). length c), with-edge-length contours e) in
-      let kinds-in : edgeCount contours + 1 ≤ length (old .kinds) = omega (arith, fit .kinds-fit, kinds-length (concat (withEdge contours e)), all) in
-      let points-in : 8 * (edgeCount contours + 1) ≤ length (old .points) = omega (arith, fit .points-fit, points-length (concat (withEdge contours e)), all) in
+      let kinds-in : edgeCount contours + 1 ≤ length (old .kinds) = omega (arith, fit .kinds-fit, kinds-length (flatten (withEdge contours e)), all) in
+      let points-in : 8 * (edgeCount contours + 1) ≤ length (old .points) = omega (arith, fit .points-fit, points-length (flatten (withEdge contours e)), all) in
       let last : s .contours - 1 ≡ length contours - 1 = omega arith in (
         omega arith,
         omega (arith, over-length (sizes contours) (old .lengths) lengths-in, count),
@@ -261,7 +260,7 @@ pub record Filling (file : List ℕ) (old : Buffers) (p : Progress) (lengths kin
   pub distances-kept : length distances ≡ length (old .distances)
 
 pub filling-begin : (file : List ℕ) (old : Buffers) → Filling file old begin (old .lengths) (old .kinds) (old .points) (old .distances)
-unfolding overEach stored over concat
+unfolding overEach stored over flatten
 filling-begin file old = record {
   at = reached-begin file;
   holds = rw (begin-job file) (record { lengths-are = refl; kinds-are = refl; points-are = refl; distances-are = refl });

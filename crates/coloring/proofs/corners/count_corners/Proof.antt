@@ -4,19 +4,19 @@ use mathlib.Core.Path.{_≡_, ap}
 use mathlib.Core.Logic.{⊎-elim}
 use Prim.Native.Nat.{_+_, _-_, _≤_}
 use lib.ListN.{length, drop}
-use Rattle.coloring.specs.Corners.{placesFrom, identifyCorners, cornerCount}
+use Rattle.coloring.specs.Corners.{cornersFrom, cornersOf, cornerCount}
 use Rattle.coloring.proofs.corners.FlagLaws.{places-corner, places-none, places-end}
 use Rattle.coloring.proofs.corners.count_corners.Statement.{statement}
 use Rattle.coloring.proofs.corners.count_corners.Tie as tie
 
 abbrev Inv-loop : tie.InvT-loop
-Inv-loop flags count₀ i₀ count i = (i ≤ length flags) × (count ≤ i) × (count + length (placesFrom i (drop i flags)) ≡ cornerCount flags)
+Inv-loop flags count₀ i₀ count i = (i ≤ length flags) × (count ≤ i) × (count + length (cornersFrom i (drop i flags)) ≡ cornerCount flags)
 
 abbrev μ-loop : tie.MeasureT-loop
 μ-loop flags count₀ i₀ count i = length flags - i
 
 loop-holds : tie.Need-loop-holds Inv-loop μ-loop
-unfolding cornerCount identifyCorners
+unfolding cornerCount cornersOf
 loop-holds c = (omega arith, omega arith, omega arith)
 
 shared-slice-read-if1 : tie.Need-shared-slice-read-if1 Inv-loop μ-loop

@@ -40,8 +40,8 @@ loop-holds c =
     let a = start .args in
     let edges = edgesOf (a .kinds .now) (a .points .now) in
     let l = edges-length (a .kinds .now) (a .points .now) in
-    let long = all-length (a .threshold) (a .lengths .now) edges (omega (arith, start .pre .1)) in
-    (along-starts _ _ (start .pre .1), start .pre .0 .flagged, sym (over-all (allFlags (a .threshold) (a .lengths .now) edges) (a .flags .now) (omega (arith, start .pre .0 .flagged, start .pre .1))))
+    let long = all-length (a .threshold) (a .lengths .now) edges (omega (arith, start .pre .whole)) in
+    (along-starts _ _ (start .pre .whole), start .pre .matching .flagged, sym (over-all (allFlags (a .threshold) (a .lengths .now) edges) (a .flags .now) (omega (arith, start .pre .matching .flagged, start .pre .whole))))
 
 mul-end : tie.Need-mul-end Inv-loop μ-loop
 mul-end c = omega arith
@@ -50,15 +50,15 @@ shared-slice-read-end : tie.Need-shared-slice-read-end Inv-loop μ-loop
 shared-slice-read-end c = omega arith
 
 cast-end : tie.Need-cast-end Inv-loop μ-loop
-cast-end c = omega (arith, room (c .before), start (c .before) .pre .0 .few)
+cast-end c = omega (arith, room (c .before), start (c .before) .pre .matching .few)
 
 add-end : tie.Need-add-end Inv-loop μ-loop
-add-end c = omega (arith, room (c .before), start (c .before) .pre .0 .few)
+add-end c = omega (arith, room (c .before), start (c .before) .pre .matching .few)
 
 identify-part-requires : tie.Need-identify-part-requires Inv-loop μ-loop
 identify-part-requires c κs =
     let turn = c .before .before in
-    let pre = start turn .pre .0 in
+    let pre = start turn .pre .matching in
     record { matching = record { places = pre .places; flagged = turn .before .loop .inv .1; few = pre .few }; start = omega arith; inside = room turn }
 
 add-i : tie.Need-add-i Inv-loop μ-loop
@@ -101,7 +101,7 @@ returns c =
     let edges = edgesOf (a .kinds .now) (a .points .now) in
     let flags : at .flags ≡ allFlags (a .threshold) (a .lengths .now) edges =
     sym (at .inv .2 ∙ rw (all-end (a .threshold) (a .lengths .now) edges (at .i) (at .at) (c .loop-test .left)) (over-nothing (at .at) (at .flags))) in
-    rw flags (all-cut (a .threshold) (a .lengths .now) edges (omega (arith, start .pre .1, edges-length (a .kinds .now) (a .points .now))))
+    rw flags (all-cut (a .threshold) (a .lengths .now) edges (omega (arith, start .pre .whole, edges-length (a .kinds .now) (a .points .now))))
 
 pub find-corners-spec : {M : Type 1} → statement M
 find-corners-spec =

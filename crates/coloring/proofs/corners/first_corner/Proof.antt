@@ -4,19 +4,19 @@ use mathlib.Core.Path.{_≡_, refl, sym, ap, _∙_}
 use mathlib.Core.List.{List}
 use Prim.Native.Nat.{ℕ, _-_, _≤_}
 use lib.ListN.{length, drop, getD}
-use Rattle.coloring.specs.Corners.{placesFrom, identifyCorners, firstCorner}
+use Rattle.coloring.specs.Corners.{cornersFrom, cornersOf, firstCorner}
 use Rattle.coloring.proofs.corners.FlagLaws.{places-corner, places-none, places-end}
 use Rattle.coloring.proofs.corners.first_corner.Statement.{statement}
 use Rattle.coloring.proofs.corners.first_corner.Tie as tie
 
 abbrev Inv-loop : tie.InvT-loop
-Inv-loop flags i₀ i = (i ≤ length flags) × (identifyCorners flags ≡ placesFrom i (drop i flags))
+Inv-loop flags i₀ i = (i ≤ length flags) × (cornersOf flags ≡ cornersFrom i (drop i flags))
 
 abbrev μ-loop : tie.MeasureT-loop
 μ-loop flags i₀ i = length flags - i
 
 loop-holds : tie.Need-loop-holds Inv-loop μ-loop
-unfolding identifyCorners
+unfolding cornersOf
 loop-holds c = (omega arith, refl)
 
 shared-slice-read-if1 : tie.Need-shared-slice-read-if1 Inv-loop μ-loop

@@ -1,13 +1,16 @@
 -- `lay_out_contour` meets its contract: split, or copied.
 use borrow.Author.Needs.{needs}
-use mathlib.Core.Path.{_≡_, sym, _∙_}
+use mathlib.Core.Path.{_≡_, sym, ap, _∙_}
 use mathlib.Core.Bool.{true, false}
+use Prim.Native.Nat.{ℕ, _*_}
 use native.Mathlib.Omega.{arith}
+use lib.ListN.{length}
 use Rattle.coloring.specs.Corners.{Cornered}
-use Rattle.coloring.specs.Layout.{splits}
-use Rattle.coloring.specs.Outline.{whole}
-use Rattle.coloring.specs.Sizes.{edges-split, edges-same, layout-split, layout-same, split-few}
+use Rattle.coloring.specs.Layout.{splits, firstOnly, splitContour}
+use Rattle.coloring.specs.Outline.{whole, edgesOf}
+use Rattle.coloring.specs.Sizes.{edges-split, edges-same, layout-split, layout-same, split-length, split-few}
 use Rattle.coloring.proofs.corners.FlagLaws.{first-within}
+use Rattle.coloring.proofs.outline.EdgeLaws.{edges-length}
 use Rattle.coloring.proofs.layout.lay_out_contour.Statement.{statement}
 use Rattle.coloring.proofs.layout.lay_out_contour.Tie as tie
 
@@ -15,14 +18,39 @@ abbrev contour : tie.Start → Cornered
 contour c = whole (c .args .kinds .now) (c .args .points .now) (c .args .flags .now)
 
 module _ (c : tie.After-splits) where
+  abbrev known : tie.After-slice-known
+  known = c .before .before .before
+
   abbrev start : tie.Start
-  start = c .before .before .before .before .before .before
+  start = known .before .before .before .before
 
-split : (c : tie.Then1) → splits (start (c .before) .args .flags .now) ≡ true
-split c = sym (c .before .splits .ensures) ∙ c .if1 .taken
+-- it is split
+module _ (c : tie.Then1) where
+  abbrev s : tie.Start
+  s = start (c .before)
 
-same : (c : tie.Else1) → splits (start (c .before) .args .flags .now) ≡ false
-same c = sym (c .before .splits .ensures) ∙ c .if1 .left
+  split : splits (s .args .flags .now) ≡ true
+  split = sym (c .before .splits .ensures) ∙ c .if1 .taken
+
+  -- into so many edges
+  abbrev n : ℕ
+  n = 3 * length (s .args .kinds .now)
+
+  long : length (s .args .out-kinds .now) ≡ n
+  long = s .pre .1 .0 ∙ edges-split _ split ∙ omega (arith, s .pre .0 .0 .flagged)
+
+  flags-long : length (s .args .out-flags .now) ≡ length (splitContour (contour s) .edges)
+  flags-long =
+      s .pre .0 .1 ∙ edges-split _ split
+      ∙ omega (arith, s .pre .0 .0 .flagged, split-length (contour s), edges-length (s .args .kinds .now) (s .args .points .now))
+
+-- it is not
+module _ (c : tie.Else1) where
+  same : splits (start (c .before) .args .flags .now) ≡ false
+  same = sym (c .before .splits .ensures) ∙ c .if1 .left
+
+  same-edges : length (start (c .before) .args .out-kinds .now) ≡ length (start (c .before) .args .flags .now)
+  same-edges = start (c .before) .pre .1 .0 ∙ edges-same _ same
 
 splits-requires : tie.Need-splits-requires
 splits-requires c κs = search needs
@@ -33,13 +61,16 @@ first-corner-requires c κs = search needs
 split-edges-requires : tie.Need-split-edges-requires
 split-edges-requires c κs =
     let branch = c .before .before .before in
-    let s = start (branch .before) in
-    let m = s .pre .0 in
+    let s = s branch in
+    let m = s .pre .0 .0 in
     let few = split-few (s .args .flags .now) (split branch) in
     let inside = first-within (s .args .flags .now) (omega (arith, few .0)) in (
       (m .places, omega (arith, few .1, m .flagged), rw (c .before .before .first-corner .ensures) (omega (arith, inside, m .flagged))),
-      (s .pre .1 .0 ∙ edges-split _ (split branch) ∙ omega (arith, m .flagged), s .pre .1 .1),
+      (long branch, s .pre .1 .1),
     )
+
+flag-first-requires : tie.Need-flag-first-requires
+flag-first-requires c κs = search needs
 
 same-length : tie.Need-same-length
 same-length c = search needs
@@ -47,30 +78,46 @@ same-length c = search needs
 same-length-2 : tie.Need-same-length-2
 same-length-2 c = search needs
 
+same-length-3 : tie.Need-same-length-3
+same-length-3 c = search needs
+
 returns : tie.Need-returns
+unfolding splitContour
 returns c =
-    let edges = c .before .before .before .before in
+    let flags = c .before .before in
+    let edges = flags .before .before .before .before .before .before in
     let corner = edges .before .before .before in
     let branch = corner .before in
-    rw (layout-split (contour (start (branch .before))) (split branch), ← corner .first-corner .ensures) (edges .split-edges .ensures)
+    rw (layout-split (contour (s branch)) (split branch), ← corner .first-corner .ensures)
+    (record { edges-are = edges .split-edges .ensures; flags-are = flags .flag-first .ensures ∙ ap firstOnly (rw (← corner .first-corner .ensures) at (flags-long branch)) })
 
 copy-edges-requires : tie.Need-copy-edges-requires
 copy-edges-requires c κs =
-    let s = start (c .before .before .before) in
-    let m = s .pre .0 in
-    let edges = s .pre .1 .0 ∙ edges-same _ (same (c .before .before)) in
-    ((m .places, edges ∙ m .flagged), omega (arith, edges, m .flagged, s .pre .1 .1))
+    let branch = c .before .before in
+    let s = start (branch .before) in
+    let m = s .pre .0 .0 in
+    ((m .places, same-edges branch ∙ m .flagged), omega (arith, same-edges branch, m .flagged, s .pre .1 .1))
 
-same-length-3 : tie.Need-same-length-3
-same-length-3 c = search needs
+copy-flags-requires : tie.Need-copy-flags-requires
+copy-flags-requires c κs =
+    let branch = c .before .before .before .before .before .before .before .before in
+    start (branch .before) .pre .0 .1 ∙ edges-same _ (same branch)
 
 same-length-4 : tie.Need-same-length-4
 same-length-4 c = search needs
 
+same-length-5 : tie.Need-same-length-5
+same-length-5 c = search needs
+
+same-length-6 : tie.Need-same-length-6
+same-length-6 c = search needs
+
 returns-2 : tie.Need-returns-2
 returns-2 c =
-    let branch = c .before .before .before .before .before .before .before in
-    rw (layout-same (contour (start (branch .before))) (same branch)) (c .before .before .before .before .copy-edges .ensures)
+    let flags = c .before .before in
+    let edges = flags .before .before .before .before .before .before in
+    let branch = edges .before .before .before in
+    rw (layout-same (contour (start (branch .before))) (same branch)) (record { edges-are = edges .copy-edges .ensures; flags-are = flags .copy-flags .ensures })
 
 pub lay-out-contour-spec : {M : Type 1} → statement M
 lay-out-contour-spec =
@@ -79,10 +126,14 @@ lay-out-contour-spec =
     splits-requires
     first-corner-requires
     split-edges-requires
+    flag-first-requires
     same-length
     same-length-2
+    same-length-3
     returns
     copy-edges-requires
-    same-length-3
+    copy-flags-requires
     same-length-4
+    same-length-5
+    same-length-6
     returns-2)

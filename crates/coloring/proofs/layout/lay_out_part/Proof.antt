@@ -2,15 +2,14 @@
 use borrow.Author.Needs.{needs}
 use borrow.Rule.Slice.PartMut.{mid-len}
 use mathlib.Core.Path.{_≡_, ap, _∙_}
-use mathlib.Core.List.{map}
+use mathlib.Core.List.{map, flatten}
 use Prim.Native.Nat.{_*_, _-_}
 use native.Mathlib.Omega.{arith}
 use lib.ListN.{length, length-take, length-drop, length-map}
 use Rattle.graph.proofs.Writing.{over-part}
-use Rattle.coloring.specs.Places.{concat}
 use Rattle.coloring.specs.Layout.{layout}
 use Rattle.coloring.specs.Outline.{kindOf, placesOf, part}
-use Rattle.coloring.specs.Sizes.{layout-length, points-length}
+use Rattle.coloring.specs.Sizes.{layout-length, layout-flagged, points-length}
 use Rattle.coloring.proofs.outline.EdgeLaws.{edges-length, edges-between, part-matching}
 use Rattle.coloring.proofs.layout.lay_out_part.Statement.{statement}
 use Rattle.coloring.proofs.layout.lay_out_part.Tie as tie
@@ -78,36 +77,57 @@ part-lay-out-contour-start-5 c = sub-lay-out-contour-5 c
 part-lay-out-contour-end-5 : tie.Need-part-lay-out-contour-end-5
 part-lay-out-contour-end-5 c = search needs
 
+sub-lay-out-contour-6 : tie.Need-sub-lay-out-contour-6
+sub-lay-out-contour-6 c = sub-lay-out-contour-4 (c .before .before)
+
+part-lay-out-contour-start-6 : tie.Need-part-lay-out-contour-start-6
+part-lay-out-contour-start-6 c = sub-lay-out-contour-6 c
+
+part-lay-out-contour-end-6 : tie.Need-part-lay-out-contour-end-6
+part-lay-out-contour-end-6 c = search needs
+
+module _ (c : tie.After-slice-known3) where
+  abbrev start : tie.Start
+  start = c .before .before .before .before .before .before
+
 lay-out-contour-requires : tie.Need-lay-out-contour-requires
 lay-out-contour-requires c κs =
-    let start = c .before .before .before .before .before .before .before .before .before .before in
-    let a = start .args in
-    let kinds = mid-len (a .to) (a .next) (a .out-kinds .now) (start .pre .1 .0) in
-    let points = mid-len (8 * a .to) (8 * a .next) (a .out-points .now) (start .pre .1 .1) in
-    (part-matching (start .pre .0 .0), (kinds ∙ omega (arith, start .pre .0 .1), points ∙ omega arith))
+    let known = c .before .before .before .before .before .before in
+    let pre = start known .pre in
+    let a = start known .args in
+    let kinds = mid-len (a .to) (a .next) (a .out-kinds .now) (pre .1 .0) in
+    let points = mid-len (8 * a .to) (8 * a .next) (a .out-points .now) (pre .1 .1) in
+    let flags = mid-len (a .to) (a .next) (a .out-flags .now) (pre .1 .2) in
+    ((part-matching (pre .0 .0), flags ∙ omega (arith, pre .0 .1)), (kinds ∙ omega (arith, pre .0 .1), points ∙ omega arith))
 
 same-length : tie.Need-same-length
-same-length c = c .before .before .before .out-kinds .given .1
+same-length c = c .before .before .before .before .before .out-kinds .given .1
 
 same-length-2 : tie.Need-same-length-2
-same-length-2 c = c .before .out-points .given .1
+same-length-2 c = c .before .before .before .out-points .given .1
+
+same-length-3 : tie.Need-same-length-3
+same-length-3 c = c .before .out-flags .given .1
 
 returns : tie.Need-returns
 returns c =
-    let start = c .before .before .before .before .before .before .before .before .before .before .before .before .before .before .before in
+    let called = c .before .before .before .before .before .before in
+    let start = start (called .before .before .before .before .before .before .before) in
     let a = start .args in
     let contour = part (a .kinds .now) (a .points .now) (a .flags .now) (a .at) (a .end) in
-    let done = c .before .before .before .before .lay-out-contour in
+    let result = layout contour in
     let same = edges-between (a .at) (a .end) (a .kinds .now) (a .points .now) (start .pre .0 .0 .start) in
-    let stored = rw same at (done .ensures) in
+    let done = rw same at (called .lay-out-contour .ensures) in
     let eight : 8 * a .next - 8 * a .to ≡ 8 * (a .next - a .to) = omega arith in
-    let long : length (layout contour) ≡ a .next - a .to =
-    layout-length contour (simp (length-take, length-drop) (omega (arith, start .pre .0 .0 .matching .flagged, edges-length (a .kinds .now) (a .points .now)))) ∙ omega (arith, start .pre .0 .1) in
+    let flagged : length (contour .corners) ≡ length (contour .edges) =
+    simp (length-take, length-drop) (omega (arith, start .pre .0 .0 .matching .flagged, edges-length (a .kinds .now) (a .points .now))) in
+    let long : length (result .edges) ≡ a .next - a .to = layout-length contour flagged ∙ omega (arith, start .pre .0 .1) in
     record {
-      kinds-are = rw (stored .kinds-are) (over-part (a .to) (a .next - a .to) (map kindOf (layout contour)) (a .out-kinds .now) (length-map (layout contour) kindOf ∙ long));
+      kinds-are = rw (done .edges-are .kinds-are) (over-part (a .to) (a .next - a .to) (map kindOf (result .edges)) (a .out-kinds .now) (length-map (result .edges) kindOf ∙ long));
       points-are =
-          rw (stored .points-are, eight)
-          (over-part (8 * a .to) (8 * (a .next - a .to)) (concat (map placesOf (layout contour))) (a .out-points .now) (points-length (layout contour) ∙ ap (λ n. 8 * n) long));
+          rw (done .edges-are .points-are, eight)
+          (over-part (8 * a .to) (8 * (a .next - a .to)) (flatten (map placesOf (result .edges))) (a .out-points .now) (points-length (result .edges) ∙ ap (λ n. 8 * n) long));
+      flags-are = rw (done .flags-are) (over-part (a .to) (a .next - a .to) (result .corners) (a .out-flags .now) (layout-flagged contour flagged ∙ long));
     }
 
 pub lay-out-part-spec : {M : Type 1} → statement M
@@ -135,7 +155,11 @@ lay-out-part-spec =
     sub-lay-out-contour-5
     part-lay-out-contour-start-5
     part-lay-out-contour-end-5
+    sub-lay-out-contour-6
+    part-lay-out-contour-start-6
+    part-lay-out-contour-end-6
     lay-out-contour-requires
     same-length
     same-length-2
+    same-length-3
     returns)

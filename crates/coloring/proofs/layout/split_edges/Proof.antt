@@ -1,14 +1,14 @@
 -- `split_edges` meets its contract: after i edges from the corner on, their thirds are stored.
 use native.Mathlib.Omega.{arith}
 use mathlib.Core.Path.{_≡_, refl, ap, _∙_}
-use mathlib.Core.List.{List, _++_, map}
+use mathlib.Core.List.{List, _++_, map, flatten}
 use Prim.Native.Nat.{ℕ, _+_, _-_, _*_, _%_, _≤_, _<_}
 use native.Mathlib.Nat.{mod-lt}
 use native.Mathlib.Numerals.{add-one}
 use lib.ListN.{length, drop, getD, drop-of-length-le}
 use lib.Seq.{drop-cons}
 use Rattle.geometry.specs.declared.edge_segment.EdgeSegment.{EdgeSegment}
-use Rattle.coloring.specs.Places.{rotate, concat}
+use Rattle.coloring.specs.Places.{rotate}
 use Rattle.coloring.specs.Layout.{thirds}
 use Rattle.coloring.specs.Outline.{anyEdge, edgesOf, kindOf, placesOf}
 use Rattle.coloring.specs.Sizes.{length-rotate, thirds-length}
@@ -20,8 +20,8 @@ use Rattle.coloring.proofs.layout.split_edges.Tie as tie
 
 -- the edge after i steps from the corner, in thirds, and those after it
 thirds-next : (edges : List EdgeSegment) (corner i m : ℕ) → length edges ≡ m → corner ≤ m → i < m
-    → concat (map thirds (drop i (rotate corner edges))) ≡ thirds (getD edges ((corner + i) % m) anyEdge) ++ concat (map thirds (drop (i + 1) (rotate corner edges)))
-unfolding concat
+    → flatten (map thirds (drop i (rotate corner edges))) ≡ thirds (getD edges ((corner + i) % m) anyEdge) ++ flatten (map thirds (drop (i + 1) (rotate corner edges)))
+unfolding flatten
 thirds-next edges corner i m l s h =
     rw (
       add-one,
@@ -33,8 +33,8 @@ thirds-next edges corner i m l s h =
 abbrev Inv-loop : tie.InvT-loop
 Inv-loop kinds points corner out-kinds₀ out-points₀ m i₀ out-kinds out-points i =
     (m ≡ length kinds) × (i ≤ m) × (length out-kinds ≡ 3 * m)
-    × Storing (map kindOf (concat (map thirds (rotate corner (edgesOf kinds points))))) (concat (map placesOf (concat (map thirds (rotate corner (edgesOf kinds points))))))
-    (3 * i) out-kinds out-points (concat (map thirds (drop i (rotate corner (edgesOf kinds points)))))
+    × Storing (map kindOf (flatten (map thirds (rotate corner (edgesOf kinds points))))) (flatten (map placesOf (flatten (map thirds (rotate corner (edgesOf kinds points))))))
+    (3 * i) out-kinds out-points (flatten (map thirds (drop i (rotate corner (edgesOf kinds points)))))
 
 abbrev μ-loop : tie.MeasureT-loop
 μ-loop kinds points corner out-kinds₀ out-points₀ m i₀ out-kinds out-points i = m - i
@@ -43,7 +43,7 @@ loop-holds : tie.Need-loop-holds Inv-loop μ-loop
 loop-holds c =
     let start = c .before .before .before .before in
     let edges = edgesOf (start .args .kinds .now) (start .args .points .now) in
-    let l : length (concat (map thirds (rotate (start .args .corner) edges))) ≡ 3 * length (start .args .kinds .now) =
+    let l : length (flatten (map thirds (rotate (start .args .corner) edges))) ≡ 3 * length (start .args .kinds .now) =
     thirds-length (rotate (start .args .corner) edges)
     ∙ ap (λ n. 3 * n) (length-rotate (start .args .corner) edges ∙ edges-length (start .args .kinds .now) (start .args .points .now)) in
     (refl, omega arith, start .pre .1 .0, storing-all _ _ _ (omega arith) (omega (arith, start .pre .1 .1)))
@@ -97,7 +97,7 @@ same-length-2 : tie.Need-same-length-2 Inv-loop μ-loop
 same-length-2 c = omega arith
 
 returns : tie.Need-returns Inv-loop μ-loop
-unfolding concat
+unfolding flatten
 returns c =
     let start = c .before .before .before .before .before .before in
     let at = c .before .loop in

@@ -1,6 +1,6 @@
 -- `count_shape` meets its contract: what was counted is what the contours passed come to.
 use native.Mathlib.Omega.{arith}
-use mathlib.Core.Path.{_≡_}
+use mathlib.Core.Path.{_≡_, refl}
 use mathlib.Core.Bool.{Bool}
 use mathlib.Core.List.{List, map}
 use Prim.Native.Nat.{ℕ, _+_, _-_, _≤_}
@@ -9,9 +9,10 @@ use Rattle.coloring.specs.Places.{total}
 use Rattle.coloring.specs.Layout.{resultEdges}
 use Rattle.coloring.specs.Splines.{splineCount}
 use Rattle.coloring.specs.Outline.{cut}
-use Rattle.coloring.specs.Sizes.{edges-bound}
-use Rattle.coloring.proofs.outline.CutLaws.{Along, along-starts, along-room, along-next, left, left-step, left-end, total-most}
-use Rattle.coloring.proofs.splines.PaintLaws.{splines-twofold}
+use Rattle.coloring.specs.Limits.{maxResultEdges, maxShapeSplines}
+use Rattle.coloring.specs.Sizes.{edges-most}
+use Rattle.coloring.proofs.outline.CutLaws.{Along, along-starts, along-room, along-next, left, left-step, left-end, cut-sizes, cut-length}
+use Rattle.coloring.proofs.splines.PaintLaws.{splines-most}
 use Rattle.coloring.proofs.shape.count_shape.Statement.{statement}
 use Rattle.coloring.proofs.shape.count_shape.Tie as tie
 
@@ -46,11 +47,16 @@ module _ (c : tie.In-loop Inv-loop μ-loop) where
       rw whole (left-step count (start .args .lengths .now) (start .args .flags .now) (s .i) (s .at) (c .loop-test .taken))
 
 -- all contours have few
-few-edges : (c : tie.Start Inv-loop μ-loop) → total (map resultEdges (cut (c .args .lengths .now) (c .args .flags .now))) ≤ 768
-few-edges c = omega (arith, total-most resultEdges 3 edges-bound (c .args .lengths .now) (c .args .flags .now), c .pre .1)
+few-edges : (c : tie.Start Inv-loop μ-loop) → total (map resultEdges (cut (c .args .lengths .now) (c .args .flags .now))) ≤ maxResultEdges
+few-edges c =
+    let sizes = cut-sizes (c .args .lengths .now) (c .args .flags .now) (omega (arith, c .pre .0)) in
+    edges-most (cut (c .args .lengths .now) (c .args .flags .now)) (rw cut-length (c .pre .2)) (rw sizes (omega (arith, c .pre .0, c .pre .1)))
 
-few-splines : (c : tie.Start Inv-loop μ-loop) → total (map splineCount (cut (c .args .lengths .now) (c .args .flags .now))) ≤ 512
-few-splines c = omega (arith, total-most splineCount 2 splines-twofold (c .args .lengths .now) (c .args .flags .now), c .pre .1)
+few-splines : (c : tie.Start Inv-loop μ-loop) → total (map splineCount (cut (c .args .lengths .now) (c .args .flags .now))) ≤ maxShapeSplines
+few-splines c =
+    let contours = cut (c .args .lengths .now) (c .args .flags .now) in
+    let sizes = cut-sizes (c .args .lengths .now) (c .args .flags .now) (omega (arith, c .pre .0)) in
+    omega (arith, rw (sizes, cut-length) at (splines-most contours), c .pre .0, c .pre .1, c .pre .2)
 
 loop-holds : tie.Need-loop-holds Inv-loop μ-loop
 loop-holds c = (along-starts _ _ (c .before .before .pre .0), omega arith, omega arith)
@@ -104,10 +110,14 @@ returns c =
     let start = c .before .before .before .before in
     let a = start .args in
     let edges = left-end resultEdges (a .lengths .now) (a .flags .now) (s .i) (s .at) (c .loop-test .left) in
-    let splines = left-end splineCount (a .lengths .now) (a .flags .now) (s .i) (s .at) (c .loop-test .left) in (
-      (omega (arith, s .inv .1), omega (arith, s .inv .1, few-edges start)),
-      (omega (arith, s .inv .2), omega (arith, s .inv .2, few-splines start)),
-    )
+    let splines = left-end splineCount (a .lengths .now) (a .flags .now) (s .i) (s .at) (c .loop-test .left) in
+    record {
+      contours-are = refl;
+      edges-are = omega (arith, s .inv .1);
+      splines-are = omega (arith, s .inv .2);
+      edges-few = omega (arith, s .inv .1, few-edges start);
+      splines-few = omega (arith, s .inv .2, few-splines start);
+    }
 
 pub count-shape-spec : {M : Type 1} → statement M
 count-shape-spec =

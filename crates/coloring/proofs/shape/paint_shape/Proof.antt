@@ -1,123 +1,164 @@
--- `paint_shape` meets its contract: 4 where the splines are too many, 11 where the count says so, or the edges laid out and marked.
+-- `paint_shape` meets its contract: 11 where the count says so, or the edges laid out and painted.
 use borrow.Author.Needs.{needs}
-use mathlib.Core.Path.{_≡_, sym, ap, subst, _∙_}
-use mathlib.Core.Bool.{Bool, true}
-use mathlib.Core.List.{List, map}
+use mathlib.Core.Path.{_≡_, refl, sym, _∙_}
+use mathlib.Core.Bool.{Bool, true, false}
+use mathlib.Core.List.{List}
 use Prim.Native.Nat.{ℕ, _*_, _≤_}
 use native.Mathlib.Omega.{arith}
-use lib.ListN.{length}
+use lib.ListN.{length, length-replicate}
+use lib.Seq.{length-take-le}
 use borrow.Author.Tests.{not-true, not-false}
+use Rattle.geometry.specs.declared.edge_segment.EdgeSegment.{EdgeSegment}
 use Rattle.coloring.specs.declared.outline.Counts.{Counts}
-use Rattle.coloring.specs.Places.{total}
-use Rattle.coloring.specs.Corners.{Cornered, cornered}
-use Rattle.coloring.specs.Layout.{resultEdges}
-use Rattle.coloring.specs.Splines.{splineTotal}
-use Rattle.coloring.specs.Outline.{Result, edgesOf, cut, encode, result, fits, delivered, deliver}
-use Rattle.coloring.specs.Shape.{painted, countsOf, markable}
-use Rattle.coloring.specs.Sizes.{counted, Sized, painted-sized}
+use Rattle.coloring.specs.Values.{middleValue}
+use Rattle.coloring.specs.Outline.{Result, edgesOf, result, fits}
+use Rattle.coloring.specs.Shape.{painted}
 use Rattle.coloring.proofs.outline.EdgeLaws.{edges-length}
-use Rattle.coloring.proofs.shape.DeliverLaws.{cut-flagged, counted-cut, splines-cut, cornered-length, sized-fits, room-fits, deliver-fits, deliver-short}
+use Rattle.coloring.proofs.shape.DeliverLaws.{laidOut, sized-fits, room-fits, deliver-short, counted-sized, front-total, front-length, front-splines, painted-delivered}
 use Rattle.coloring.proofs.shape.paint_shape.Statement.{statement}
 use Rattle.coloring.proofs.shape.paint_shape.Tie as tie
 
--- the contours with their corners, the result buffers and the result
-abbrev found : tie.Start → List Cornered
-found c = cornered (c .args .lengths .now) (edgesOf (c .args .kinds .now) (c .args .points .now)) (c .args .flags .now)
-
+-- the result buffers, and the edges
 abbrev old : tie.Start → Result
 old c = result (c .args .out-lengths .now) (c .args .out-kinds .now) (c .args .out-points .now) (c .args .out-colors .now)
 
+abbrev edges : tie.Start → List EdgeSegment
+edges c = edgesOf (c .args .kinds .now) (c .args .points .now)
+
+flagged : (c : tie.Start) → length (c .args .flags .now) ≡ length (edges c)
+flagged c = c .pre .0 .matching .flagged ∙ sym (edges-length (c .args .kinds .now) (c .args .points .now))
+
 abbrev written : tie.Start → Result
-written c = painted (c .args .marking) (found c)
+written c =
+    painted (middleValue (c .args .settings .marking)) (c .args .values .now) (laidOut (c .args .lengths .now) (edges c) (c .args .flags .now))
 
-module _ (c : tie.After-count-shape) where
+module _ (c : tie.After-has-room) where
+  abbrev known : tie.After-slice-known
+  known = c .before .before .before .before
+
+  abbrev shared : tie.After-shared-slice-known2
+  shared = known .before .before .before .before
+
   abbrev start : tie.Start
-  start = c .before .before .before .before .before .before .before .before .before
+  start = shared .before .before
 
-  sized : Sized (written start) (length (start .args .lengths .now)) (c .count-shape .result .edges)
-  sized =
-      let a = start .args in
-      let xs = edgesOf (a .kinds .now) (a .points .now) in
-      let flagged = cut-flagged (a .lengths .now) xs (a .flags .now) (start .pre .0 .flagged ∙ sym (edges-length (a .kinds .now) (a .points .now))) in
-      let edges : total (counted resultEdges (found start)) ≡ c .count-shape .result .edges =
-      ap total (counted-cut resultEdges (a .lengths .now) xs (a .flags .now)) ∙ sym (c .count-shape .ensures .0 .0) in
-      subst (λ (n : ℕ). Sized (written start) (length (a .lengths .now)) n) edges
-      (rw (cornered-length (a .lengths .now) xs (a .flags .now)) at (painted-sized (a .marking) (found start) flagged))
+  -- the answer on room is that for the result
+  fit : fits (written start) (old start) ≡ c .has-room .result
+  fit = sized-fits (old start) (counted-sized (start .args .lengths .now) (edges start) (start .args .flags .now) (start .args .counts) (flagged start) (start .pre .1 .0) _ _) ∙ sym (c .has-room .ensures)
 
-  counts : c .count-shape .result ≡ countsOf (found start) (written start)
-  unfolding countsOf
-  counts =
-      let a = start .args in
-      let splines = splines-cut (a .lengths .now) (edgesOf (a .kinds .now) (a .points .now)) (a .flags .now) ∙ sym (c .count-shape .ensures .1 .0) in
-      rw (sized .kinds-long, splines)
-
--- the splines may be marked
+-- there is room
 module _ (c : tie.Else1) where
-  abbrev counting : tie.After-count-shape
-  counting = c .before .before
+  abbrev s : tie.Start
+  s = start (c .before)
 
-  can-mark : markable (start counting .args .marking) (counting .count-shape .result .splines) ≡ true
-  can-mark = sym (c .before .can-mark .ensures) ∙ not-false (c .before .can-mark .result) (c .if1 .left)
+  abbrev counts : Counts
+  counts = s .args .counts
 
--- the definition's test gives the same answer
-module _ (c : tie.After-count-shape) where
-  abbrev splines : ℕ
-  splines = splineTotal (found (start c))
+  fitting : fits (written s) (old s) ≡ true
+  fitting = fit (c .before) ∙ not-false (c .before .has-room .result) (c .if1 .left)
 
-  marked : {b : Bool} → markable (start c .args .marking) (c .count-shape .result .splines) ≡ b → markable (start c .args .marking) splines ≡ b
-  unfolding splineTotal countsOf
-  marked e = ap (λ (k : Counts). markable (start c .args .marking) (k .splines)) (sym (counts c)) ∙ e
+  room : (counts .contours ≤ length (s .args .out-lengths .now)) × (counts .edges ≤ length (s .args .out-kinds .now))
+      × (8 * counts .edges ≤ length (s .args .out-points .now)) × (counts .edges ≤ length (s .args .out-colors .now))
+  room = room-fits _ _ (old s) (sym (c .before .has-room .ensures) ∙ not-false (c .before .has-room .result) (c .if1 .left))
 
--- the answer on room is that for the result
-fit : (c : tie.After-has-room) → fits (written (start (counting (c .before)))) (old (start (counting (c .before)))) ≡ c .has-room .result
-fit c = sized-fits (old (start (counting (c .before)))) (sized (counting (c .before))) ∙ sym (c .has-room .ensures)
+-- the edges are laid out
+module _ (c : tie.After-lay-out) where
+  abbrev branch : tie.Else1
+  branch = c .before .before .before .before .before
 
-room : (c : tie.Else2)
-    → let s = start (counting (c .before .before)) in
-    let n = total (map resultEdges (cut (s .args .lengths .now) (s .args .flags .now))) in
-    (length (s .args .lengths .now) ≤ length (s .args .out-lengths .now)) × (n ≤ length (s .args .out-kinds .now))
-    × (8 * n ≤ length (s .args .out-points .now)) × (n ≤ length (s .args .out-colors .now))
-room c =
-    let counted = counting (c .before .before) in
-    rw (← counted .count-shape .ensures .0 .0)
-    (room-fits _ _ (old (start counted)) (sym (c .before .has-room .ensures) ∙ not-false (c .before .has-room .result) (c .if2 .left)))
+  abbrev began : tie.Start
+  began = s branch
 
-count-shape-requires : tie.Need-count-shape-requires
-count-shape-requires c κs =
-    let start = c .before .before .before .before .before .before .before .before in
-    let m = start .pre .0 in
-    (start .pre .1 ∙ sym (m .flagged), omega (arith, m .flagged, m .few))
+  -- the buffers after it
+  abbrev outLengths : List ℕ
+  outLengths = c .lay-out .last .1 .1 .1 .1 .0
 
-can-mark-requires : tie.Need-can-mark-requires
-can-mark-requires c κs = search needs
+  abbrev outFlags : List Bool
+  outFlags = c .lay-out .last .1 .1 .1 .1 .1 .1 .1 .0
 
-returns : tie.Need-returns
-unfolding deliver
-returns c =
-    let counted = c .before .before in
-    rw (marked counted (sym (c .before .can-mark .ensures) ∙ not-true (c .before .can-mark .result) (c .if1 .taken)))
+  contours-within : began .args .counts .contours ≤ length outLengths
+  contours-within = omega (arith, c .lay-out .kept .1 .1 .1 .1 .0, room branch .0)
+
+  edges-within : began .args .counts .edges ≤ length outFlags
+  edges-within = omega (arith, c .lay-out .kept .1 .1 .1 .1 .1 .1 .1 .0, length-replicate 508 false, began .pre .1 .0 .edges-few)
+
+-- the result's lengths and flags are lent, and the middle value is there
+module _ (c : tie.After-middle-value) where
+  abbrev laying : tie.After-lay-out
+  laying =
+      let flags = c .before .before .before in
+      flags .before .before .before .before .before .before .before
 
 has-room-requires : tie.Need-has-room-requires
-has-room-requires c κs = search needs
+has-room-requires c κs =
+    let known = c .before .before .before in
+    let shared = known .before .before .before .before in
+    shared .before .before .pre .1 .0 .edges-few
 
-returns-2 : tie.Need-returns-2
-returns-2 c =
-    let tested = c .before .before in
-    rw (marked (counting tested) (can-mark tested)) (sym (deliver-short _ _ _ (fit (c .before) ∙ not-true (c .before .has-room .result) (c .if2 .taken))))
+returns : tie.Need-returns
+returns c = sym (deliver-short _ _ _ (fit (c .before) ∙ not-true (c .before .has-room .result) (c .if1 .taken)))
+
+slice-aggregate-lay-out : tie.Need-slice-aggregate-lay-out
+slice-aggregate-lay-out c = search needs
 
 lay-out-requires : tie.Need-lay-out-requires
 lay-out-requires c κs =
-    let fitting = c .before .before .before in
-    let s = start (counting (fitting .before .before)) in
-    let r = room fitting in
-    ((s .pre .0, s .pre .1), record { lengths-fit = r .0; kinds-fit = r .1; points-fit = r .2 })
+    let branch = c .before .before .before .before in
+    let counted = s branch .pre .1 .0 in
+    let r = room branch in (
+      s branch .pre .0,
+      record {
+        lengths-fit = omega (arith, counted .contours-are, r .0);
+        kinds-fit = omega (arith, counted .edges-are, r .1);
+        points-fit = omega (arith, counted .edges-are, r .2);
+        flags-fit = omega (arith, counted .edges-are, counted .edges-few, length-replicate 508 false);
+      },
+    )
 
-mark-contours-requires : tie.Need-mark-contours-requires
-mark-contours-requires c κs =
-    let fitting = c .before .before .before .before .before .before .before .before .before .before .before in
-    let tested = fitting .before .before in
-    let s = start (counting tested) in
-    ((s .pre .0, s .pre .1), (rw (← counting tested .count-shape .ensures .1 .0) (can-mark tested), room fitting .3))
+slice-reshare-prefix-paint-contours : tie.Need-slice-reshare-prefix-paint-contours
+slice-reshare-prefix-paint-contours c =
+    let points = c .before .before in
+    contours-within (points .before .before .before .before .before)
+
+slice-aggregate-paint-contours : tie.Need-slice-aggregate-paint-contours
+slice-aggregate-paint-contours c =
+    let points = c .before .before .before in
+    let laid = points .before .before .before .before .before in
+    sym (length-take-le _ (outLengths laid) (contours-within laid))
+
+array-share-prefix-out-flags : tie.Need-array-share-prefix-out-flags
+array-share-prefix-out-flags c =
+    let points = c .before .before .before in
+    edges-within (points .before .before .before .before .before)
+
+slice-aggregate-paint-contours-2 : tie.Need-slice-aggregate-paint-contours-2
+slice-aggregate-paint-contours-2 c =
+    let points = c .before .before .before .before in
+    let laid = points .before .before .before .before .before in
+    sym (length-take-le _ (outFlags laid) (edges-within laid))
+
+middle-value-requires : tie.Need-middle-value-requires
+middle-value-requires c κs = search needs
+
+slice-relend-prefix-paint-contours : tie.Need-slice-relend-prefix-paint-contours
+slice-relend-prefix-paint-contours c = room (branch (laying c)) .3
+
+slice-aggregate-paint-contours-3 : tie.Need-slice-aggregate-paint-contours-3
+slice-aggregate-paint-contours-3 c =
+    let laid = laying (c .before) in
+    sym (length-take-le _ (began laid .args .out-colors .now) (room (branch laid) .3))
+
+paint-contours-requires : tie.Need-paint-contours-requires
+paint-contours-requires c κs =
+    let laid = laying (c .before) in
+    let b = began laid in
+    let a = b .args in
+    let out = laid .lay-out .ensures in
+    let long = front-length (a .lengths .now) (edges b) (a .flags .now) (a .counts) (flagged b) (b .pre .1 .0) out in
+    let whole = front-total (a .lengths .now) (edges b) (a .flags .now) (a .counts) (flagged b) (b .pre .1 .0) out in
+    let splines = front-splines (a .lengths .now) (edges b) (a .flags .now) (a .counts) (flagged b) (b .pre .1 .0) out in
+    let colors = length-take-le (a .counts .edges) (a .out-colors .now) (room (branch laid) .3) in
+    ((whole, omega (arith, long, b .pre .1 .0 .edges-few), colors ∙ sym long), b .pre .1 .1 ∙ splines)
 
 same-length : tie.Need-same-length
 same-length c = search needs
@@ -131,30 +172,34 @@ same-length-3 c = search needs
 same-length-4 : tie.Need-same-length-4
 same-length-4 c = search needs
 
-returns-3 : tie.Need-returns-3
-unfolding delivered encode painted countsOf
-returns-3 c =
-    let lay-out = c .before .before .before .before .before .before .before .before .before .before in
-    let fitting = lay-out .before .before .before .before in
-    let tested = fitting .before .before in
-    let s = start (counting tested) in
-    let laid = lay-out .lay-out .ensures in
-    let whole = deliver-fits (countsOf (found s) (written s)) (written s) (old s) (fit (fitting .before) ∙ not-false (fitting .before .has-room .result) (fitting .if2 .left)) in
-    rw (marked (counting tested) (can-mark tested), laid .lengths-are, laid .kinds-are, laid .points-are, c .before .before .mark-contours .ensures, counts (counting tested)) (sym whole)
+returns-2 : tie.Need-returns-2
+returns-2 c =
+    let paint = c .before .before in
+    let middle = paint .before .before in
+    let laid = laying middle in
+    let b = began laid in
+    let a = b .args in
+    painted-delivered (a .lengths .now) (edges b) (a .flags .now) (a .counts) (flagged b) (b .pre .1 .0) (laid .lay-out .ensures)
+    (middleValue (a .settings .marking)) (a .values .now) (a .out-colors .now) (fitting (branch laid)) (middle .middle-value .ensures) (paint .paint-contours .ensures) refl
 
 pub paint-shape-spec : {M : Type 1} → statement M
 paint-shape-spec =
     tie.close
     (tie.spec
-    count-shape-requires
-    can-mark-requires
-    returns
     has-room-requires
-    returns-2
+    returns
+    slice-aggregate-lay-out
     lay-out-requires
-    mark-contours-requires
+    slice-reshare-prefix-paint-contours
+    slice-aggregate-paint-contours
+    array-share-prefix-out-flags
+    slice-aggregate-paint-contours-2
+    middle-value-requires
+    slice-relend-prefix-paint-contours
+    slice-aggregate-paint-contours-3
+    paint-contours-requires
     same-length
     same-length-2
     same-length-3
     same-length-4
-    returns-3)
+    returns-2)

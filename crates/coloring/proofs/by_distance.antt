@@ -1,2 +1,0 @@
--- Laws on by-distance colouring of outlines: the bytes of a result replaced.
-pub mod ReplaceLaws

@@ -1,2 +1,0 @@
--- Laws on the colours of one contour.
-pub mod ColorLaws

@@ -1,0 +1,182 @@
+-- `color_shape` meets its contract: the splines are counted and get their values, or there is a refusal; then the result.
+use borrow.Author.Needs.{needs}
+use mathlib.Core.Path.{_≡_, sym, ap, _∙_}
+use mathlib.Core.Bool.{Bool}
+use mathlib.Core.List.{List, _++_, map}
+use Prim.Native.Nat.{ℕ, _≤_}
+use native.Mathlib.Omega.{arith}
+use lib.Ieee.{Float}
+use lib.ListN.{length, take, drop, replicate, length-append}
+use lib.Seq.{length-take-le, take-at}
+use Rattle.geometry.specs.declared.edge_segment.EdgeSegment.{EdgeSegment}
+use Rattle.graph.specs.declared.refusal.Checked.the-variants.{Passed}
+use Rattle.coloring.specs.declared.outline.Counts.{Counts}
+use Rattle.coloring.specs.declared.settings.Marking.{Marking}
+use Rattle.coloring.specs.Limits.{maxShapeSplines}
+use Rattle.coloring.specs.Corners.{Cornered, cornered}
+use Rattle.coloring.specs.Layout.{layout}
+use Rattle.coloring.specs.Splines.{splineTotal}
+use Rattle.coloring.specs.Values.{splineValues, checkMarking}
+use Rattle.coloring.specs.Outline.{Result, edgesOf, result}
+use Rattle.coloring.specs.Shape.{deliverValues, deliverFound}
+use Rattle.coloring.proofs.outline.EdgeLaws.{edges-length}
+use Rattle.coloring.proofs.layout.SplitLaws.{values-laid}
+use Rattle.coloring.proofs.shape.DeliverLaws.{cut-flagged, deliver-failed, splines-counted}
+use Rattle.coloring.proofs.shape.color_shape.Statement.{statement}
+use Rattle.coloring.proofs.shape.color_shape.Tie as tie
+
+abbrev zeros : List ℕ
+zeros = replicate maxShapeSplines 0
+
+-- the splines pass their checks, and have their values
+values-delivered : (marking : Marking) (distances : List Float) (found : List Cornered) (old : Result) {values : List ℕ}
+    → checkMarking marking (splineTotal (map layout found)) distances ≡ Passed → values ≡ splineValues marking distances (map layout found)
+    → deliverValues Passed marking values (map layout found) old ≡ deliverFound Passed marking distances found old
+values-delivered marking distances found old passed values-are = rw (passed, values-are)
+
+-- the contours with their corners
+abbrev edges : tie.Start → List EdgeSegment
+edges c = edgesOf (c .args .kinds .now) (c .args .points .now)
+
+abbrev found : tie.Start → List Cornered
+found c = cornered (c .args .lengths .now) (edges c) (c .args .flags .now)
+
+abbrev old : tie.Start → Result
+old c = result (c .args .out-lengths .now) (c .args .out-kinds .now) (c .args .out-points .now) (c .args .out-colors .now)
+
+flagged : (c : tie.Start) → length (c .args .flags .now) ≡ length (edges c)
+flagged c = c .pre .matching .flagged ∙ sym (edges-length (c .args .kinds .now) (c .args .points .now))
+
+abbrev begun : tie.After-slice-known4 → tie.Start
+begun c =
+    let known = c .before .before .before in
+    let shared = known .before .before .before .before .before in
+    shared .before
+
+-- the splines are counted
+module _ (c : tie.After-count-shape) where
+  abbrev start : tie.Start
+  start = begun (c .before)
+
+  abbrev count : ℕ
+  count = c .count-shape .result .splines
+
+  few : count ≤ maxShapeSplines
+  few = c .count-shape .ensures .splines-few
+
+  long : length (take count zeros) ≡ count
+  long = length-take-le count zeros few
+
+-- they have their values, or there is a refusal
+module _ (c : tie.After-spline-values) where
+  abbrev counted : tie.After-count-shape
+  counted = c .before .before
+
+  abbrev s : tie.Start
+  s = start counted
+
+  abbrev marking : Marking
+  marking = s .args .settings .marking
+
+  answer : c .spline-values .result ≡ checkMarking marking (splineTotal (map layout (found s))) (s .args .distances .now)
+  answer =
+      let total = splines-counted (s .args .lengths .now) (edges s) (s .args .flags .now) (counted .count-shape .result) (flagged s) (counted .count-shape .ensures) in
+      c .spline-values .ensures .0 ∙ ap (λ (n : ℕ). checkMarking marking n (s .args .distances .now)) (long counted ∙ sym total)
+
+  abbrev values : List ℕ
+  values = c .spline-values .last .1 .1 .1 .1 .1 .1 .0
+
+  size : length values ≡ count counted
+  size = c .spline-values .kept .1 .1 .1 .1 .1 .1 .0 ∙ long counted
+
+  -- the array with them, and its first part
+  within : count counted ≤ length (values ++ drop (count counted) zeros)
+  within = rw (length-append, size) (omega arith)
+
+  front : take (count counted) (values ++ drop (count counted) zeros) ≡ values
+  front = take-at values (drop (count counted) zeros) (count counted) size
+
+count-shape-requires : tie.Need-count-shape-requires
+count-shape-requires c κs =
+    let pre = begun c .pre in
+    (pre .whole ∙ sym (pre .matching .flagged), omega (arith, pre .matching .flagged, pre .matching .few), pre .contours-few)
+
+array-borrow-prefix-values : tie.Need-array-borrow-prefix-values
+array-borrow-prefix-values c = few c
+
+slice-aggregate-spline-values : tie.Need-slice-aggregate-spline-values
+slice-aggregate-spline-values c = sym (long (c .before))
+
+spline-values-requires : tie.Need-spline-values-requires
+spline-values-requires c κs = (start (c .before) .pre, long (c .before) ∙ c .before .count-shape .ensures .splines-are)
+
+enum-known-checked : tie.Need-enum-known-checked
+enum-known-checked c = search needs
+
+returns : tie.Need-returns
+returns c =
+    let valued = c .before .before .before .before in
+    deliver-failed _ _ (old (s valued)) _ (sym (answer valued) ∙ c .before .checked .given .1)
+
+enum-told : tie.Need-enum-told
+enum-told c = search needs
+
+array-share-prefix-values : tie.Need-array-share-prefix-values
+array-share-prefix-values c = within (c .before .before .before)
+
+slice-aggregate-paint-shape : tie.Need-slice-aggregate-paint-shape
+slice-aggregate-paint-shape c =
+    let valued = c .before .before .before .before in
+    sym (ap length (front valued) ∙ size valued)
+
+paint-shape-requires : tie.Need-paint-shape-requires
+paint-shape-requires c κs =
+    let lent = c .before .before .before .before in
+    let valued = lent .before .before .before .before in
+    (s valued .pre, (counted valued .count-shape .ensures, ap length (front valued) ∙ size valued))
+
+same-length : tie.Need-same-length
+same-length c = search needs
+
+same-length-2 : tie.Need-same-length-2
+same-length-2 c = search needs
+
+same-length-3 : tie.Need-same-length-3
+same-length-3 c = search needs
+
+same-length-4 : tie.Need-same-length-4
+same-length-4 c = search needs
+
+returns-2 : tie.Need-returns-2
+returns-2 c =
+    let points = c .before .before .before .before in
+    let painted = points .before .before .before .before in
+    let lent = painted .before .before .before .before .before in
+    let told = lent .before in
+    let valued = told .before .before .before in
+    let s = s valued in
+    let passed = told .enum-told .given .1 in
+    let split = values-laid (marking valued) (s .args .distances .now) (found s) (cut-flagged (s .args .lengths .now) (edges s) (s .args .flags .now) (flagged s)) in
+    painted .paint-shape .ensures
+    ∙ values-delivered (marking valued) (s .args .distances .now) (found s) (old s) (sym (answer valued) ∙ passed)
+    (front valued ∙ valued .spline-values .ensures .1 passed ∙ sym split)
+
+pub color-shape-spec : {M : Type 1} → statement M
+color-shape-spec =
+    tie.close
+    (tie.spec
+    count-shape-requires
+    array-borrow-prefix-values
+    slice-aggregate-spline-values
+    spline-values-requires
+    enum-known-checked
+    returns
+    enum-told
+    array-share-prefix-values
+    slice-aggregate-paint-shape
+    paint-shape-requires
+    same-length
+    same-length-2
+    same-length-3
+    same-length-4
+    returns-2)

@@ -1,0 +1,145 @@
+-- `spline_values` meets its contract, marking by marking.
+use borrow.Author.Needs.{needs}
+use mathlib.Core.Path.{_≡_, refl, sym, ap, _∙_}
+use mathlib.Core.List.{List, map}
+use Prim.Native.Nat.{ℕ, _≤_, _<_}
+use native.Mathlib.Omega.{arith}
+use lib.Ieee.{Float}
+use lib.ListN.{length}
+use borrow.Author.Tests.{le-leb, lt-leb}
+use Rattle.geometry.specs.EdgeColor.{bitsOf}
+use Rattle.graph.specs.declared.refusal.Refusal.the-variants.{TooMany}
+use Rattle.graph.specs.declared.refusal.Checked.{Checked}
+use Rattle.graph.specs.declared.refusal.Checked.the-variants.{Passed, Failed}
+use Rattle.graph.specs.Lists.{range}
+use Rattle.graph.specs.SplineColors.{colorSplines, checkSplines, coloringAfter}
+use Rattle.coloring.specs.declared.settings.Strategy.{Strategy}
+use Rattle.coloring.specs.declared.settings.Marking.{Marking}
+use Rattle.coloring.specs.declared.settings.Marking.the-variants.{Colors, Numbers, Distances}
+use Rattle.coloring.specs.Switching.{initColor}
+use Rattle.coloring.specs.Corners.{Cornered, cornered}
+use Rattle.coloring.specs.Splines.{splineTotal}
+use Rattle.coloring.specs.Values.{shapeColors, splineColor, splineValues, checkMarking}
+use Rattle.coloring.specs.Outline.{edgesOf}
+use Rattle.coloring.proofs.shape.DeliverLaws.{splines-cut}
+use Rattle.coloring.proofs.values.spline_values.Statement.{statement}
+use Rattle.coloring.proofs.values.spline_values.Tie as tie
+
+-- the answer and the bytes for n splines of the contours found
+module _ (distances : List Float) (found : List Cornered) (n : ℕ) (sized : n ≡ splineTotal found) where
+  abbrev Valued : Marking → Checked → List ℕ → Type 0
+  Valued marking r values = (r ≡ checkMarking marking n distances) × (r ≡ Passed → values ≡ splineValues marking distances found)
+
+  module _ {marking : Marking} {values : List ℕ} where
+    by-colors : {strategy : Strategy} {seed : ℕ} → marking ≡ Colors strategy seed → values ≡ map bitsOf (shapeColors strategy (initColor seed) found) → Valued marking Passed values
+    unfolding splineValues
+    by-colors m e = rw m (refl, λ p. e)
+
+    too-many : marking ≡ Numbers → 64 < n → Valued marking (Failed TooMany) values
+    too-many m h = rw m (rw (lt-leb n 64 h), λ p. cc)
+
+    by-numbers : marking ≡ Numbers → n ≤ 64 → values ≡ range 0 n → Valued marking Passed values
+    unfolding splineValues
+    by-numbers m h e = rw m (rw (le-leb n 64 h), λ p. e ∙ ap (range 0) sized)
+
+    by-distances : (old : List ℕ) {seed : ℕ} {r : Checked} {coloring : List ℕ} → marking ≡ Distances seed → r ≡ checkSplines n distances
+        → coloring ≡ coloringAfter r (colorSplines n distances seed) old → values ≡ map (λ color. bitsOf (splineColor color)) coloring → Valued marking r values
+    unfolding splineValues
+    by-distances old {seed} {r} m answer colors e = rw m (answer, passed)
+      where
+        after : Checked → List ℕ
+        after r = coloringAfter r (colorSplines n distances seed) old
+
+        passed : r ≡ Passed → values ≡ map (λ color. bitsOf (splineColor color)) (colorSplines (splineTotal found) distances seed)
+        passed p = e ∙ ap (map (λ color. bitsOf (splineColor color))) (colors ∙ ap after p ∙ ap (λ (k : ℕ). colorSplines k distances seed) sized)
+
+module _ (c : tie.After-slice-known) where
+  abbrev start : tie.Start
+  start =
+      let first = c .before .before .before in
+      first .before .before .before
+
+  abbrev found : List Cornered
+  found = cornered (start .args .lengths .now) (edgesOf (start .args .kinds .now) (start .args .points .now)) (start .args .flags .now)
+
+  size : length (start .args .values .now) ≡ splineTotal found
+  size = start .pre .1 ∙ sym (splines-cut (start .args .lengths .now) _ (start .args .flags .now))
+
+enum-known-marking : tie.Need-enum-known-marking
+enum-known-marking c = search needs
+
+shape-colors-requires : tie.Need-shape-colors-requires
+shape-colors-requires c κs = search needs
+
+enum-told : tie.Need-enum-told
+enum-told c = search needs
+
+returns : tie.Need-returns
+returns c =
+    let told = c .before in
+    let known = told .before .before in
+    too-many (start known .args .distances .now) (found known) _ (size known) (told .enum-told .given .1) (c .if1 .taken)
+
+count-up-requires : tie.Need-count-up-requires
+count-up-requires c κs = search needs
+
+enum-known-marking-2 : tie.Need-enum-known-marking-2
+enum-known-marking-2 c = search needs
+
+color-splines-requires : tie.Need-color-splines-requires
+color-splines-requires c κs = search needs
+
+color-numbers-requires : tie.Need-color-numbers-requires
+color-numbers-requires c κs = search needs
+
+same-length : tie.Need-same-length
+same-length c = search needs
+
+returns-2 : tie.Need-returns-2
+returns-2 c =
+    let colored = c .before .before in
+    let told = colored .before .before .before in
+    let known = told .before .before in
+    by-colors (start known .args .distances .now) (found known) _ (size known) (told .marking .given .1) (colored .shape-colors .ensures)
+
+same-length-2 : tie.Need-same-length-2
+same-length-2 c = search needs
+
+returns-3 : tie.Need-returns-3
+returns-3 c =
+    let counted = c .before .before in
+    let few = counted .before .before in
+    let told = few .before in
+    let known = told .before .before in
+    by-numbers (start known .args .distances .now) (found known) _ (size known) (told .enum-told .given .1) (few .if1 .left) (counted .count-up .ensures)
+
+same-length-3 : tie.Need-same-length-3
+same-length-3 c = search needs
+
+returns-4 : tie.Need-returns-4
+returns-4 c =
+    let bytes = c .before .before in
+    let colored = bytes .before .before .before .before in
+    let told = colored .before .before .before in
+    let known = told .before .before in
+    by-distances (start known .args .distances .now) (found known) _ (size known) _ (told .marking2 .given .1) (colored .color-splines .ensures .0)
+    (colored .color-splines .ensures .1) (bytes .color-numbers .ensures)
+
+pub spline-values-spec : {M : Type 1} → statement M
+spline-values-spec =
+    tie.close
+    (tie.spec
+    enum-known-marking
+    shape-colors-requires
+    enum-told
+    returns
+    count-up-requires
+    enum-known-marking-2
+    color-splines-requires
+    color-numbers-requires
+    same-length
+    returns-2
+    same-length-2
+    returns-3
+    same-length-3
+    returns-4)
