@@ -34,10 +34,12 @@ fn write_numbers(answer: Read, numbers: &mut [u64; 6])
 {
     match answer {
         Read::Job(n) => {
+            let header = n.header;
+            let strategy = header.strategy;
             *numbers = [
-                n.strategy as u64,
-                n.seed,
-                n.threshold,
+                wide(strategy.number()),
+                header.seed,
+                header.threshold,
                 n.contours as u64,
                 n.edges as u64,
                 n.distances as u64,

@@ -2,9 +2,9 @@
 -- contracts say of them in its numbers: the file's first refusal, then those after reading, then the values.
 use Prim.Native.Nat.{ℕ}
 use mathlib.Core.Path.{_≡_, refl}
-use mathlib.Core.Bool.{Bool, true, false, cond}
+use mathlib.Core.Bool.{Bool, true, false}
 use mathlib.Core.List.{List, [], _∷_, _++_, append-nil}
-use lib.Dec.{leb, eqb}
+use lib.Dec.{leb}
 use lib.ListN.{length}
 use Rattle.graph.specs.Refusal.{refusalNumber}
 use Rattle.graph.specs.declared.refusal.Refusal.{Refusal}
@@ -21,6 +21,9 @@ use Rattle.job.specs.declared.progress.Read.the-variants as read
 use Rattle.job.specs.declared.progress.Numbers.{Numbers}
 use Rattle.job.specs.declared.listing.Listed.{Listed}
 use Rattle.job.specs.declared.listing.Listed.the-variants as listed
+use Rattle.job.specs.declared.records.Strategy.{Strategy}
+use Rattle.job.specs.declared.records.Strategy.the-variants.{Simple, InkTrap, ByDistance}
+use Rattle.job.specs.Records.{strategyNumber}
 use Rattle.job.specs.Job.{Job, Reading, reads, refuses}
 use Rattle.job.specs.Buffers.{Buffers, hasRoom}
 use Rattle.job.specs.Progress.{numbersOf}
@@ -30,7 +33,7 @@ use Rattle.job.specs.Listing.{fileText, listFile}
 
 -- strategy, seed, the threshold's bits, and how many contours, edges and distances
 abbrev pub jobValues : Numbers → List ℕ
-jobValues n = n .strategy ∷ n .seed ∷ n .threshold ∷ n .contours ∷ n .edges ∷ n .distances ∷ []
+jobValues n = strategyNumber (n .header .strategy) ∷ n .header .seed ∷ n .header .threshold ∷ n .contours ∷ n .edges ∷ n .distances ∷ []
 
 abbrev pub readAnswer : Read → Answer
 readAnswer (read.Job n) = values (jobValues n)
@@ -59,7 +62,7 @@ reading-in-numbers (reads job) old = go (hasRoom (numbersOf job) old) refl
 -- ---- checking and colouring: for strategy 3 splines 4, distance count 8, the distances again 9; 11 last
 
 abbrev pub jobChecks : Job → List Check
-jobChecks job = byStrategy (job .strategy) [] [] (distanceChecks (splineTotal (foundIn job)) (job .distances))
+jobChecks job = byStrategy (job .header .strategy) [] [] (distanceChecks (splineTotal (foundIn job)) (job .distances))
 
 -- the edges of the result and their splines
 abbrev pub jobCounted : Job → Answer
@@ -76,17 +79,16 @@ toldColoring (reads job) old = firstOf (jobChecks job ++ (unless 11 (fits (color
 told-job : (told : Checked → Answer) → ((r : Refusal) → told (Failed r) ≡ refusal (refusalNumber r))
     → (job : Job) (checks : List Check) (answer : Answer) → told Passed ≡ firstOf checks answer → told (checkJob job) ≡ firstOf (jobChecks job ++ checks) answer
 unfolding checkJob
-told-job told fails job checks answer e = go (eqb (job .strategy) 1) (eqb (job .strategy) 2)
+told-job told fails job checks answer e = go (job .header .strategy)
   where
     splines : ℕ
     splines = splineTotal (foundIn job)
 
-    go : (simple inkTrap : Bool)
-        → told (cond simple Passed (cond inkTrap Passed (checkSplines splines (job .distances))))
-        ≡ firstOf (cond simple [] (cond inkTrap [] (distanceChecks splines (job .distances))) ++ checks) answer
-    go true inkTrap = e
-    go false true = e
-    go false false = told-distances told fails splines (job .distances) checks answer e
+    go : (by : Strategy) → told (byStrategy by Passed Passed (checkSplines splines (job .distances)))
+        ≡ firstOf (byStrategy by [] [] (distanceChecks splines (job .distances)) ++ checks) answer
+    go Simple = e
+    go InkTrap = e
+    go ByDistance = told-distances told fails splines (job .distances) checks answer e
 
 pub checking-in-numbers : (reading : Reading) → coloredAnswer (checkReading reading) ≡ toldChecking reading
 unfolding checkReading countsOf firstOf

@@ -22,26 +22,29 @@ use Rattle.coloring.specs.Outline.{Outline, Result, Outcome, encode, deliver}
 use Rattle.coloring.specs.Shape.{markContours, countsOf}
 use Rattle.coloring.specs.EdgeColoring.{edgeColoringSimple, edgeColoringInkTrap}
 use Rattle.coloring.specs.ByDistance.{splineColor, splineByte, edgeColoringByDistance}
-use Rattle.job.specs.Job.{Job, Reading, reads, refuses, readJob}
+use Rattle.job.specs.declared.records.Strategy.{Strategy}
+use Rattle.job.specs.declared.records.Strategy.the-variants as strategy
+use Rattle.job.specs.Job.{thresholdOf, Job, Reading, reads, refuses, readJob}
 use Rattle.job.specs.Buffers.{Buffers}
 
 -- ---- a job
 
--- 1 simple, 2 ink trap, 3 by distance
-abbrev pub byStrategy : {A : Type 0} → ℕ → A → A → A → A
-byStrategy strategy simple inkTrap distance = cond (eqb strategy 1) simple (cond (eqb strategy 2) inkTrap distance)
+abbrev pub byStrategy : {A : Type 0} → Strategy → A → A → A → A
+byStrategy strategy.Simple simple inkTrap distance = simple
+byStrategy strategy.InkTrap simple inkTrap distance = inkTrap
+byStrategy strategy.ByDistance simple inkTrap distance = distance
 
 -- its contours with their corners
 unfoldable pub foundIn : Job → List Cornered
 unfolding searchCorners
-foundIn job = map (searchCorners (job .threshold)) (job .contours)
+foundIn job = map (searchCorners (thresholdOf (job .header))) (job .contours)
 
 -- what is left to check of a job that was read, for strategy 3 only: splines 4, then the distances
 unfoldable pub checkJob : Job → Checked
 unfolding foundIn splineTotal
 checkJob job =
     let splines = splineTotal (foundIn job) in
-    byStrategy (job .strategy) Passed Passed (checkSplines splines (job .distances))
+    byStrategy (job .header .strategy) Passed Passed (checkSplines splines (job .distances))
 
 -- the edges of its coloured shape, contour by contour
 unfoldable pub coloredEdges : Job → List (List EdgeSegment)
@@ -53,10 +56,10 @@ unfoldable pub edgeColors : Job → List (List ℕ)
 unfolding foundIn splineTotal markContours splineColor
 edgeColors job =
     let found = foundIn job in
-    let coloring = colorSplines (splineTotal found) (job .distances) (job .seed) in
-    byStrategy (job .strategy)
-    (markContours (Colors Simple (job .seed)) found)
-    (markContours (Colors InkTrap (job .seed)) found)
+    let coloring = colorSplines (splineTotal found) (job .distances) (job .header .seed) in
+    byStrategy (job .header .strategy)
+    (markContours (Colors Simple (job .header .seed)) found)
+    (markContours (Colors InkTrap (job .header .seed)) found)
     (map (map (splineByte coloring)) (markContours Numbers found))
 
 -- the coloured shape as it is stored
@@ -119,10 +122,10 @@ abbrev pub outlineOf : Buffers → Outline
 outlineOf b = record { lengths = b .lengths; kinds = b .kinds; points = b .points }
 
 -- the colouring of buffers by a strategy
-unfoldable pub colorStored : ℕ → ℕ → Float → Buffers → Result → Outcome
+unfoldable pub colorStored : Strategy → ℕ → Float → Buffers → Result → Outcome
 unfolding edgeColoringByDistance
-colorStored strategy seed threshold b old =
-    byStrategy strategy
+colorStored by seed threshold b old =
+    byStrategy by
     (edgeColoringSimple (outlineOf b) threshold seed old)
     (edgeColoringInkTrap (outlineOf b) threshold seed old)
     (edgeColoringByDistance (outlineOf b) threshold seed (b .distances) old)

@@ -8,7 +8,7 @@ use Rattle.job.specs.declared.records.Item.the-variants.{Header, Contour
 use Rattle.job.specs.declared.part.Span.{Span}
 use Rattle.job.specs.declared.part.Seek.{Seek}
 use Rattle.job.specs.declared.part.Seek.the-variants.{Passing, Open, Done}
-use Rattle.job.specs.Records.{itemOf, recordSize, Records, complete, fault, _then_, start, recordsFrom}
+use Rattle.job.specs.Records.{itemOf, bytesOf, recordSize, Records, complete, fault, _then_, start, recordsFrom}
 use Rattle.job.specs.Color.{accepted}
 
 -- a record, which starts at a place: the contour begins at the CT with none left to pass, and ends at the first record that is no edge
@@ -31,7 +31,7 @@ spanOf (Open from) at = record { start = from; end = at }
 spanOf (Done span) at = span
 
 unfoldable pub seek : Seek → ℕ → Records → Span
-unfolding sought
+unfolding sought bytesOf
 seek q at complete = spanOf q at
 seek q at (fault refusal) = spanOf q at
 seek q at (r then rest) = seek (sought q at (itemOf r)) (at + recordSize r) rest

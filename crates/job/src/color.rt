@@ -1,6 +1,7 @@
 // Reading and colouring in one: a file, and four buffers that its coloured shape goes to.
 use crate::progress::Read;
 use crate::reader;
+use crate::records::Strategy;
 use coloring::by_distance::edge_coloring_by_distance;
 use coloring::edge_coloring::edge_coloring_ink_trap;
 use coloring::edge_coloring::edge_coloring_simple;
@@ -13,7 +14,7 @@ ghost use Rattle.job.specs.Color.{colorStored, colorFile, checkFile, Hol
 
 // The colouring of an outline by a strategy.
 fn color_stored(
-    strategy: u8,
+    strategy: Strategy,
     seed: u64,
     threshold: f64,
     lengths: &[u16],
@@ -29,8 +30,8 @@ fn color_stored(
         colorStored strategy seed threshold (buffers (now (lengths .entry)) (now (kinds .entry)) (now (points .entry)) (now (distances .entry)))
         (result (now («out_lengths» .entry)) (now («out_kinds» .entry)) (now («out_points» .entry)) (now («out_colors» .entry))) ⌝ }
 {
-    if strategy == 1 {
-        return edge_coloring_simple(
+    match strategy {
+        Strategy::Simple => edge_coloring_simple(
             lengths,
             kinds,
             points,
@@ -40,10 +41,8 @@ fn color_stored(
             out_kinds,
             out_points,
             out_colors,
-        );
-    }
-    if strategy == 2 {
-        return edge_coloring_ink_trap(
+        ),
+        Strategy::InkTrap => edge_coloring_ink_trap(
             lengths,
             kinds,
             points,
@@ -53,20 +52,20 @@ fn color_stored(
             out_kinds,
             out_points,
             out_colors,
-        );
+        ),
+        Strategy::ByDistance => edge_coloring_by_distance(
+            lengths,
+            kinds,
+            points,
+            threshold,
+            seed,
+            distances,
+            out_lengths,
+            out_kinds,
+            out_points,
+            out_colors,
+        ),
     }
-    edge_coloring_by_distance(
-        lengths,
-        kinds,
-        points,
-        threshold,
-        seed,
-        distances,
-        out_lengths,
-        out_kinds,
-        out_points,
-        out_colors,
-    )
 }
 
 // The same for a file, with places for a job.
@@ -92,10 +91,12 @@ fn color_in(
             let edges = n.edges;
             let places = 8 * edges;
             let count = n.distances;
-            let threshold = float(n.threshold);
+            let header = n.header;
+            let strategy = header.strategy;
+            let threshold = float(header.threshold);
             color_stored(
-                n.strategy,
-                n.seed,
+                strategy,
+                header.seed,
                 threshold,
                 &lengths[..contours],
                 &kinds[..edges],

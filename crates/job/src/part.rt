@@ -75,9 +75,9 @@ fn contour_span(file: &[u8], number: usize) -> Span
         let at = p.at;
         let state = p.state;
         match records::read_record(state, &file[at..]) {
-            Found::Item(item) => {
+            Found::Item(item, size) => {
                 q = sought(q, at, item);
-                p = progress::advance(p, item);
+                p = progress::advance(p, item, size);
             }
             Found::End => {
                 return span_of(q, at);

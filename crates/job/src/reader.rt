@@ -30,9 +30,18 @@ fn fill(
         let at = p.at;
         let state = p.state;
         match records::read_record(state, &file[at..]) {
-            Found::Item(item) => {
-                buffers::write_item(item, state, &file[at..], lengths, kinds, points, distances);
-                p = progress::advance(p, item);
+            Found::Item(item, size) => {
+                let numbers = state.numbers;
+                buffers::write_item(
+                    item,
+                    numbers,
+                    &file[at..],
+                    lengths,
+                    kinds,
+                    points,
+                    distances,
+                );
+                p = progress::advance(p, item, size);
             }
             Found::End => {
                 return;

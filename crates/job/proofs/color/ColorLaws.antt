@@ -5,7 +5,7 @@ use mathlib.Core.List.{List, [], _∷_, map, map-append}
 use Prim.Native.Nat.{ℕ, _-_, _*_, _/_, _≤_}
 use native.Mathlib.Omega.{arith}
 use lib.Dec.{leb, eqb}
-use lib.Ieee.{Float, binary64, ofBits}
+use lib.Ieee.{Float}
 use lib.ListN.{length, take, drop, length-append, length-map}
 use lib.Seq.{take-at, drop-at}
 use borrow.Author.Tests.{le-leb, eq-eqb}
@@ -22,7 +22,7 @@ use Rattle.graph.specs.declared.refusal.Refusal.{Refusal}
 use Rattle.graph.specs.Lists.{all, over}
 use Rattle.coloring.specs.declared.outline.Counts.{Counts}
 use Rattle.coloring.specs.declared.outline.Colored.{Colored}
-use Rattle.coloring.specs.declared.settings.Strategy.the-variants.{Simple, InkTrap}
+use Rattle.coloring.specs.declared.settings.Strategy.the-variants as strategy
 use Rattle.coloring.specs.declared.settings.Strategy.{Strategy}
 use Rattle.coloring.specs.declared.settings.Marking.the-variants.{Colors, Numbers}
 use Rattle.coloring.specs.Places.{concat}
@@ -37,11 +37,13 @@ use Rattle.coloring.specs.ByDistance.{splineByte, withBytes, edgeColoringByDist
 use Rattle.job.specs.declared.progress.Numbers.{Numbers as JobNumbers}
 use Rattle.job.specs.declared.progress.Read.{Read}
 use Rattle.job.specs.declared.progress.Read.the-variants as read
-use Rattle.job.specs.Job.{Job, Reading, reads, refuses, readJob}
+use Rattle.job.specs.declared.records.Strategy as strategies
+use Rattle.job.specs.declared.records.Strategy.the-variants as by
+use Rattle.job.specs.Job.{thresholdOf, Job, Reading, reads, refuses, readJob}
 use Rattle.job.specs.Progress.{edgeCount, numbersOf}
 use Rattle.job.specs.Buffers.{Buffers, buffers, kindsOf, placesOf, stored, overEach, roomFor, hasRoom, Hold}
 use Rattle.job.specs.Reader.{readInto, Delivers}
-use Rattle.job.specs.Color.{foundIn, checkJob, coloredEdges, edgeColors, colored, colorJob, colorReading, colorFile, isPassed, acceptedReading, accepted, noOther, outlineOf, colorStored, HoldsJobs}
+use Rattle.job.specs.Color.{byStrategy, foundIn, checkJob, coloredEdges, edgeColors, colored, colorJob, colorReading, colorFile, isPassed, acceptedReading, accepted, noOther, outlineOf, colorStored, HoldsJobs}
 use Rattle.job.proofs.records.ReadingLaws.{edgeFits}
 use Rattle.job.proofs.progress.ProgressLaws.{Sound, job-sound, contours-few, edges-few}
 use Rattle.job.proofs.buffers.StoredLaws.{kinds-length}
@@ -91,7 +93,7 @@ coordinates-pass (segment.Quadratic p0 p1 p2 ∷ edges) h = and-next (edgeFits (
 coordinates-pass (segment.Cubic p0 p1 p2 p3 ∷ edges) h = and-next (edgeFits (segment.Cubic p0 p1 p2 p3)) _ _ h (λ k. coordinates-pass edges k)
 
 module _ (job : Job) (so : Sound job) (contours-fit : length (job .contours) ≤ 64) (edges-fit : edgeCount (job .contours) ≤ 256) where
-  pub passes : check (outlineOf (stored job)) (job .threshold) ≡ Passed
+  pub passes : check (outlineOf (stored job)) (thresholdOf (job .header)) ≡ Passed
   unfolding check maxContours maxEdges stored
   passes =
       let edges = concat (job .contours) in
@@ -120,13 +122,13 @@ module _ (job : Job) (so : Sound job) (contours-fit : length (job .contours) ≤
     abbrev delivered-with : Checked → List (List ℕ) → Outcome
     delivered-with checked colors = deliver checked (countsOf (foundIn job) (with colors)) (with colors) old
 
-    by-colors : (strategy : Strategy) → edgeColoring (record { marking = Colors strategy (job .seed); threshold = job .threshold }) (outlineOf (stored job)) old
-        ≡ delivered-with Passed (markContours (Colors strategy (job .seed)) (foundIn job))
+    by-colors : (by : Strategy) → edgeColoring (record { marking = Colors by (job .header .seed); threshold = thresholdOf (job .header) }) (outlineOf (stored job)) old
+        ≡ delivered-with Passed (markContours (Colors by (job .header .seed)) (foundIn job))
     unfolding edgeColoring foundIn coloredEdges painted
-    by-colors strategy = rw (passes, contours-again job)
+    by-colors by = rw (passes, contours-again job)
 
     abbrev byte : ℕ → ℕ
-    byte = splineByte (colorSplines (splineTotal (foundIn job)) (job .distances) (job .seed))
+    byte = splineByte (colorSplines (splineTotal (foundIn job)) (job .distances) (job .header .seed))
 
     abbrev distances-checked : Checked
     distances-checked = checkSplines (splineTotal (foundIn job)) (job .distances)
@@ -135,7 +137,7 @@ module _ (job : Job) (so : Sound job) (contours-fit : length (job .contours) ≤
     unfolding painted encode coloredEdges
     numbered = rw (map-concat byte (markContours Numbers (foundIn job)))
 
-    by-numbers : edgeColoringByDistance (outlineOf (stored job)) (job .threshold) (job .seed) (job .distances) old
+    by-numbers : edgeColoringByDistance (outlineOf (stored job)) (thresholdOf (job .header)) (job .header .seed) (job .distances) old
         ≡ delivered-with distances-checked (map (map byte) (markContours Numbers (foundIn job)))
     unfolding edgeColoringByDistance foundIn countsOf
     by-numbers =
@@ -147,16 +149,16 @@ module _ (job : Job) (so : Sound job) (contours-fit : length (job .contours) ≤
     unfolding stored
     stored-is = refl
 
-    stored-colored : colorStored (job .strategy) (job .seed) (job .threshold) (stored job) old ≡ colorJob job old
+    stored-colored : colorStored (job .header .strategy) (job .header .seed) (thresholdOf (job .header)) (stored job) old ≡ colorJob job old
     unfolding colorStored colorJob checkJob colored edgeColors
-    stored-colored = rw (stored-is, by-colors Simple, by-colors InkTrap, by-numbers) (go (eqb (job .strategy) 1) (eqb (job .strategy) 2) _ _ _ _)
+    stored-colored = rw (stored-is, by-colors strategy.Simple, by-colors strategy.InkTrap, by-numbers) (go (job .header .strategy) _ _ _ _)
       where
-        go : (a b : Bool) (x y z : List (List ℕ)) (k : Checked)
-            → cond a (delivered-with Passed x) (cond b (delivered-with Passed y) (delivered-with k z))
-            ≡ delivered-with (cond a Passed (cond b Passed k)) (cond a x (cond b y z))
-        go true b x y z k = refl
-        go false true x y z k = refl
-        go false false x y z k = refl
+        go : (by : strategies.Strategy) (x y z : List (List ℕ)) (k : Checked)
+            → byStrategy by (delivered-with Passed x) (delivered-with Passed y) (delivered-with k z)
+            ≡ delivered-with (byStrategy by Passed Passed k) (byStrategy by x y z)
+        go by.Simple x y z k = refl
+        go by.InkTrap x y z k = refl
+        go by.ByDistance x y z k = refl
 
 -- ---- from what the reader delivers
 
@@ -237,12 +239,12 @@ module _ {file : List ℕ} {n : JobNumbers} {old : Buffers} {lengths kinds : Lis
         take-over (length (job .distances)) (job .distances) (old .distances) refl,
       )
 
-  pub held-colored : (threshold : Float) (out : Result) → threshold ≡ ofBits binary64 (n .threshold) → colorStored (n .strategy) (n .seed) threshold held out ≡ colorFile file out
+  pub held-colored : (threshold : Float) (out : Result) → threshold ≡ thresholdOf (n .header) → colorStored (n .header .strategy) (n .header .seed) threshold held out ≡ colorFile file out
   unfolding colorFile colorReading
   held-colored threshold out e =
       let job = h .job in
       let so = job-sound file job (h .is-read) in
-      rw (held-is, e, h .numbers, so .threshold-back, h .is-read)
+      rw (held-is, e, h .numbers, h .is-read)
       (stored-colored job so (contours-few file job (h .is-read)) (edges-few file job (h .is-read)) out)
 
   -- and they lie within the buffers
@@ -272,16 +274,16 @@ abbrev Early : Checked → Type 0
 Early Passed = Unit
 Early (Failed refusal) = eqb (refusalNumber refusal) 11 ≡ false
 
-early-by : (a b : Bool) (k : Checked) → Early k → Early (cond a Passed (cond b Passed k))
-early-by true b k h = tt
-early-by false true k h = tt
-early-by false false k h = h
+early-by : (by : strategies.Strategy) (k : Checked) → Early k → Early (byStrategy by Passed Passed k)
+early-by by.Simple k h = tt
+early-by by.InkTrap k h = tt
+early-by by.ByDistance k h = h
 
 checks-early : (job : Job) → Early (checkJob job)
 unfolding checkJob
 checks-early job =
     let splines = splineTotal (foundIn job) in
-    early-by (eqb (job .strategy) 1) (eqb (job .strategy) 2) (checkSplines splines (job .distances))
+    early-by (job .header .strategy) (checkSplines splines (job .distances))
     (required (leb splines maxSplines && leb (length (job .distances)) maxDistances) TooMany _ refl
     (required (eqb (length (job .distances)) (splines * (splines - 1) / 2)) LengthMismatch _ refl
     (required (distancesValid (job .distances)) BadDistance Passed refl tt)))

@@ -1,10 +1,9 @@
 -- The coloured shape of a job: as many colours as edges, at most 64 contours and 508 edges, and each colour below 8.
 use mathlib.Core.Path.{_≡_, refl, sym, ap, _∙_}
-use mathlib.Core.Bool.{Bool, true, false, cond}
+use mathlib.Core.Bool.{Bool, true, false}
 use mathlib.Core.List.{List, [], _∷_, map}
 use Prim.Native.Nat.{ℕ, zero, suc, _+_, _*_, _≤_}
 use native.Mathlib.Omega.{arith}
-use lib.Dec.{eqb}
 use lib.Ieee.{Float}
 use lib.ListN.{length, length-map}
 use Rattle.geometry.specs.EdgeColor.{bitsOf, bits-below}
@@ -22,9 +21,11 @@ use Rattle.coloring.specs.Splines.{splineTotal}
 use Rattle.coloring.specs.Shape.{colorContours, markContours}
 use Rattle.coloring.specs.ByDistance.{splineColor, splineByte}
 use Rattle.coloring.specs.Sizes.{sizes, sizes-map, concat-length, flags-length, edges-split, edges-same, split-few, search-flagged, counted, laid-lengths, mark-lengths, Sized, encoded-sized}
-use Rattle.job.specs.Job.{Job, reads, readJob}
+use Rattle.job.specs.declared.records.Strategy as strategies
+use Rattle.job.specs.declared.records.Strategy.the-variants as by
+use Rattle.job.specs.Job.{thresholdOf, Job, reads, readJob}
 use Rattle.job.specs.Progress.{edgeCount}
-use Rattle.job.specs.Color.{foundIn, coloredEdges, edgeColors, colored}
+use Rattle.job.specs.Color.{byStrategy, foundIn, coloredEdges, edgeColors, colored}
 use Rattle.job.proofs.progress.ProgressLaws.{contours-few, edges-few}
 use Rattle.job.proofs.listing.ListingLaws.{AreColors, EachColors}
 
@@ -95,13 +96,13 @@ pub record ShapeOf (job : Job) : Type 0 where
 module _ (job : Job) where
   laid-out : sizes (coloredEdges job) ≡ counted resultEdges (foundIn job)
   unfolding coloredEdges foundIn
-  laid-out = laid-lengths (foundIn job) (search-flagged (job .threshold) (job .contours))
+  laid-out = laid-lengths (foundIn job) (search-flagged (thresholdOf (job .header)) (job .contours))
 
-  by-colors : (strategy : Strategy) → Marked (coloredEdges job) (markContours (Colors strategy (job .seed)) (foundIn job))
+  by-colors : (strategy : Strategy) → Marked (coloredEdges job) (markContours (Colors strategy (job .header .seed)) (foundIn job))
   unfolding markContours
   by-colors strategy = record {
-    each = mark-lengths (Colors strategy (job .seed)) (foundIn job) ∙ sym laid-out;
-    are-colors = colors-each (λ (x : EdgeColor). x) (colorContours strategy (initColor (job .seed)) (foundIn job));
+    each = mark-lengths (Colors strategy (job .header .seed)) (foundIn job) ∙ sym laid-out;
+    are-colors = colors-each (λ (x : EdgeColor). x) (colorContours strategy (initColor (job .header .seed)) (foundIn job));
   }
 
   by-numbers : (coloring : List ℕ) → Marked (coloredEdges job) (map (map (splineByte coloring)) (markContours Numbers (foundIn job)))
@@ -112,25 +113,25 @@ module _ (job : Job) where
 
   all-marked : Marked (coloredEdges job) (edgeColors job)
   unfolding edgeColors
-  all-marked = go (eqb (job .strategy) 1) (eqb (job .strategy) 2) (by-colors Simple) (by-colors InkTrap) (by-numbers (colorSplines (splineTotal (foundIn job)) (job .distances) (job .seed)))
+  all-marked = go (job .header .strategy) (by-colors Simple) (by-colors InkTrap) (by-numbers (colorSplines (splineTotal (foundIn job)) (job .distances) (job .header .seed)))
     where
-      go : (a b : Bool) {x y z : List (List ℕ)} → Marked (coloredEdges job) x → Marked (coloredEdges job) y → Marked (coloredEdges job) z → Marked (coloredEdges job) (cond a x (cond b y z))
-      go true b x y z = x
-      go false true x y z = y
-      go false false x y z = z
+      go : (by : strategies.Strategy) {x y z : List (List ℕ)} → Marked (coloredEdges job) x → Marked (coloredEdges job) y → Marked (coloredEdges job) z → Marked (coloredEdges job) (byStrategy by x y z)
+      go by.Simple x y z = x
+      go by.InkTrap x y z = y
+      go by.ByDistance x y z = z
 
   contours-kept : length (coloredEdges job) ≡ length (job .contours)
   unfolding coloredEdges foundIn
-  contours-kept = length-map (foundIn job) layout ∙ length-map (job .contours) (searchCorners (job .threshold))
+  contours-kept = length-map (foundIn job) layout ∙ length-map (job .contours) (searchCorners (thresholdOf (job .header)))
 
   module _ (file : List ℕ) (e : readJob file ≡ reads job) where
     out-few : edgesOut (foundIn job) ≤ 508
     unfolding foundIn
     out-few =
         let found = foundIn job in
-        let edges : edgesIn found ≡ edgeCount (job .contours) = ap total (all-in (job .threshold) (job .contours)) ∙ sym (concat-length (job .contours)) in
+        let edges : edgesIn found ≡ edgeCount (job .contours) = ap total (all-in (thresholdOf (job .header)) (job .contours)) ∙ sym (concat-length (job .contours)) in
         edges-most (length found) (edgesIn found) (edgesOut found) (few found)
-        (omega (arith, length-map (job .contours) (searchCorners (job .threshold)), contours-few file job e)) (omega (arith, edges, edges-few file job e))
+        (omega (arith, length-map (job .contours) (searchCorners (thresholdOf (job .header))), contours-few file job e)) (omega (arith, edges, edges-few file job e))
 
     pub shape-of : ShapeOf job
     unfolding colored

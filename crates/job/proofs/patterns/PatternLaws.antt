@@ -12,7 +12,7 @@ use lib.Dec.{T}
 use lib.Ieee.{Float, binary64, isNan, nanBits, ofBits, toBits}
 use lib.Ieee.Bits.{nanBits-is, nanBits-above, toBits-ofBits}
 use Rattle.graph.specs.Lists.{all}
-use Rattle.job.specs.Patterns.{number, words, floats, isThreshold, signBit}
+use Rattle.job.specs.Patterns.{number, words, floats, floatBytes, isThreshold, signBit}
 
 -- ---- the number of some bytes
 
@@ -76,6 +76,11 @@ threshold-back b h t =
 pub floats-length : (n : ℕ) (bytes : List ℕ) → length (floats (words n bytes)) ≡ n
 unfolding floats
 floats-length n bytes = length-map (words n bytes) (ofBits binary64) ∙ words-length n bytes
+
+pub float-bytes-length : (xs : List Float) → length (floatBytes xs) ≡ 8 * length xs
+unfolding floatBytes
+float-bytes-length [] = refl
+float-bytes-length (x ∷ xs) = omega (arith, float-bytes-length xs)
 
 pub floats-at : (n i : ℕ) (bytes : List ℕ) (d : Float) → i < n → getD (floats (words n bytes)) i d ≡ ofBits binary64 (number (take 8 (drop (8 * i) bytes)))
 unfolding floats words

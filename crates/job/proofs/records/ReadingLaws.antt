@@ -8,8 +8,7 @@ use lib.Dec.{leb}
 use lib.ListN.{length, getD, take, drop, length-drop}
 use lib.Seq.{drop-drop}
 use lib.Ieee as Ieee
-use lib.Ieee.{binary64, ofBits, toBits}
-use lib.Ieee.Bits.{ofBits-toBits, ofBits-fits}
+use lib.Ieee.{binary64, ofBits}
 use borrow.Author.Tests.{leb-true}
 use Rattle.math.specs.Scalar.{f1}
 use Rattle.geometry.specs.EdgeSegment.{toStored}
@@ -24,25 +23,22 @@ use Rattle.job.specs.declared.records.Mark.{Mark}
 use Rattle.job.specs.declared.records.Mark.the-variants.{Header, Contour, Edge, Distances, End}
 use Rattle.job.specs.declared.records.Marked.{Marked}
 use Rattle.job.specs.declared.records.Marked.the-variants.{Known, Unknown}
+use Rattle.job.specs.declared.records.Header as fields
 use Rattle.job.specs.declared.records.State.{State}
 use Rattle.job.specs.declared.records.Item.{Item}
 use Rattle.job.specs.declared.records.Found.the-variants as found
 use Rattle.job.specs.Patterns.{number, words, floats, isThreshold, isCoordinate, isDistance}
-use Rattle.job.specs.Records.{Record, header, contour, edge, distances, Step, next, ends, fails, require, knownStrategy, controls, bodySize, allowed, fits, kindOf, edgeOf, recordSize, itemOf, foundOf, markOf, readHeader, readEdge, readDistances, readEnd, readBody, readMarked, readRecord, after, Records, complete, fault, _then_, recordsWithin, recordsFrom}
+use Rattle.job.specs.Records.{strategyOf, recordMark, Record, header, contour, edge, distances, Step, next, ends, fails, require, knownStrategy, controls, bodySize, allowed, fits, kindOf, edgeOf, recordSize, itemOf, foundOf, markOf, readHeader, readEdge, readDistances, readEnd, readBody, readMarked, readRecord, after, Records, complete, fault, _then_, recordsWithin, recordsFrom}
+use Rattle.job.specs.Job.{thresholdOf}
 use Rattle.job.proofs.patterns.PatternLaws.{floats-length}
 use Rattle.job.proofs.patterns.PatternMeaning.{threshold-means, coordinate-means}
+use Rattle.job.proofs.records.RecordLaws.{Allowed, size-is, size-some}
 
 -- ---- a record that was read
 
-abbrev pub recordMark : Record → Mark
-recordMark (header strategy seed threshold) = Header
-recordMark contour = Contour
-recordMark (edge e) = Edge (kindOf e)
-recordMark (distances ds) = Distances
-
 -- the floats of a record are those of its bytes, and its distances are not too many
 abbrev pub Held : Record → List ℕ → Type 0
-Held (header strategy seed threshold) bytes = Unit
+Held (header h) bytes = Unit
 Held contour bytes = Unit
 Held (edge e) bytes = e ≡ edgeOf (kindOf e) (floats (words (2 * controls (kindOf e)) (take (16 * controls (kindOf e)) (drop 2 bytes))))
 Held (distances ds) bytes = (length ds ≤ 2016) × (ds ≡ floats (words (length ds) (drop 4 bytes)))
@@ -53,14 +49,14 @@ edgeFits e = all inRange (take (usedPlaces (toStored e .kind)) (toStored e .poin
 
 -- the floats of a record lie within their ranges
 abbrev pub InRange : Record → Type 0
-InRange (header strategy seed threshold) = (between (Ieee.neg f1) threshold f1 ≡ true) × (ofBits binary64 (toBits binary64 threshold) ≡ threshold)
+InRange (header h) = between (Ieee.neg f1) (thresholdOf h) f1 ≡ true
 InRange contour = Unit
 InRange (edge e) = edgeFits e ≡ true
 InRange (distances ds) = Unit
 
 pub record Taken (s : State) (bytes : List ℕ) (r : Record) (rest : List ℕ) : Type 0 where
-  pub may : allowed s (recordMark r) ≡ true
-  pub room : fits s (recordMark r) ≡ true
+  pub may : Allowed s (recordMark r)
+  pub room : fits (s .numbers) (recordMark r) ≡ true
   pub whole : recordSize r ≤ length bytes
   pub beyond : rest ≡ drop (recordSize r) bytes
   pub held : Held r bytes
@@ -78,12 +74,9 @@ required s bytes false refusal step f = tt
 
 -- ---- what the tests of patterns mean of a record's floats
 
-threshold-fits : (b : ℕ) → isThreshold b ≡ true → InRange (header 0 0 (ofBits binary64 b))
+threshold-fits : (h : fields.Header) → isThreshold (h .threshold) ≡ true → InRange (header h)
 unfolding ofBits
-threshold-fits b h = (within, ofBits-toBits binary64 (ofBits binary64 b) (ofBits-fits binary64 b))
-  where
-    within : between (Ieee.neg f1) (ofBits binary64 b) f1 ≡ true
-    within = sym (threshold-means b) ∙ h
+threshold-fits h within = sym (threshold-means (h .threshold)) ∙ within
 
 coordinates-fit : (ps : List ℕ) → all inRange (floats ps) ≡ all isCoordinate ps
 unfolding all floats
@@ -109,33 +102,37 @@ module _ (s : State) (a b : ℕ) (bytes : List ℕ) where
   abbrev all-bytes : List ℕ
   all-bytes = a ∷ b ∷ bytes
 
-  header-taken : allowed s Header ≡ true → fits s Header ≡ true → 17 ≤ length bytes → OfStep s all-bytes (readHeader (take 17 bytes) (drop 17 bytes))
+  header-taken : Allowed s Header → fits (s .numbers) Header ≡ true → 17 ≤ length bytes → OfStep s all-bytes (readHeader (take 17 bytes) (drop 17 bytes))
   unfolding readHeader
   header-taken may room whole =
       let body = take 17 bytes in
       let threshold = number (take 8 (drop 9 body)) in
-      let found = next (header (getD body 0 0) (number (take 8 (drop 1 body))) (ofBits binary64 threshold)) (drop 17 bytes) in
+      let h : fields.Header = record { strategy = strategyOf (getD body 0 0); seed = number (take 8 (drop 1 body)); threshold = threshold } in
+      let found = next (header h) (drop 17 bytes) in
       required s all-bytes (knownStrategy (getD body 0 0)) UnknownKind (require (isThreshold threshold) BadThreshold found)
       (λ known. required s all-bytes (isThreshold threshold) BadThreshold found
-      (λ within. record { may = may; room = room; whole = omega arith; beyond = refl; held = tt; in-range = threshold-fits threshold within }))
+      (λ within. record { may = may; room = room; whole = omega (arith, size-is (header h)); beyond = rw (size-is (header h)); held = tt; in-range = threshold-fits h within }))
 
-  edge-taken : (kind : Kind) → allowed s (Edge kind) ≡ true → fits s (Edge kind) ≡ true → 16 * controls kind ≤ length bytes
+  edge-taken : (kind : Kind) → Allowed s (Edge kind) → fits (s .numbers) (Edge kind) ≡ true → 16 * controls kind ≤ length bytes
       → OfStep s all-bytes (readEdge kind (take (16 * controls kind) bytes) (drop (16 * controls kind) bytes))
   unfolding readEdge
   edge-taken Line may room whole =
       let ps = words 4 (take 32 bytes) in
-      required s all-bytes (all isCoordinate ps) BadCoordinate (next (edge (edgeOf Line (floats ps))) (drop 32 bytes))
-      (λ within. record { may = may; room = room; whole = omega arith; beyond = refl; held = refl; in-range = edge-fits Line (take 32 bytes) within })
+      let e = edgeOf Line (floats ps) in
+      required s all-bytes (all isCoordinate ps) BadCoordinate (next (edge e) (drop 32 bytes))
+      (λ within. record { may = may; room = room; whole = omega (arith, size-is (edge e)); beyond = rw (size-is (edge e)); held = refl; in-range = edge-fits Line (take 32 bytes) within })
   edge-taken Quadratic may room whole =
       let ps = words 6 (take 48 bytes) in
-      required s all-bytes (all isCoordinate ps) BadCoordinate (next (edge (edgeOf Quadratic (floats ps))) (drop 48 bytes))
-      (λ within. record { may = may; room = room; whole = omega arith; beyond = refl; held = refl; in-range = edge-fits Quadratic (take 48 bytes) within })
+      let e = edgeOf Quadratic (floats ps) in
+      required s all-bytes (all isCoordinate ps) BadCoordinate (next (edge e) (drop 48 bytes))
+      (λ within. record { may = may; room = room; whole = omega (arith, size-is (edge e)); beyond = rw (size-is (edge e)); held = refl; in-range = edge-fits Quadratic (take 48 bytes) within })
   edge-taken Cubic may room whole =
       let ps = words 8 (take 64 bytes) in
-      required s all-bytes (all isCoordinate ps) BadCoordinate (next (edge (edgeOf Cubic (floats ps))) (drop 64 bytes))
-      (λ within. record { may = may; room = room; whole = omega arith; beyond = refl; held = refl; in-range = edge-fits Cubic (take 64 bytes) within })
+      let e = edgeOf Cubic (floats ps) in
+      required s all-bytes (all isCoordinate ps) BadCoordinate (next (edge e) (drop 64 bytes))
+      (λ within. record { may = may; room = room; whole = omega (arith, size-is (edge e)); beyond = rw (size-is (edge e)); held = refl; in-range = edge-fits Cubic (take 64 bytes) within })
 
-  distances-taken : allowed s Distances ≡ true → 2 ≤ length bytes → OfStep s all-bytes (readDistances (take 2 bytes) (drop 2 bytes))
+  distances-taken : Allowed s Distances → 2 ≤ length bytes → OfStep s all-bytes (readDistances (take 2 bytes) (drop 2 bytes))
   unfolding readDistances
   distances-taken may whole =
       let count = number (take 2 bytes) in
@@ -143,23 +140,24 @@ module _ (s : State) (a b : ℕ) (bytes : List ℕ) where
       let patterns = words count rest in
       let found = next (distances (floats patterns)) (drop (8 * count) rest) in
       let size : length (floats patterns) ≡ count = floats-length count rest in
+      let takes : recordSize (distances (floats patterns)) ≡ 4 + 8 * count = omega (arith, size-is (distances (floats patterns)), size) in
       required s all-bytes (leb count 2016) TooMany (require (leb (8 * count) (length rest)) Truncated (require (all isDistance patterns) BadDistance found))
       (λ few. required s all-bytes (leb (8 * count) (length rest)) Truncated (require (all isDistance patterns) BadDistance found)
       (λ there. required s all-bytes (all isDistance patterns) BadDistance found
       (λ within. record {
         may = may;
         room = refl;
-        whole = omega (arith, size, leb-true (8 * count) (length rest) there, length-drop 2 bytes);
-        beyond = rw size (drop-drop (8 * count) 4 all-bytes);
+        whole = omega (arith, takes, leb-true (8 * count) (length rest) there, length-drop 2 bytes);
+        beyond = rw takes (drop-drop (8 * count) 4 all-bytes);
         held = (omega (arith, size, leb-true count 2016 few), rw size);
         in-range = tt;
       })))
 
-  body-taken : (mark : Mark) → allowed s mark ≡ true → fits s mark ≡ true → bodySize mark ≤ length bytes
+  body-taken : (mark : Mark) → Allowed s mark → fits (s .numbers) mark ≡ true → bodySize mark ≤ length bytes
       → OfStep s all-bytes (readBody mark (take (bodySize mark) bytes) (drop (bodySize mark) bytes))
   unfolding readBody
   body-taken Header may room whole = header-taken may room whole
-  body-taken Contour may room whole = record { may = may; room = room; whole = omega arith; beyond = refl; held = tt; in-range = tt }
+  body-taken Contour may room whole = record { may = may; room = room; whole = omega (arith, size-is contour); beyond = rw (size-is contour); held = tt; in-range = tt }
   body-taken (Edge kind) may room whole = edge-taken kind may room whole
   body-taken Distances may room whole = distances-taken may whole
   body-taken End may room whole = end-taken s a b bytes
@@ -170,8 +168,8 @@ module _ (s : State) (a b : ℕ) (bytes : List ℕ) where
   marked-taken (Known mark) =
       let body = readBody mark (take (bodySize mark) bytes) (drop (bodySize mark) bytes) in
       let sized = require (leb (bodySize mark) (length bytes)) Truncated body in
-      required s all-bytes (allowed s mark) MisplacedMark (require (fits s mark) TooMany sized)
-      (λ may. required s all-bytes (fits s mark) TooMany sized
+      required s all-bytes (allowed (s .phase) (s .numbers .header .strategy) mark) MisplacedMark (require (fits (s .numbers) mark) TooMany sized)
+      (λ may. required s all-bytes (fits (s .numbers) mark) TooMany sized
       (λ room. required s all-bytes (leb (bodySize mark) (length bytes)) Truncated body
       (λ whole. body-taken mark may room (leb-true (bodySize mark) (length bytes) whole))))
 
@@ -186,12 +184,6 @@ taken s bytes r rest e = subst (OfStep s bytes) e (of-step s bytes)
 
 pub end-size : (s : State) (bytes : List ℕ) → readRecord s bytes ≡ ends → length bytes ≡ 2
 end-size s bytes e = subst (OfStep s bytes) e (of-step s bytes)
-
-pub size-some : (r : Record) → 2 ≤ recordSize r
-size-some (header strategy seed threshold) = omega arith
-size-some contour = omega arith
-size-some (edge e) = omega arith
-size-some (distances ds) = omega arith
 
 shorter : {s : State} {bytes : List ℕ} {r : Record} {rest : List ℕ} → Taken s bytes r rest → length rest + 2 ≤ length bytes
 shorter {bytes = bytes} {r = r} t = omega (arith, ap length (t .beyond), length-drop (recordSize r) bytes, size-some r, t .whole)
@@ -211,15 +203,15 @@ enough (suc n) (suc m) s bytes h k = go (readRecord s bytes) (of-step s bytes) (
     go : (step : Step) → OfStep s bytes step
         → ((s' : State) (rest : List ℕ) → length rest ≤ n → length rest ≤ m → recordsWithin n s' rest ≡ recordsWithin m s' rest)
         → _≡_ {A = Records}
-        (elim step [ next r rest ↦ r then recordsWithin n (after s r) rest | ends ↦ complete | fails refusal ↦ fault refusal ])
-        (elim step [ next r rest ↦ r then recordsWithin m (after s r) rest | ends ↦ complete | fails refusal ↦ fault refusal ])
-    go (next r rest) t same = ap (λ (x : Records). r then x) (same (after s r) rest (omega (arith, shorter t)) (omega (arith, shorter t)))
+        (elim step [ next r rest ↦ r then recordsWithin n (after s (itemOf r)) rest | ends ↦ complete | fails refusal ↦ fault refusal ])
+        (elim step [ next r rest ↦ r then recordsWithin m (after s (itemOf r)) rest | ends ↦ complete | fails refusal ↦ fault refusal ])
+    go (next r rest) t same = ap (λ (x : Records). r then x) (same (after s (itemOf r)) rest (omega (arith, shorter t)) (omega (arith, shorter t)))
     go ends t same = refl
     go (fails refusal) t same = refl
 
 -- what reading the first record makes of the rest
 abbrev proceed : State → Step → Records
-proceed s (next r rest) = r then recordsFrom (after s r) rest
+proceed s (next r rest) = r then recordsFrom (after s (itemOf r)) rest
 proceed s ends = complete
 proceed s (fails refusal) = fault refusal
 
@@ -229,12 +221,12 @@ records-step s [] = refl
 records-step s (b ∷ bytes) = go (readRecord s (b ∷ bytes)) (of-step s (b ∷ bytes))
   where
     go : (step : Step) → OfStep s (b ∷ bytes) step
-        → elim step [ next r rest ↦ r then recordsWithin (length bytes) (after s r) rest | ends ↦ complete | fails refusal ↦ fault refusal ] ≡ proceed s step
-    go (next r rest) t = ap (λ (x : Records). r then x) (enough (length bytes) (length rest) (after s r) rest (omega (arith, shorter t)) (omega arith))
+        → elim step [ next r rest ↦ r then recordsWithin (length bytes) (after s (itemOf r)) rest | ends ↦ complete | fails refusal ↦ fault refusal ] ≡ proceed s step
+    go (next r rest) t = ap (λ (x : Records). r then x) (enough (length bytes) (length rest) (after s (itemOf r)) rest (omega (arith, shorter t)) (omega arith))
     go ends t = refl
     go (fails refusal) t = refl
 
-pub records-next : (s : State) (bytes : List ℕ) (r : Record) (rest : List ℕ) → readRecord s bytes ≡ next r rest → recordsFrom s bytes ≡ r then recordsFrom (after s r) rest
+pub records-next : (s : State) (bytes : List ℕ) (r : Record) (rest : List ℕ) → readRecord s bytes ≡ next r rest → recordsFrom s bytes ≡ r then recordsFrom (after s (itemOf r)) rest
 records-next s bytes r rest e = records-step s bytes ∙ ap (proceed s) e
 
 pub records-end : (s : State) (bytes : List ℕ) → readRecord s bytes ≡ ends → recordsFrom s bytes ≡ complete
@@ -245,16 +237,17 @@ records-fault s bytes refusal e = records-step s bytes ∙ ap (proceed s) e
 
 -- ---- from what the code finds to what the definition reads
 
-pub record Read-as (step : Step) (item : Item) : Type 0 where
+pub record Read-as (step : Step) (item : Item) (size : ℕ) : Type 0 where
   pub r : Record
   pub rest : List ℕ
   pub is-next : step ≡ next r rest
   pub is-item : itemOf r ≡ item
+  pub is-size : recordSize r ≡ size
 
-pub found-item : (step : Step) (item : Item) → found.Item item ≡ foundOf step → Read-as step item
-found-item (next r rest) item e = record { r = r; rest = rest; is-next = refl; is-item = cc }
-found-item ends item e = let z : _≡_ {A = ℕ} 0 1 = cc in absurd (omega arith)
-found-item (fails refusal) item e = let z : _≡_ {A = ℕ} 0 1 = cc in absurd (omega arith)
+pub found-item : (step : Step) (item : Item) (size : ℕ) → found.Item item size ≡ foundOf step → Read-as step item size
+found-item (next r rest) item size e = record { r = r; rest = rest; is-next = refl; is-item = cc; is-size = cc }
+found-item ends item size e = let z : _≡_ {A = ℕ} 0 1 = cc in absurd (omega arith)
+found-item (fails refusal) item size e = let z : _≡_ {A = ℕ} 0 1 = cc in absurd (omega arith)
 
 pub found-end : (step : Step) → found.End ≡ foundOf step → step ≡ ends
 found-end (next r rest) e = cc

@@ -58,34 +58,35 @@ enum-known-n c = search needs
 mul-places : tie.Need-mul-places
 mul-places c = omega (arith, edges-most (holding (c .before)))
 
+abbrev read-as : tie.After-float → tie.After-n
+read-as c = c .before .before .before
+
 float-requires : tie.Need-float-requires
 float-requires c κs = search needs
 
 slice-reshare-prefix-color-stored : tie.Need-slice-reshare-prefix-color-stored
-slice-reshare-prefix-color-stored c = contours-within (holding (c .before .before))
+slice-reshare-prefix-color-stored c = contours-within (holding (read-as c))
 
 slice-aggregate-color-stored : tie.Need-slice-aggregate-color-stored
-slice-aggregate-color-stored c = sym (length-take-le _ _ (contours-within (holding (c .before .before .before))))
+slice-aggregate-color-stored c = sym (length-take-le _ _ (contours-within (holding (read-as (c .before)))))
 
 slice-reshare-prefix-color-stored-2 : tie.Need-slice-reshare-prefix-color-stored-2
-slice-reshare-prefix-color-stored-2 c = kinds-within (holding (c .before .before .before))
+slice-reshare-prefix-color-stored-2 c = kinds-within (holding (read-as (c .before)))
 
 slice-aggregate-color-stored-2 : tie.Need-slice-aggregate-color-stored-2
-slice-aggregate-color-stored-2 c = sym (length-take-le _ _ (kinds-within (holding (c .before .before .before .before))))
+slice-aggregate-color-stored-2 c = sym (length-take-le _ _ (kinds-within (holding (read-as (c .before .before)))))
 
 slice-reshare-prefix-color-stored-3 : tie.Need-slice-reshare-prefix-color-stored-3
-slice-reshare-prefix-color-stored-3 c = places-within (holding (c .before .before .before .before))
+slice-reshare-prefix-color-stored-3 c = places-within (holding (read-as (c .before .before)))
 
 slice-aggregate-color-stored-3 : tie.Need-slice-aggregate-color-stored-3
-slice-aggregate-color-stored-3 c = sym (length-take-le _ _ (places-within (holding (c .before .before .before .before .before))))
+slice-aggregate-color-stored-3 c = sym (length-take-le _ _ (places-within (holding (read-as (c .before .before .before)))))
 
 slice-reshare-prefix-color-stored-4 : tie.Need-slice-reshare-prefix-color-stored-4
-slice-reshare-prefix-color-stored-4 c = distances-within (holding (c .before .before .before .before .before))
+slice-reshare-prefix-color-stored-4 c = distances-within (holding (read-as (c .before .before .before)))
 
 slice-aggregate-color-stored-4 : tie.Need-slice-aggregate-color-stored-4
-slice-aggregate-color-stored-4 c =
-    let read = c .before .before .before .before .before in
-    sym (length-take-le _ _ (distances-within (holding (read .before))))
+slice-aggregate-color-stored-4 c = sym (length-take-le _ _ (distances-within (holding (read-as (c .before .before .before .before)))))
 
 color-stored-requires : tie.Need-color-stored-requires
 color-stored-requires c κs = search needs
@@ -121,7 +122,7 @@ returns : tie.Need-returns
 returns c =
     let colored = c .before .before .before .before .before .before .before .before in
     let float = colored .before .before .before .before .before .before .before .before .before in
-    let read = float .before .before in
+    let read = read-as float in
     colored .color-stored .ensures ∙ held-colored (holding read) (float .float .result) (out (start read)) (float .float .ensures)
 
 same-length-9 : tie.Need-same-length-9
