@@ -25,7 +25,7 @@ use Rattle.job.specs.declared.progress.Progress.{Progress}
 use Rattle.job.specs.Patterns.{number, words, floats, isThreshold, isCoordinate, isDistance}
 use Rattle.job.specs.Records.{Record, header, edge, distances, Step, next, ends, fails, require, knownStrategy, strategyOf, controls, bodySize, allowed, fits, closing, among, byDistance, edgeOf, itemOf, recordSize, markOf, readHeader, readEdge, readDistances, readEnd, readBody, readMarked, readRecord, after, Records, _then_, recordsFrom}
 use Rattle.job.specs.Job.{noJob, jobFrom, Reading, reads, refuses, readJob}
-use Rattle.job.specs.Color.{colorReading, colorFile, acceptedReading, accepted}
+use Rattle.job.specs.Color.{colorReading, colorFile, acceptReading, acceptJob, hasJob, accepted}
 use Rattle.job.specs.Part.{contourPart}
 use Rattle.job.specs.Listing.{readingText, fileText}
 use Rattle.job.specs.Progress.{begin, advanced}
@@ -207,10 +207,10 @@ unfolding fileText
 first-bytes-text file = ap readingText (first-bytes-decide file)
 
 pub accepted-few : (file : List ℕ) → accepted file ≡ true → length file ≤ 33177
-unfolding accepted acceptedReading
+unfolding acceptJob acceptReading
 accepted-few file h = go (readJob file) refl h
   where
-    go : (reading : Reading) → readJob file ≡ reading → acceptedReading reading ≡ true → length file ≤ 33177
+    go : (reading : Reading) → readJob file ≡ reading → hasJob (acceptReading reading) ≡ true → length file ≤ 33177
     go (reads job) e h = bytes-few file job e
     go (refuses refusal) e h = let z : _≡_ {A = ℕ} 0 1 = cc in absurd (omega arith)
 
@@ -218,7 +218,7 @@ pub first-bytes-part : (file : List ℕ) (number : ℕ) → contourPart (take 34
 first-bytes-part file number = go (accepted file) refl
   where
     same : accepted (take 34000 file) ≡ accepted file
-    same = unfold accepted in ap acceptedReading (first-bytes-decide file)
+    same = unfold acceptJob in ap (λ (r : Reading). hasJob (acceptReading r)) (first-bytes-decide file)
 
     go : (b : Bool) → accepted file ≡ b → contourPart (take 34000 file) number ≡ contourPart file number
     go true h = ap (λ (x : List ℕ). contourPart x number) (take-all 34000 file (omega (arith, accepted-few file h)))

@@ -28,7 +28,7 @@ use Rattle.job.specs.Job.{Job, Reading, reads, refuses}
 use Rattle.job.specs.Buffers.{Buffers, hasRoom}
 use Rattle.job.specs.Progress.{numbersOf}
 use Rattle.job.specs.Reader.{readInto}
-use Rattle.job.specs.Color.{byStrategy, foundIn, checkJob, colored, colorReading, answered, checkReading}
+use Rattle.job.specs.Color.{byStrategy, foundIn, checkJob, colored, colorReading, answered, checkReading, acceptChecked, acceptReading}
 use Rattle.job.specs.Listing.{fileText, listFile}
 
 -- strategy, seed, the threshold's bits, and how many contours, edges and distances
@@ -43,21 +43,6 @@ readAnswer (read.Refused r) = refusal (refusalNumber r)
 abbrev pub listedAnswer : Listed → Answer
 listedAnswer (listed.Bytes n) = values (n ∷ [])
 listedAnswer (listed.Refused r) = refusal (refusalNumber r)
-
--- ---- reading: 11 last
-
-abbrev pub toldReading : Reading → Buffers → Answer
-toldReading (refuses r) old = refusal (refusalNumber r)
-toldReading (reads job) old = firstOf (unless 11 (hasRoom (numbersOf job) old) ∷ []) (values (jobValues (numbersOf job)))
-
-pub reading-in-numbers : (reading : Reading) (old : Buffers) → readAnswer (readInto reading old .answer) ≡ toldReading reading old
-unfolding readInto firstOf
-reading-in-numbers (refuses r) old = refl
-reading-in-numbers (reads job) old = go (hasRoom (numbersOf job) old) refl
-  where
-    go : (b : Bool) → hasRoom (numbersOf job) old ≡ b → readAnswer (readInto (reads job) old .answer) ≡ toldReading (reads job) old
-    go true e = rw e
-    go false e = rw e
 
 -- ---- checking and colouring: for strategy 3 splines 4, distance count 8, the distances again 9; 11 last
 
@@ -102,6 +87,23 @@ coloring-in-numbers (refuses r) old = refl
 coloring-in-numbers (reads job) old =
     let counts = countsOf (foundIn job) (colored job) in
     told-job (told-after counts (colored job) old) (told-refused counts (colored job) old) job _ (jobCounted job) (told-passed counts (colored job) old)
+
+-- ---- reading: the same checks, then 11
+
+abbrev pub toldReading : Reading → Buffers → Answer
+toldReading (refuses r) old = refusal (refusalNumber r)
+toldReading (reads job) old = firstOf (jobChecks job ++ (unless 11 (hasRoom (numbersOf job) old) ∷ [])) (values (jobValues (numbersOf job)))
+
+pub reading-in-numbers : (reading : Reading) (old : Buffers) → readAnswer (readInto (acceptReading reading) old .answer) ≡ toldReading reading old
+unfolding acceptReading readInto firstOf
+reading-in-numbers (refuses r) old = refl
+reading-in-numbers (reads job) old =
+    told-job (λ checked. readAnswer (readInto (acceptChecked checked job) old .answer)) (λ r. refl) job _ (values (jobValues (numbersOf job))) (go (hasRoom (numbersOf job) old) refl)
+  where
+    go : (b : Bool) → hasRoom (numbersOf job) old ≡ b
+        → readAnswer (readInto (reads job) old .answer) ≡ firstOf (unless 11 (hasRoom (numbersOf job) old) ∷ []) (values (jobValues (numbersOf job)))
+    go true e = rw e
+    go false e = rw e
 
 -- ---- listing: 11
 

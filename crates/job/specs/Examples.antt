@@ -23,7 +23,7 @@ use Rattle.job.specs.declared.records.State.{State}
 use Rattle.job.specs.Records.{fails, start, readRecord}
 use Rattle.job.specs.Job.{Job, reads, refuses, readJob}
 use Rattle.job.specs.Part.{contourPart}
-use Rattle.job.specs.Color.{colorFile, checkFile, accepted}
+use Rattle.job.specs.Color.{colorFile, checkFile, acceptJob, accepted}
 use Rattle.job.specs.declared.listing.Listed.the-variants as answer
 use Rattle.job.specs.Listing as list
 use Rattle.job.specs.Listing.{decimal, refusalLine, fileText, listFile}
@@ -233,12 +233,12 @@ abbrev squareAlone : List ℕ
 squareAlone = opening 3 (squareContour (DS (0 ∷ 0 ∷ EN [])))
 
 pub miscounted-before-short : (colorFile squareAlone noPlaces ≡ outcome (Refused LengthMismatch) noPlaces) × (accepted squareAlone ≡ false)
-unfolding colorFile accepted ofBits searchCorners cornerCount firstCorner direction sub dot cross divScalar squaredLength lengthOf normalize sqrtOf Ieee.add Ieee.sub Ieee.mul Ieee.div Ieee.ne Ieee.le Ieee.lt
+unfolding colorFile acceptJob ofBits searchCorners cornerCount firstCorner direction sub dot cross divScalar squaredLength lengthOf normalize sqrtOf Ieee.add Ieee.sub Ieee.mul Ieee.div Ieee.ne Ieee.le Ieee.lt
 miscounted-before-short = (refl, refl)
 
 -- 11 is no fault of the file
 pub short : (colorFile squareFile noPlaces ≡ outcome (Refused ResultTooShort) noPlaces) × (accepted squareFile ≡ true)
-unfolding colorFile accepted ofBits
+unfolding colorFile acceptJob ofBits
 short = (refl, refl)
 
 pub square-checked : checkFile squareFile ≡ Edges (record { edges = 4; splines = 4 })

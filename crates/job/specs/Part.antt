@@ -9,7 +9,7 @@ use Rattle.job.specs.declared.part.Span.{Span}
 use Rattle.job.specs.declared.part.Seek.{Seek}
 use Rattle.job.specs.declared.part.Seek.the-variants.{Passing, Open, Done}
 use Rattle.job.specs.Records.{itemOf, bytesOf, recordSize, Records, complete, fault, _then_, start, recordsFrom}
-use Rattle.job.specs.Color.{accepted}
+use Rattle.job.specs.Color.{acceptJob, accepted}
 
 -- a record, which starts at a place: the contour begins at the CT with none left to pass, and ends at the first record that is no edge
 unfoldable pub sought : Seek → ℕ → Item → Seek
@@ -42,7 +42,7 @@ contourSpan file number = seek (Passing number) 0 (recordsFrom start file)
 
 -- where its bytes stand: nowhere for a refused file or a number too large
 unfoldable pub contourPlace : List ℕ → ℕ → Span
-unfolding accepted contourSpan
+unfolding acceptJob contourSpan
 contourPlace file number = cond (accepted file) (contourSpan file number) (record { start = 0; end = 0 })
 
 unfoldable pub contourPart : List ℕ → ℕ → List ℕ

@@ -209,7 +209,7 @@ fn closing(phase: Phase) -> bool
 }
 
 // Whether the strategy asks for distances.
-fn by_distance(strategy: Strategy) -> bool
+pub(crate) fn by_distance(strategy: Strategy) -> bool
     ensures { λ r. ⌜ r ≡ byDistance strategy ⌝ }
 {
     match strategy {

@@ -29,23 +29,24 @@ use Rattle.coloring.specs.Places.{concat}
 use Rattle.coloring.specs.Splines.{splineTotal}
 use Rattle.coloring.specs.Outline as outline
 use Rattle.coloring.specs.declared.outline.Colored.the-variants as color
-use Rattle.coloring.specs.Outline.{Result, Outcome, outcome, cut, encode, edgeOf, contours, knownKind, coordinatesFit, maxContours, maxEdges, check, fits, delivered, deliver}
+use Rattle.coloring.specs.Outline.{Outline, Result, Outcome, outcome, cut, encode, edgeOf, contours, knownKind, coordinatesFit, maxContours, maxEdges, check, fits, delivered, deliver}
 use Rattle.coloring.specs.Shape.{markContours, painted, countsOf}
 use Rattle.coloring.specs.Sizes.{sizes, concat-length, points-length}
 use Rattle.coloring.specs.EdgeColoring.{edgeColoring}
-use Rattle.coloring.specs.ByDistance.{splineByte, withBytes, edgeColoringByDistance}
+use Rattle.coloring.specs.ByDistance.{collectSplines, splineByte, withBytes, edgeColoringByDistance}
 use Rattle.job.specs.declared.progress.Numbers.{Numbers as JobNumbers}
 use Rattle.job.specs.declared.progress.Read.{Read}
 use Rattle.job.specs.declared.progress.Read.the-variants as read
 use Rattle.job.specs.declared.records.Strategy as strategies
 use Rattle.job.specs.declared.records.Strategy.the-variants as by
 use Rattle.job.specs.Job.{thresholdOf, Job, Reading, reads, refuses, readJob}
-use Rattle.job.specs.Progress.{edgeCount, numbersOf}
+use Rattle.job.specs.Progress.{edgeCount, numbersOf, answerOf}
 use Rattle.job.specs.Buffers.{Buffers, buffers, kindsOf, placesOf, stored, overEach, roomFor, hasRoom, Hold}
-use Rattle.job.specs.Reader.{readInto, Delivers}
-use Rattle.job.specs.Color.{byStrategy, foundIn, checkJob, coloredEdges, edgeColors, colored, colorJob, colorReading, colorFile, isPassed, acceptedReading, accepted, noOther, outlineOf, colorStored, HoldsJobs}
+use Rattle.job.specs.Reader.{Fits, filled}
+use Rattle.job.specs.Color.{byStrategy, foundIn, checkJob, coloredEdges, edgeColors, colored, colorJob, colorReading, colorFile, outlineOf, colorStored, HoldsJobs}
 use Rattle.job.proofs.records.ReadingLaws.{edgeFits}
 use Rattle.job.proofs.progress.ProgressLaws.{Sound, job-sound, contours-few, edges-few}
+use Rattle.job.proofs.reader.DeliverLaws.{answer-job, answer-refused}
 use Rattle.job.proofs.buffers.StoredLaws.{kinds-length}
 
 -- ---- the buffers hold the contours
@@ -145,6 +146,12 @@ module _ (job : Job) (so : Sound job) (contours-fit : length (job .contours) ≤
         rw (few, passes, contours-again job)
         (rw few at (ap (λ (r : Result). deliver distances-checked (countsOf (foundIn job) r) r old) numbered))
 
+    -- collecting its splines counts the edges and splines of its result
+    pub collected : collectSplines (outlineOf (stored job)) (thresholdOf (job .header)) old
+        ≡ deliver (require (leb (splineTotal (foundIn job)) maxSplines) TooMany Passed) (countsOf (foundIn job) (colored job)) (with (markContours Numbers (foundIn job))) old
+    unfolding edgeColoring foundIn coloredEdges painted countsOf colored encode
+    collected = rw (passes, contours-again job)
+
     stored-is : stored job .distances ≡ job .distances
     unfolding stored
     stored-is = refl
@@ -171,7 +178,7 @@ unfolding over
 within xs ys e = omega (arith, e, length-append xs (drop (length xs) ys))
 
 -- a job that was read has room
-job-room : (file : List ℕ) (job : Job) (old : Buffers) → readJob file ≡ reads job → HoldsJobs old → hasRoom (numbersOf job) old ≡ true
+pub job-room : (file : List ℕ) (job : Job) (old : Buffers) → readJob file ≡ reads job → HoldsJobs old → hasRoom (numbersOf job) old ≡ true
 unfolding roomFor
 job-room file job old e h =
     let few = contours-few file job e in
@@ -191,31 +198,19 @@ pub record Holding (file : List ℕ) (n : JobNumbers) (old : Buffers) (lengths k
   pub numbers : n ≡ numbersOf job
   pub holds : Hold (overEach (stored job) old) lengths kinds points distances
 
-module _ (file : List ℕ) (old : Buffers) (room : HoldsJobs old) (lengths kinds : List ℕ) (points distances : List Float) where
-  pub read-job : (answer : Read) (n : JobNumbers) → answer ≡ read.Job n → Delivers (readInto (readJob file) old) answer lengths kinds points distances
-      → Holding file n old lengths kinds points distances
-  unfolding readInto
-  read-job answer n is d = go (readJob file) refl (rw is at d)
-    where
-      go : (reading : Reading) → readJob file ≡ reading → Delivers (readInto reading old) (read.Job n) lengths kinds points distances → Holding file n old lengths kinds points distances
-      go (reads job) e d =
-          let given = rw (job-room file job old e room) at d in
-          record { job = job; is-read = e; numbers = let same = given .answers in cc; holds = given .holds }
-      go (refuses refusal) e d = let no = d .answers in let z : _≡_ {A = ℕ} 0 1 = cc in absurd (omega arith)
+module _ (file : List ℕ) (n : JobNumbers) (old : Buffers) (told : read.Job n ≡ answerOf (readJob file)) where
+  pub fits-jobs : HoldsJobs old → Fits (readJob file) old
+  fits-jobs room = let a = answer-job (readJob file) n told in rw (a .is-read) (job-room file (a .job) old (a .is-read) room)
 
-  pub read-refused : (answer : Read) (refusal : Refusal) (out : Result) → answer ≡ read.Refused refusal → Delivers (readInto (readJob file) old) answer lengths kinds points distances
-      → outcome (color.Refused refusal) out ≡ colorFile file out
-  unfolding readInto colorFile colorReading
-  read-refused answer refusal out is d = go (readJob file) refl (rw is at d)
-    where
-      go : (reading : Reading) → readJob file ≡ reading → Delivers (readInto reading old) (read.Refused refusal) lengths kinds points distances
-          → outcome (color.Refused refusal) out ≡ colorReading reading out
-      go (reads job) e d =
-          let given = rw (job-room file job old e room) at d in
-          let no = given .answers in
-          let z : _≡_ {A = ℕ} 0 1 = cc in
-          absurd (omega arith)
-      go (refuses other) e d = let same : refusal ≡ other = (let a = d .answers in cc) in ap (λ (r : Refusal). outcome (color.Refused r) out) same
+  pub holding-of : (lengths kinds : List ℕ) (points distances : List Float) → Hold (filled (readJob file) old) lengths kinds points distances
+      → Holding file n old lengths kinds points distances
+  holding-of lengths kinds points distances h =
+      let a = answer-job (readJob file) n told in
+      record { job = a .job; is-read = a .is-read; numbers = a .numbers; holds = rw (a .is-read) at h }
+
+pub color-refused : (file : List ℕ) (refusal : Refusal) (out : Result) → read.Refused refusal ≡ answerOf (readJob file) → outcome (color.Refused refusal) out ≡ colorFile file out
+unfolding colorFile colorReading
+color-refused file refusal out told = rw (answer-refused (readJob file) refusal told)
 
 module _ {file : List ℕ} {n : JobNumbers} {old : Buffers} {lengths kinds : List ℕ} {points distances : List Float} (h : Holding file n old lengths kinds points distances) where
   -- the parts of the buffers that hold the job
@@ -238,6 +233,13 @@ module _ {file : List ℕ} {n : JobNumbers} {old : Buffers} {lengths kinds : Lis
         take-over (8 * length edges) (placesOf edges) (old .points) (points-length edges),
         take-over (length (job .distances)) (job .distances) (old .distances) refl,
       )
+
+  -- and the outline in them
+  abbrev pub held-outline : Outline
+  held-outline = outlineOf held
+
+  pub held-is-outline : held-outline ≡ outlineOf (stored (h .job))
+  held-is-outline = ap outlineOf held-is
 
   pub held-colored : (threshold : Float) (out : Result) → threshold ≡ thresholdOf (n .header) → colorStored (n .header .strategy) (n .header .seed) threshold held out ≡ colorFile file out
   unfolding colorFile colorReading
@@ -266,43 +268,3 @@ module _ {file : List ℕ} {n : JobNumbers} {old : Buffers} {lengths kinds : Lis
   pub distances-within : n .distances ≤ length distances
   unfolding overEach stored
   distances-within = rw (h .numbers, h .holds .distances-are) (within (h .job .distances) (old .distances) refl)
-
--- ---- which files are accepted
-
--- the checks of a job do not give 11
-abbrev Early : Checked → Type 0
-Early Passed = Unit
-Early (Failed refusal) = eqb (refusalNumber refusal) 11 ≡ false
-
-early-by : (by : strategies.Strategy) (k : Checked) → Early k → Early (byStrategy by Passed Passed k)
-early-by by.Simple k h = tt
-early-by by.InkTrap k h = tt
-early-by by.ByDistance k h = h
-
-checks-early : (job : Job) → Early (checkJob job)
-unfolding checkJob
-checks-early job =
-    let splines = splineTotal (foundIn job) in
-    early-by (job .header .strategy) (checkSplines splines (job .distances))
-    (required (leb splines maxSplines && leb (length (job .distances)) maxDistances) TooMany _ refl
-    (required (eqb (length (job .distances)) (splines * (splines - 1) / 2)) LengthMismatch _ refl
-    (required (distancesValid (job .distances)) BadDistance Passed refl tt)))
-  where
-    required : (b : Bool) (refusal : Refusal) (rest : Checked) → eqb (refusalNumber refusal) 11 ≡ false → Early rest → Early (require b refusal rest)
-    required true refusal rest h k = k
-    required false refusal rest h k = h
-
-delivered-passed : (checked : Checked) (counts : Counts) (written old : Result) → Early checked → noOther (deliver checked counts written old .answer) ≡ isPassed checked
-unfolding deliver delivered
-delivered-passed (Failed refusal) counts written old h = h
-delivered-passed Passed counts written old h = go (fits written old)
-  where
-    go : (b : Bool) → noOther ((cond b (delivered counts written old) (outcome (color.Refused ResultTooShort) old)) .answer) ≡ true
-    go true = refl
-    go false = refl
-
-pub accepted-job : (file : List ℕ) (job : Job) (old : Result) (answer : Colored) (buffers : Result) → readJob file ≡ reads job → outcome answer buffers ≡ colorFile file old → noOther answer ≡ accepted file
-unfolding accepted acceptedReading colorFile colorReading colorJob
-accepted-job file job old answer buffers e same =
-    let here = rw e at same in
-    rw e (ap (λ (o : Outcome). noOther (o .answer)) here ∙ delivered-passed (checkJob job) _ _ old (checks-early job))

@@ -18,6 +18,7 @@ use Rattle.coloring.specs.Switching.{initColor}
 use Rattle.coloring.specs.Corners.{Cornered, searchCorners}
 use Rattle.coloring.specs.Layout.{splits, layout, resultEdges}
 use Rattle.coloring.specs.Splines.{splineTotal}
+use Rattle.coloring.specs.Outline.{encode}
 use Rattle.coloring.specs.Shape.{colorContours, markContours}
 use Rattle.coloring.specs.ByDistance.{splineColor, splineByte}
 use Rattle.coloring.specs.Sizes.{sizes, sizes-map, concat-length, flags-length, edges-split, edges-same, split-few, search-flagged, counted, laid-lengths, mark-lengths, Sized, encoded-sized}
@@ -92,6 +93,7 @@ pub record ShapeOf (job : Job) : Type 0 where
   pub marked : sizes (edgeColors job) ≡ sizes (coloredEdges job)
   pub are-colors : EachColors (edgeColors job)
   pub sized : Sized (colored job) (length (coloredEdges job)) (length (concat (coloredEdges job)))
+  pub numbered : Sized (encode (coloredEdges job) (markContours Numbers (foundIn job))) (length (coloredEdges job)) (length (concat (coloredEdges job)))
 
 module _ (job : Job) where
   laid-out : sizes (coloredEdges job) ≡ counted resultEdges (foundIn job)
@@ -142,4 +144,5 @@ module _ (job : Job) where
       marked = all-marked .each;
       are-colors = all-marked .are-colors;
       sized = encoded-sized (coloredEdges job) (edgeColors job) (all-marked .each);
+      numbered = encoded-sized (coloredEdges job) (markContours Numbers (foundIn job)) (mark-lengths Numbers (foundIn job) ∙ sym laid-out);
     }

@@ -14,6 +14,7 @@ use Rattle.geometry.specs.declared.edge_segment.EdgeSegment.{EdgeSegment}
 use Rattle.graph.specs.declared.refusal.Refusal.{Refusal}
 use Rattle.graph.specs.Bools.{and-left}
 use Rattle.graph.specs.Lists.{all}
+use Rattle.graph.specs.PairOrder.{distancesValid}
 use Rattle.coloring.specs.Outline.{between}
 use Rattle.coloring.specs.Places.{concat}
 use Rattle.job.specs.declared.records.Phase.{Phase}
@@ -74,10 +75,11 @@ pub record Sound (job : Job) : Type 0 where
   pub threshold-fits : between (Ieee.neg f1) (thresholdOf (job .header)) f1 ≡ true
   pub coordinates-fit : all edgeFits (concat (job .contours)) ≡ true
   pub distances-few : length (job .distances) ≤ 2016
+  pub distances-valid : distancesValid (job .distances) ≡ true
 
 sound-begin : Sound noJob
 unfolding concat all ofBits Ieee.neg Ieee.le
-sound-begin = record { threshold-fits = refl; coordinates-fit = refl; distances-few = omega arith }
+sound-begin = record { threshold-fits = refl; coordinates-fit = refl; distances-few = omega arith; distances-valid = refl }
 
 all-snoc : {A : Type 0} (test : A → Bool) (xs : List A) (x : A) → all test xs ≡ true → test x ≡ true → all test (xs ++ (x ∷ [])) ≡ true
 unfolding all
@@ -91,17 +93,18 @@ all-snoc test (y ∷ xs) x h k = go (test y) h (λ e. all-snoc test xs x e k)
 sound-next : (job : Job) (r : Record) (bytes : List ℕ) → Ready job r → Held r bytes → InRange r → Sound job → Sound (enter job r)
 unfolding enter
 sound-next job (header h) bytes is-ready held fits so =
-    record { threshold-fits = fits; coordinates-fit = so .coordinates-fit; distances-few = so .distances-few }
+    record { threshold-fits = fits; coordinates-fit = so .coordinates-fit; distances-few = so .distances-few; distances-valid = so .distances-valid }
 sound-next job contour bytes is-ready held fits so =
-    record { threshold-fits = so .threshold-fits; coordinates-fit = rw (more-concat (job .contours)) (so .coordinates-fit); distances-few = so .distances-few }
+    record { threshold-fits = so .threshold-fits; coordinates-fit = rw (more-concat (job .contours)) (so .coordinates-fit); distances-few = so .distances-few; distances-valid = so .distances-valid }
 sound-next job (edge e) bytes is-ready held fits so =
     record {
       threshold-fits = so .threshold-fits;
       coordinates-fit = rw (with-edge-concat (job .contours) e is-ready) (all-snoc edgeFits (concat (job .contours)) e (so .coordinates-fit) fits);
       distances-few = so .distances-few;
+      distances-valid = so .distances-valid;
     }
 sound-next job (distances ds) bytes is-ready held fits so =
-    record { threshold-fits = so .threshold-fits; coordinates-fit = so .coordinates-fit; distances-few = held .0 }
+    record { threshold-fits = so .threshold-fits; coordinates-fit = so .coordinates-fit; distances-few = held .0; distances-valid = fits }
 
 -- ---- a place that reading reaches
 

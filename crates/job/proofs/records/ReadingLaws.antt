@@ -16,6 +16,8 @@ use Rattle.geometry.specs.declared.edge_segment.EdgeSegment.{EdgeSegment}
 use Rattle.graph.specs.declared.refusal.Refusal.{Refusal}
 use Rattle.graph.specs.declared.refusal.Refusal.the-variants.{Truncated, MisplacedMark, TooMany, UnknownKind, BadThreshold, BadCoordinate, BadDistance}
 use Rattle.graph.specs.Lists.{all}
+use Rattle.graph.specs.Bools.{and-left, and-right}
+use Rattle.graph.specs.PairOrder.{validDistance, distancesValid}
 use Rattle.coloring.specs.Outline.{between, inRange, usedPlaces, max-coordinate}
 use Rattle.job.specs.declared.records.Kind.{Kind}
 use Rattle.job.specs.declared.records.Kind.the-variants.{Line, Quadratic, Cubic}
@@ -31,7 +33,7 @@ use Rattle.job.specs.Patterns.{number, words, floats, isThreshold, isCoo
 use Rattle.job.specs.Records.{strategyOf, recordMark, Record, header, contour, edge, distances, Step, next, ends, fails, require, knownStrategy, controls, bodySize, allowed, fits, kindOf, edgeOf, recordSize, itemOf, foundOf, markOf, readHeader, readEdge, readDistances, readEnd, readBody, readMarked, readRecord, after, Records, complete, fault, _then_, recordsWithin, recordsFrom}
 use Rattle.job.specs.Job.{thresholdOf}
 use Rattle.job.proofs.patterns.PatternLaws.{floats-length}
-use Rattle.job.proofs.patterns.PatternMeaning.{threshold-means, coordinate-means}
+use Rattle.job.proofs.patterns.PatternMeaning.{threshold-means, coordinate-means, distance-below, distance-means}
 use Rattle.job.proofs.records.RecordLaws.{Allowed, size-is, size-some}
 
 -- ---- a record that was read
@@ -52,7 +54,7 @@ abbrev pub InRange : Record → Type 0
 InRange (header h) = between (Ieee.neg f1) (thresholdOf h) f1 ≡ true
 InRange contour = Unit
 InRange (edge e) = edgeFits e ≡ true
-InRange (distances ds) = Unit
+InRange (distances ds) = distancesValid ds ≡ true
 
 pub record Taken (s : State) (bytes : List ℕ) (r : Record) (rest : List ℕ) : Type 0 where
   pub may : Allowed s (recordMark r)
@@ -84,6 +86,14 @@ coordinates-fit [] = refl
 coordinates-fit (b ∷ ps) =
     let one : inRange (ofBits binary64 b) ≡ isCoordinate b = rw max-coordinate (sym (coordinate-means b)) in
     rw (one, coordinates-fit ps)
+
+distances-fit : (ps : List ℕ) → all isDistance ps ≡ true → distancesValid (floats ps) ≡ true
+unfolding all floats validDistance ofBits
+distances-fit [] h = refl
+distances-fit (b ∷ ps) h =
+    let here : isDistance b ≡ true = and-left (isDistance b) (all isDistance ps) h in
+    let valid : validDistance (ofBits binary64 b) ≡ true = sym (distance-means b (distance-below b here)) ∙ here in
+    rw valid (distances-fit ps (and-right (isDistance b) (all isDistance ps) h))
 
 edge-fits : (kind : Kind) (body : List ℕ) → all isCoordinate (words (2 * controls kind) body) ≡ true → edgeFits (edgeOf kind (floats (words (2 * controls kind) body))) ≡ true
 unfolding toStored words floats
@@ -150,7 +160,7 @@ module _ (s : State) (a b : ℕ) (bytes : List ℕ) where
         whole = omega (arith, takes, leb-true (8 * count) (length rest) there, length-drop 2 bytes);
         beyond = rw takes (drop-drop (8 * count) 4 all-bytes);
         held = (omega (arith, size, leb-true count 2016 few), rw size);
-        in-range = tt;
+        in-range = distances-fit patterns within;
       })))
 
   body-taken : (mark : Mark) → Allowed s mark → fits (s .numbers) mark ≡ true → bodySize mark ≤ length bytes
