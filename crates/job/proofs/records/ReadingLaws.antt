@@ -1,7 +1,7 @@
 -- What is known of a record that was read, and the records of a file one by one.
 use mathlib.Core.Path.{_≡_, refl, sym, ap, subst, _∙_}
 use mathlib.Core.Bool.{Bool, true, false}
-use mathlib.Core.List.{List, [], _∷_}
+use mathlib.Core.List.{List, [], _∷_, _++_}
 use Prim.Native.Nat.{ℕ, zero, suc, _+_, _*_, _≤_}
 use native.Mathlib.Omega.{arith}
 use lib.Dec.{leb}
@@ -30,10 +30,11 @@ use Rattle.job.specs.declared.records.State.{State}
 use Rattle.job.specs.declared.records.Item.{Item}
 use Rattle.job.specs.declared.records.Found.the-variants as found
 use Rattle.job.specs.Patterns.{number, words, floats, isThreshold, isCoordinate, isDistance}
-use Rattle.job.specs.Records.{strategyOf, recordMark, Record, header, contour, edge, distances, Step, next, ends, fails, require, knownStrategy, controls, bodySize, allowed, fits, kindOf, edgeOf, recordSize, itemOf, foundOf, markOf, readHeader, readEdge, readDistances, readEnd, readBody, readMarked, readRecord, after, Records, complete, fault, _then_, recordsWithin, recordsFrom}
+use Rattle.job.specs.Records.{strategyOf, recordMark, marked, bytesOf, Record, header, contour, edge, distances, Step, next, ends, fails, require, knownStrategy, controls, bodySize, allowed, fits, kindOf, edgeOf, recordSize, itemOf, foundOf, markOf, readHeader, readEdge, readDistances, readEnd, readBody, readMarked, readRecord, after, Records, complete, fault, _then_, recordsWithin, recordsFrom}
 use Rattle.job.specs.Job.{thresholdOf}
-use Rattle.job.proofs.patterns.PatternLaws.{floats-length}
+use Rattle.job.proofs.patterns.PatternLaws.{AreBytes, floats-length}
 use Rattle.job.proofs.patterns.PatternMeaning.{threshold-means, coordinate-means, distance-below, distance-means}
+use Rattle.job.proofs.records.BytesLaws.{Lettered, letters-of, marked-bytes, header-bytes, contour-bytes, edge-bytes, distances-bytes}
 use Rattle.job.proofs.records.RecordLaws.{Allowed, size-is, size-some}
 
 -- ---- a record that was read
@@ -62,11 +63,12 @@ pub record Taken (s : State) (bytes : List ℕ) (r : Record) (rest : List ℕ) :
   pub whole : recordSize r ≤ length bytes
   pub beyond : rest ≡ drop (recordSize r) bytes
   pub held : Held r bytes
+  pub is-bytes : AreBytes bytes → bytes ≡ bytesOf r ++ rest
   pub in-range : InRange r
 
 abbrev OfStep : State → List ℕ → Step → Type 0
 OfStep s bytes (next r rest) = Taken s bytes r rest
-OfStep s bytes ends = length bytes ≡ 2
+OfStep s bytes ends = bytes ≡ marked End []
 OfStep s bytes (fails refusal) = Unit
 
 -- a test passes, or there is nothing to show
@@ -103,48 +105,52 @@ edge-fits Cubic body h = coordinates-fit (words 8 body) ∙ h
 
 -- ---- record by record
 
-end-taken : (s : State) (a b : ℕ) (bytes : List ℕ) → OfStep s (a ∷ b ∷ bytes) (readEnd bytes)
+end-taken : (s : State) (a b : ℕ) (bytes : List ℕ) → Lettered a b End → OfStep s (a ∷ b ∷ bytes) (readEnd bytes)
 unfolding readEnd
-end-taken s a b [] = refl
-end-taken s a b (c ∷ bytes) = tt
+end-taken s a b [] l = rw (l .0, l .1)
+end-taken s a b (c ∷ bytes) l = tt
 
 module _ (s : State) (a b : ℕ) (bytes : List ℕ) where
   abbrev all-bytes : List ℕ
   all-bytes = a ∷ b ∷ bytes
 
-  header-taken : Allowed s Header → fits (s .numbers) Header ≡ true → 17 ≤ length bytes → OfStep s all-bytes (readHeader (take 17 bytes) (drop 17 bytes))
+  -- the bytes after the letters are bytes
+  after-letters : AreBytes all-bytes → AreBytes bytes
+  after-letters h i = h (suc (suc i))
+
+  header-taken : Lettered a b Header → Allowed s Header → fits (s .numbers) Header ≡ true → 17 ≤ length bytes → OfStep s all-bytes (readHeader (take 17 bytes) (drop 17 bytes))
   unfolding readHeader
-  header-taken may room whole =
+  header-taken l may room whole =
       let body = take 17 bytes in
       let threshold = number (take 8 (drop 9 body)) in
       let h : fields.Header = record { strategy = strategyOf (getD body 0 0); seed = number (take 8 (drop 1 body)); threshold = threshold } in
       let found = next (header h) (drop 17 bytes) in
       required s all-bytes (knownStrategy (getD body 0 0)) UnknownKind (require (isThreshold threshold) BadThreshold found)
       (λ known. required s all-bytes (isThreshold threshold) BadThreshold found
-      (λ within. record { may = may; room = room; whole = omega (arith, size-is (header h)); beyond = rw (size-is (header h)); held = tt; in-range = threshold-fits h within }))
+      (λ within. record { may = may; room = room; whole = omega (arith, size-is (header h)); beyond = rw (size-is (header h)); held = tt; is-bytes = λ are. marked-bytes a b bytes _ (header h) l (header-bytes bytes (after-letters are) whole known); in-range = threshold-fits h within }))
 
-  edge-taken : (kind : Kind) → Allowed s (Edge kind) → fits (s .numbers) (Edge kind) ≡ true → 16 * controls kind ≤ length bytes
+  edge-taken : (kind : Kind) → Lettered a b (Edge kind) → Allowed s (Edge kind) → fits (s .numbers) (Edge kind) ≡ true → 16 * controls kind ≤ length bytes
       → OfStep s all-bytes (readEdge kind (take (16 * controls kind) bytes) (drop (16 * controls kind) bytes))
   unfolding readEdge
-  edge-taken Line may room whole =
+  edge-taken Line l may room whole =
       let ps = words 4 (take 32 bytes) in
       let e = edgeOf Line (floats ps) in
       required s all-bytes (all isCoordinate ps) BadCoordinate (next (edge e) (drop 32 bytes))
-      (λ within. record { may = may; room = room; whole = omega (arith, size-is (edge e)); beyond = rw (size-is (edge e)); held = refl; in-range = edge-fits Line (take 32 bytes) within })
-  edge-taken Quadratic may room whole =
+      (λ within. record { may = may; room = room; whole = omega (arith, size-is (edge e)); beyond = rw (size-is (edge e)); held = refl; is-bytes = λ are. marked-bytes a b bytes _ (edge e) l (edge-bytes bytes (after-letters are) Line whole within); in-range = edge-fits Line (take 32 bytes) within })
+  edge-taken Quadratic l may room whole =
       let ps = words 6 (take 48 bytes) in
       let e = edgeOf Quadratic (floats ps) in
       required s all-bytes (all isCoordinate ps) BadCoordinate (next (edge e) (drop 48 bytes))
-      (λ within. record { may = may; room = room; whole = omega (arith, size-is (edge e)); beyond = rw (size-is (edge e)); held = refl; in-range = edge-fits Quadratic (take 48 bytes) within })
-  edge-taken Cubic may room whole =
+      (λ within. record { may = may; room = room; whole = omega (arith, size-is (edge e)); beyond = rw (size-is (edge e)); held = refl; is-bytes = λ are. marked-bytes a b bytes _ (edge e) l (edge-bytes bytes (after-letters are) Quadratic whole within); in-range = edge-fits Quadratic (take 48 bytes) within })
+  edge-taken Cubic l may room whole =
       let ps = words 8 (take 64 bytes) in
       let e = edgeOf Cubic (floats ps) in
       required s all-bytes (all isCoordinate ps) BadCoordinate (next (edge e) (drop 64 bytes))
-      (λ within. record { may = may; room = room; whole = omega (arith, size-is (edge e)); beyond = rw (size-is (edge e)); held = refl; in-range = edge-fits Cubic (take 64 bytes) within })
+      (λ within. record { may = may; room = room; whole = omega (arith, size-is (edge e)); beyond = rw (size-is (edge e)); held = refl; is-bytes = λ are. marked-bytes a b bytes _ (edge e) l (edge-bytes bytes (after-letters are) Cubic whole within); in-range = edge-fits Cubic (take 64 bytes) within })
 
-  distances-taken : Allowed s Distances → 2 ≤ length bytes → OfStep s all-bytes (readDistances (take 2 bytes) (drop 2 bytes))
+  distances-taken : Lettered a b Distances → Allowed s Distances → 2 ≤ length bytes → OfStep s all-bytes (readDistances (take 2 bytes) (drop 2 bytes))
   unfolding readDistances
-  distances-taken may whole =
+  distances-taken l may whole =
       let count = number (take 2 bytes) in
       let rest = drop 2 bytes in
       let patterns = words count rest in
@@ -160,40 +166,44 @@ module _ (s : State) (a b : ℕ) (bytes : List ℕ) where
         whole = omega (arith, takes, leb-true (8 * count) (length rest) there, length-drop 2 bytes);
         beyond = rw takes (drop-drop (8 * count) 4 all-bytes);
         held = (omega (arith, size, leb-true count 2016 few), rw size);
+        is-bytes = λ are. marked-bytes a b bytes _ (distances (floats patterns)) l (distances-bytes bytes (after-letters are) whole (leb-true (8 * count) (length rest) there) within);
         in-range = distances-fit patterns within;
       })))
 
-  body-taken : (mark : Mark) → Allowed s mark → fits (s .numbers) mark ≡ true → bodySize mark ≤ length bytes
+  body-taken : (mark : Mark) → Lettered a b mark → Allowed s mark → fits (s .numbers) mark ≡ true → bodySize mark ≤ length bytes
       → OfStep s all-bytes (readBody mark (take (bodySize mark) bytes) (drop (bodySize mark) bytes))
   unfolding readBody
-  body-taken Header may room whole = header-taken may room whole
-  body-taken Contour may room whole = record { may = may; room = room; whole = omega (arith, size-is contour); beyond = rw (size-is contour); held = tt; in-range = tt }
-  body-taken (Edge kind) may room whole = edge-taken kind may room whole
-  body-taken Distances may room whole = distances-taken may whole
-  body-taken End may room whole = end-taken s a b bytes
+  body-taken Header l may room whole = header-taken l may room whole
+  body-taken Contour l may room whole = record { may = may; room = room; whole = omega (arith, size-is contour); beyond = rw (size-is contour); held = tt; is-bytes = λ are. marked-bytes a b bytes bytes contour l (contour-bytes bytes (after-letters are)); in-range = tt }
+  body-taken (Edge kind) l may room whole = edge-taken kind l may room whole
+  body-taken Distances l may room whole = distances-taken l may whole
+  body-taken End l may room whole = end-taken s a b bytes l
 
-  marked-taken : (m : Marked) → OfStep s all-bytes (readMarked s m bytes)
+  marked-taken : (m : Marked) → markOf a b ≡ m → OfStep s all-bytes (readMarked s m bytes)
   unfolding readMarked
-  marked-taken Unknown = tt
-  marked-taken (Known mark) =
+  marked-taken Unknown is = tt
+  marked-taken (Known mark) is =
       let body = readBody mark (take (bodySize mark) bytes) (drop (bodySize mark) bytes) in
       let sized = require (leb (bodySize mark) (length bytes)) Truncated body in
       required s all-bytes (allowed (s .phase) (s .numbers .header .strategy) mark) MisplacedMark (require (fits (s .numbers) mark) TooMany sized)
       (λ may. required s all-bytes (fits (s .numbers) mark) TooMany sized
       (λ room. required s all-bytes (leb (bodySize mark) (length bytes)) Truncated body
-      (λ whole. body-taken mark may room (leb-true (bodySize mark) (length bytes) whole))))
+      (λ whole. body-taken mark (letters-of a b mark is) may room (leb-true (bodySize mark) (length bytes) whole))))
 
 of-step : (s : State) (bytes : List ℕ) → OfStep s bytes (readRecord s bytes)
 unfolding readRecord
 of-step s [] = tt
 of-step s (a ∷ []) = tt
-of-step s (a ∷ b ∷ bytes) = marked-taken s a b bytes (markOf a b)
+of-step s (a ∷ b ∷ bytes) = marked-taken s a b bytes (markOf a b) refl
 
 pub taken : (s : State) (bytes : List ℕ) (r : Record) (rest : List ℕ) → readRecord s bytes ≡ next r rest → Taken s bytes r rest
 taken s bytes r rest e = subst (OfStep s bytes) e (of-step s bytes)
 
+pub end-is : (s : State) (bytes : List ℕ) → readRecord s bytes ≡ ends → bytes ≡ marked End []
+end-is s bytes e = subst (OfStep s bytes) e (of-step s bytes)
+
 pub end-size : (s : State) (bytes : List ℕ) → readRecord s bytes ≡ ends → length bytes ≡ 2
-end-size s bytes e = subst (OfStep s bytes) e (of-step s bytes)
+end-size s bytes e = ap length (end-is s bytes e)
 
 shorter : {s : State} {bytes : List ℕ} {r : Record} {rest : List ℕ} → Taken s bytes r rest → length rest + 2 ≤ length bytes
 shorter {bytes = bytes} {r = r} t = omega (arith, ap length (t .beyond), length-drop (recordSize r) bytes, size-some r, t .whole)
