@@ -1,11 +1,16 @@
 -- A job, and the function from the bytes of a file to a job or its first refusal (document 01, "Trays and the job file").
-use Prim.Native.Nat.{ℕ}
-use mathlib.Core.List.{List, [], _∷_, _++_}
-use lib.Ieee.{Float, binary64, ofBits}
+use Prim.Native.Nat.{ℕ, _<_, _^_}
+use mathlib.Core.Path.{_≡_}
+use mathlib.Core.Bool.{Bool, true, cond}
+use mathlib.Core.List.{List, [], _∷_, _++_, map}
+use lib.Ieee.{Float, binary64, fits, ofBits}
 use Rattle.geometry.specs.declared.edge_segment.EdgeSegment.{EdgeSegment}
 use Rattle.graph.specs.declared.refusal.Refusal.{Refusal}
+use Rattle.graph.specs.Lists.{all}
+use Rattle.coloring.specs.Places.{concat}
+use Rattle.job.specs.declared.records.Mark.the-variants.{End}
 use Rattle.job.specs.declared.records.Header.{Header}
-use Rattle.job.specs.Records.{noHeader, Record, header, contour, edge, distances, Records, complete, fault, _then_, start, recordsFrom}
+use Rattle.job.specs.Records.{noHeader, byDistance, marked, bytesOf, coordinates, Record, header, contour, edge, distances, Records, complete, fault, _then_, start, recordsFrom}
 
 pub record Job : Type 0 where
   pub header : Header
@@ -49,3 +54,37 @@ jobFrom job (r then rest) = jobFrom (enter job r) rest
 unfoldable pub readJob : List ℕ → Reading
 unfolding jobFrom recordsFrom
 readJob file = jobFrom noJob (recordsFrom start file)
+
+-- ---- and back: the records of a job, in order, and its file
+
+abbrev pub contourRecords : List EdgeSegment → List Record
+contourRecords edges = contour ∷ map edge edges
+
+unfoldable pub outlineRecords : Header → List (List EdgeSegment) → List Record
+unfolding concat
+outlineRecords h contours = header h ∷ concat (map contourRecords contours)
+
+-- DS for strategy 3 only
+unfoldable pub recordsOf : Job → List Record
+unfolding outlineRecords
+recordsOf job = outlineRecords (job .header) (job .contours) ++ cond (byDistance (job .header .strategy)) (distances (job .distances) ∷ []) []
+
+unfoldable pub recordBytes : List Record → List ℕ
+unfolding bytesOf
+recordBytes [] = []
+recordBytes (r ∷ rs) = bytesOf r ++ recordBytes rs
+
+unfoldable pub fileOf : Job → List ℕ
+unfolding recordsOf recordBytes
+fileOf job = recordBytes (recordsOf job) ++ marked End []
+
+-- ---- what a file can hold: the logic's floats and numbers have values that 64 bits do not have
+
+abbrev pub doubles : List Float → Bool
+doubles xs = all (fits binary64) xs
+
+pub record Holdable (job : Job) : Type 0 where
+  pub seed : job .header .seed < 2 ^ 64
+  pub threshold : job .header .threshold < 2 ^ 64
+  pub coordinates-are : all (λ (e : EdgeSegment). doubles (coordinates e)) (concat (job .contours)) ≡ true
+  pub distances-are : doubles (job .distances) ≡ true

@@ -4,8 +4,8 @@ use mathlib.Core.Bool.{Bool, true, false, _&&_}
 use mathlib.Core.List.{List, [], _∷_, _++_, append-nil, append-assoc}
 use Prim.Native.Nat.{ℕ, zero, suc, _+_, _*_, _-_, _<_, _≤_, _^_}
 use native.Mathlib.Omega.{arith}
-use lib.ListN.{length, drop, length-append, length-drop}
-use lib.Seq.{drop-drop}
+use lib.ListN.{length, take, drop, length-append, length-drop, take-append-drop}
+use lib.Seq.{drop-drop, take-add, take-at}
 use lib.Ieee as Ieee
 use lib.Ieee.{ofBits}
 use borrow.Author.Tests.{ltb-true}
@@ -23,11 +23,15 @@ use Rattle.job.specs.declared.records.State.{State}
 use Rattle.job.specs.declared.records.Item.{Item}
 use Rattle.job.specs.declared.progress.Progress.{Progress}
 use Rattle.job.specs.declared.progress.Numbers.{Numbers}
-use Rattle.job.specs.Records.{Record, header, contour, edge, distances, Step, next, ends, fails, atStart, kindOf, inside, among, closing, byDistance, recordMark, fits, start, recordSize, itemOf, phaseAfter, counted, readRecord, after, _then_, recordsFrom}
-use Rattle.job.specs.Job.{thresholdOf, Job, noJob, withEdge, enter, reads, refuses, jobFrom, readJob}
+use Rattle.job.specs.Records.{Record, header, contour, edge, distances, Step, next, ends, fails, atStart, kindOf, inside, among, closing, byDistance, recordMark, coordinates, bytesOf, fits, start, recordSize, itemOf, phaseAfter, counted, readRecord, after, _then_, recordsFrom}
+use Rattle.job.specs.Job.{Holdable, doubles, recordsOf, recordBytes, fileOf, thresholdOf, Job, noJob, withEdge, enter, reads, refuses, jobFrom, readJob}
 use Rattle.job.specs.Progress.{edgeCount, begin, advanced, numbersOf, Counts}
+use Rattle.job.proofs.progress.ReadyLaws.{Ready}
+use Rattle.job.proofs.progress.SoFarLaws.{bytes-more, soFar, so-far-next, so-far-end, asked-next, nothing-next, floats-doubles, edge-doubles}
+use Rattle.job.proofs.patterns.PatternLaws.{AreBytes}
+use Rattle.job.proofs.patterns.ByteLaws.{are-dropped}
 use Rattle.job.proofs.records.RecordLaws.{Allowed, controls-few, size-is, size-some}
-use Rattle.job.proofs.records.ReadingLaws.{Held, edgeFits, InRange, Read-as, end-size, Taken, taken, records-next, records-end, records-fault}
+use Rattle.job.proofs.records.ReadingLaws.{Held, edgeFits, InRange, Read-as, end-is, end-may, end-size, Taken, taken, records-next, records-end, records-fault}
 
 -- ---- an edge more in the last contour
 
@@ -53,13 +57,6 @@ more-concat (c ∷ contours) = ap (λ (x : List EdgeSegment). c ++ x) (more-conc
 
 abbrev progressAt : ℕ → Phase → Job → Progress
 progressAt at phase job = record { at = at; state = record { phase = phase; numbers = numbersOf job } }
-
--- an edge comes only where a contour is open
-abbrev pub Ready : Job → Record → Type 0
-Ready job (header h) = Unit
-Ready job contour = Unit
-Ready job (edge e) = 0 < length (job .contours)
-Ready job (distances ds) = Unit
 
 numbers-next : (job : Job) (r : Record) → Ready job r → counted (numbersOf job) (itemOf r) ≡ numbersOf (enter job r)
 unfolding enter concat
@@ -106,6 +103,26 @@ sound-next job (edge e) bytes is-ready held fits so =
 sound-next job (distances ds) bytes is-ready held fits so =
     record { threshold-fits = so .threshold-fits; coordinates-fit = so .coordinates-fit; distances-few = held .0; distances-valid = fits }
 
+-- ---- a job that a file can hold
+
+holdable-next : (job : Job) (r : Record) (bytes : List ℕ) → Ready job r → Held r bytes → AreBytes bytes → Holdable job → Holdable (enter job r)
+unfolding enter
+holdable-next job (header h) bytes is-ready held are so =
+    record { seed = held are .0; threshold = held are .1; coordinates-are = so .coordinates-are; distances-are = so .distances-are }
+holdable-next job contour bytes is-ready held are so =
+    record { seed = so .seed; threshold = so .threshold; coordinates-are = rw (more-concat (job .contours)) (so .coordinates-are); distances-are = so .distances-are }
+holdable-next job (edge e) bytes is-ready held are so =
+    record {
+      seed = so .seed;
+      threshold = so .threshold;
+      coordinates-are = rw (with-edge-concat (job .contours) e is-ready)
+          (all-snoc (λ (x : EdgeSegment). doubles (coordinates x)) (concat (job .contours)) e (so .coordinates-are)
+          (ap (λ (x : EdgeSegment). doubles (coordinates x)) held ∙ edge-doubles (kindOf e) _));
+      distances-are = so .distances-are;
+    }
+holdable-next job (distances ds) bytes is-ready held are so =
+    record { seed = so .seed; threshold = so .threshold; coordinates-are = so .coordinates-are; distances-are = ap doubles (held .1) ∙ floats-doubles _ }
+
 -- ---- a place that reading reaches
 
 -- the bytes of JB and DS, where they are read
@@ -126,9 +143,14 @@ pub record Reached (file : List ℕ) (p : Progress) : Type 0 where
   pub contours-fit : length (job .contours) ≤ 64
   pub edges-fit : edgeCount (job .contours) ≤ 256
   pub sound : Sound job
+  pub nothing-yet : atStart (p .state .phase) ≡ true → job .contours ≡ []
+  pub asked : closing (p .state .phase) ≡ true → byDistance (job .header .strategy) ≡ true
+  pub placed : p .at ≡ length (recordBytes (soFar (p .state .phase) job))
+  pub passed : AreBytes file → take (p .at) file ≡ recordBytes (soFar (p .state .phase) job)
+  pub holdable : AreBytes file → Holdable job
 
 pub reached-begin : (file : List ℕ) → Reached file begin
-unfolding readJob concat
+unfolding readJob concat recordBytes all
 reached-begin file = record {
   job = noJob;
   numbers-are = refl;
@@ -140,6 +162,11 @@ reached-begin file = record {
   contours-fit = omega arith;
   edges-fit = omega arith;
   sound = sound-begin;
+  nothing-yet = λ h. refl;
+  asked = λ h. let z : _≡_ {A = ℕ} 0 1 = cc in absurd (omega arith);
+  placed = refl;
+  passed = λ are. refl;
+  holdable = λ are. record { seed = omega arith; threshold = omega arith; coordinates-are = refl; distances-are = refl };
 }
 
 pub begin-job : (file : List ℕ) → reached-begin file .job ≡ noJob
@@ -279,6 +306,16 @@ module _ (file : List ℕ) (p : Progress) (at : Reached file p) (r : Record) (re
       let beyond : rest ≡ drop (p .at + recordSize r) file = record-taken .beyond ∙ drop-drop (recordSize r) (p .at) file in
       records-next (p .state) (drop (p .at) file) r rest e ∙ rw beyond
 
+  strategy-is : p .state .numbers .header .strategy ≡ at .job .header .strategy
+  strategy-is = ap (λ (n : Numbers). n .header .strategy) (at .numbers-are)
+
+  further-records : soFar (phaseAfter (p .state .phase) (itemOf r)) (enter (at .job) r) ≡ soFar (p .state .phase) (at .job) ++ (r ∷ [])
+  further-records = so-far-next (at .job) (p .state .phase) _ r (record-taken .may) is-ready (at .nothing-yet)
+
+  -- what is taken off is the bytes of the record
+  here-bytes : AreBytes file → take (recordSize r) (drop (p .at) file) ≡ bytesOf r
+  here-bytes are = ap (take (recordSize r)) (record-taken .is-bytes (are-dropped (p .at) file are)) ∙ take-at (bytesOf r) rest (recordSize r) refl
+
   pub reached-next : Reached file onward
   reached-next = record {
     job = enter (at .job) r;
@@ -291,6 +328,11 @@ module _ (file : List ℕ) (p : Progress) (at : Reached file p) (r : Record) (re
     contours-fit = contours-after (at .job) (p .state) r contours-are (record-taken .room) (at .contours-fit);
     edges-fit = edges-after (at .job) (p .state) r is-ready edges-are (record-taken .room) (at .edges-fit);
     sound = sound-next (at .job) r (drop (p .at) file) is-ready (record-taken .held) (record-taken .in-range) (at .sound);
+    nothing-yet = nothing-next (p .state .phase) _ r _ (record-taken .may);
+    asked = asked-next (at .job) (p .state .phase) _ r strategy-is (record-taken .may) (at .asked);
+    placed = rw (further-records, bytes-more (soFar (p .state .phase) (at .job)) r, length-append) (ap (λ (n : ℕ). n + recordSize r) (at .placed));
+    passed = λ are. take-add (p .at) (recordSize r) file ∙ rw (further-records, bytes-more (soFar (p .state .phase) (at .job)) r, at .passed are, here-bytes are);
+    holdable = λ are. holdable-next (at .job) r (drop (p .at) file) is-ready (record-taken .held) (are-dropped (p .at) file are) (at .holdable are);
   }
 
   pub next-job : reached-next .job ≡ enter (at .job) r
@@ -371,3 +413,22 @@ bytes-few file job e =
     most Outside = omega arith
     most Inside = omega arith
     most Closing = omega arith
+
+-- ---- a file that is read is the file of its job, which it can hold
+
+pub job-holdable : (file : List ℕ) (job : Job) → AreBytes file → readJob file ≡ reads job → Holdable job
+job-holdable file job are e = let end = ends-at file job e in subst Holdable (end .is-job) (end .at .holdable are)
+
+pub file-of-job : (file : List ℕ) (job : Job) → AreBytes file → readJob file ≡ reads job → file ≡ fileOf job
+unfolding fileOf
+file-of-job file job are e =
+    let end = ends-at file job e in
+    let p = end .p in
+    let at = end .at in
+    let last = end-is (p .state) (drop (p .at) file) (end .at-end) in
+    let by : p .state .numbers .header .strategy ≡ at .job .header .strategy = ap (λ (n : Numbers). n .header .strategy) (at .numbers-are) in
+    let all : soFar (p .state .phase) (at .job) ≡ recordsOf (at .job) = so-far-end (at .job) (p .state .phase) (rw by at (end-may (p .state) (drop (p .at) file) (end .at-end))) (at .asked) in
+    sym (take-append-drop (p .at) file)
+    ∙ ap (λ (x : List ℕ). x ++ drop (p .at) file) (at .passed are ∙ ap recordBytes all)
+    ∙ ap (λ (x : List ℕ). recordBytes (recordsOf (at .job)) ++ x) last
+    ∙ ap fileOf (end .is-job)

@@ -25,7 +25,8 @@ use Rattle.job.specs.Reader.{Fits, filled}
 use Rattle.job.specs.Buffers.{Buffers, buffers, kindsOf, placesOf, kindNumber, placesFrom, stored, overEach, written, roomFor, hasRoom, Hold, Room}
 use Rattle.job.proofs.records.RecordLaws.{Allowed, size-is}
 use Rattle.job.proofs.records.ReadingLaws.{Taken, taken, Read-as, records-end, records-fault}
-use Rattle.job.proofs.progress.ProgressLaws.{Reached, reached-begin, begin-job, reached-next, next-job, reached-end, reached-fault, Ready, with-edge-length, with-edge-concat, more-concat, not-closing, record-taken, is-ready, contours-are, edges-are, ahead}
+use Rattle.job.proofs.progress.ReadyLaws.{Ready}
+use Rattle.job.proofs.progress.ProgressLaws.{Reached, reached-begin, begin-job, reached-next, next-job, reached-end, reached-fault, with-edge-length, with-edge-concat, more-concat, not-closing, record-taken, is-ready, contours-are, edges-are, ahead}
 use Rattle.job.proofs.buffers.BufferLaws.{over-more, over-length, over-set, over-getD, over-part}
 use Rattle.job.proofs.buffers.StoredLaws.{map-snoc, lengths-edge, last-few, kind-number, kinds-edge, places-edge, kinds-length}
 

@@ -2,7 +2,7 @@
 use mathlib.Core.Path.{_≡_, refl, sym, ap, _∙_}
 use mathlib.Core.Bool.{Bool, true, false, cond, _&&_}
 use mathlib.Core.List.{List, [], _∷_, _++_, append-assoc}
-use Prim.Native.Nat.{ℕ, _+_, _*_, _≤_}
+use Prim.Native.Nat.{ℕ, _+_, _*_, _^_, _<_, _≤_}
 use native.Mathlib.Omega.{arith}
 use lib.Dec.{leb, eqb}
 use lib.ListN.{length, getD, take, drop, length-drop, take-append-drop}
@@ -19,7 +19,7 @@ use Rattle.job.specs.declared.records.Mark.{Mark}
 use Rattle.job.specs.declared.records.Marked.the-variants.{Known}
 use Rattle.job.specs.Patterns.{number, little, words, floats, floatBytes, isCoordinate, isDistance}
 use Rattle.job.specs.Records.{Record, header, contour, edge, distances, letters, markAmong, marks, markOf, marked, strategyNumber, strategyOf, knownStrategy, controls, coordinates, edgeOf, recordMark, fieldsOf, bytesOf}
-use Rattle.job.proofs.patterns.PatternLaws.{AreBytes, floats-length}
+use Rattle.job.proofs.patterns.PatternLaws.{AreBytes, number-below, floats-length}
 use Rattle.job.proofs.patterns.ByteLaws.{are-taken, are-dropped, little-taken, coordinates-back, distances-back}
 
 -- ---- the mark
@@ -82,6 +82,14 @@ module _ (bytes : List ℕ) (are : AreBytes bytes) where
 
   abbrev pub headerIn : Header
   headerIn = record { strategy = strategyOf (getD headerBody 0 0); seed = number (take 8 (drop 1 headerBody)); threshold = number (take 8 (drop 9 headerBody)) }
+
+  word-below : (n : ℕ) → n + 8 ≤ length bytes → 17 ≤ length bytes → n + 8 ≤ 17 → number (take 8 (drop n headerBody)) < 2 ^ 64
+  word-below n k whole few =
+      let long : length (take 8 (drop n headerBody)) ≡ 8 = length-take-le 8 (drop n headerBody) (rw length-drop (omega (arith, length-take-le 17 bytes whole))) in
+      rw long at (number-below (take 8 (drop n headerBody)) (are-taken 8 (drop n headerBody) (are-dropped n headerBody (are-taken 17 bytes are))))
+
+  pub header-below : 17 ≤ length bytes → (headerIn .seed < 2 ^ 64) × (headerIn .threshold < 2 ^ 64)
+  header-below whole = (word-below 1 (omega arith) whole (omega arith), word-below 9 (omega arith) whole (omega arith))
 
   pub header-bytes : 17 ≤ length bytes → knownStrategy (getD headerBody 0 0) ≡ true → fieldsOf (header headerIn) ++ drop 17 bytes ≡ bytes
   header-bytes whole known =

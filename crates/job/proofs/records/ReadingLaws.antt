@@ -2,7 +2,7 @@
 use mathlib.Core.Path.{_≡_, refl, sym, ap, subst, _∙_}
 use mathlib.Core.Bool.{Bool, true, false}
 use mathlib.Core.List.{List, [], _∷_, _++_}
-use Prim.Native.Nat.{ℕ, zero, suc, _+_, _*_, _≤_}
+use Prim.Native.Nat.{ℕ, zero, suc, _+_, _*_, _^_, _<_, _≤_}
 use native.Mathlib.Omega.{arith}
 use lib.Dec.{leb}
 use lib.ListN.{length, getD, take, drop, length-drop}
@@ -34,14 +34,14 @@ use Rattle.job.specs.Records.{strategyOf, recordMark, marked, bytesOf, R
 use Rattle.job.specs.Job.{thresholdOf}
 use Rattle.job.proofs.patterns.PatternLaws.{AreBytes, floats-length}
 use Rattle.job.proofs.patterns.PatternMeaning.{threshold-means, coordinate-means, distance-below, distance-means}
-use Rattle.job.proofs.records.BytesLaws.{Lettered, letters-of, marked-bytes, header-bytes, contour-bytes, edge-bytes, distances-bytes}
+use Rattle.job.proofs.records.BytesLaws.{Lettered, letters-of, marked-bytes, header-below, header-bytes, contour-bytes, edge-bytes, distances-bytes}
 use Rattle.job.proofs.records.RecordLaws.{Allowed, size-is, size-some}
 
 -- ---- a record that was read
 
 -- the floats of a record are those of its bytes, and its distances are not too many
 abbrev pub Held : Record → List ℕ → Type 0
-Held (header h) bytes = Unit
+Held (header h) bytes = AreBytes bytes → (h .seed < 2 ^ 64) × (h .threshold < 2 ^ 64)
 Held contour bytes = Unit
 Held (edge e) bytes = e ≡ edgeOf (kindOf e) (floats (words (2 * controls (kindOf e)) (take (16 * controls (kindOf e)) (drop 2 bytes))))
 Held (distances ds) bytes = (length ds ≤ 2016) × (ds ≡ floats (words (length ds) (drop 4 bytes)))
@@ -68,7 +68,7 @@ pub record Taken (s : State) (bytes : List ℕ) (r : Record) (rest : List ℕ) :
 
 abbrev OfStep : State → List ℕ → Step → Type 0
 OfStep s bytes (next r rest) = Taken s bytes r rest
-OfStep s bytes ends = bytes ≡ marked End []
+OfStep s bytes ends = (bytes ≡ marked End []) × Allowed s End
 OfStep s bytes (fails refusal) = Unit
 
 -- a test passes, or there is nothing to show
@@ -105,10 +105,10 @@ edge-fits Cubic body h = coordinates-fit (words 8 body) ∙ h
 
 -- ---- record by record
 
-end-taken : (s : State) (a b : ℕ) (bytes : List ℕ) → Lettered a b End → OfStep s (a ∷ b ∷ bytes) (readEnd bytes)
+end-taken : (s : State) (a b : ℕ) (bytes : List ℕ) → Lettered a b End → Allowed s End → OfStep s (a ∷ b ∷ bytes) (readEnd bytes)
 unfolding readEnd
-end-taken s a b [] l = rw (l .0, l .1)
-end-taken s a b (c ∷ bytes) l = tt
+end-taken s a b [] l may = (rw (l .0, l .1), may)
+end-taken s a b (c ∷ bytes) l may = tt
 
 module _ (s : State) (a b : ℕ) (bytes : List ℕ) where
   abbrev all-bytes : List ℕ
@@ -127,7 +127,7 @@ module _ (s : State) (a b : ℕ) (bytes : List ℕ) where
       let found = next (header h) (drop 17 bytes) in
       required s all-bytes (knownStrategy (getD body 0 0)) UnknownKind (require (isThreshold threshold) BadThreshold found)
       (λ known. required s all-bytes (isThreshold threshold) BadThreshold found
-      (λ within. record { may = may; room = room; whole = omega (arith, size-is (header h)); beyond = rw (size-is (header h)); held = tt; is-bytes = λ are. marked-bytes a b bytes _ (header h) l (header-bytes bytes (after-letters are) whole known); in-range = threshold-fits h within }))
+      (λ within. record { may = may; room = room; whole = omega (arith, size-is (header h)); beyond = rw (size-is (header h)); held = λ are. header-below bytes (after-letters are) whole; is-bytes = λ are. marked-bytes a b bytes _ (header h) l (header-bytes bytes (after-letters are) whole known); in-range = threshold-fits h within }))
 
   edge-taken : (kind : Kind) → Lettered a b (Edge kind) → Allowed s (Edge kind) → fits (s .numbers) (Edge kind) ≡ true → 16 * controls kind ≤ length bytes
       → OfStep s all-bytes (readEdge kind (take (16 * controls kind) bytes) (drop (16 * controls kind) bytes))
@@ -177,7 +177,7 @@ module _ (s : State) (a b : ℕ) (bytes : List ℕ) where
   body-taken Contour l may room whole = record { may = may; room = room; whole = omega (arith, size-is contour); beyond = rw (size-is contour); held = tt; is-bytes = λ are. marked-bytes a b bytes bytes contour l (contour-bytes bytes (after-letters are)); in-range = tt }
   body-taken (Edge kind) l may room whole = edge-taken kind l may room whole
   body-taken Distances l may room whole = distances-taken l may whole
-  body-taken End l may room whole = end-taken s a b bytes l
+  body-taken End l may room whole = end-taken s a b bytes l may
 
   marked-taken : (m : Marked) → markOf a b ≡ m → OfStep s all-bytes (readMarked s m bytes)
   unfolding readMarked
@@ -200,7 +200,10 @@ pub taken : (s : State) (bytes : List ℕ) (r : Record) (rest : List ℕ) → re
 taken s bytes r rest e = subst (OfStep s bytes) e (of-step s bytes)
 
 pub end-is : (s : State) (bytes : List ℕ) → readRecord s bytes ≡ ends → bytes ≡ marked End []
-end-is s bytes e = subst (OfStep s bytes) e (of-step s bytes)
+end-is s bytes e = subst (OfStep s bytes) e (of-step s bytes) .0
+
+pub end-may : (s : State) (bytes : List ℕ) → readRecord s bytes ≡ ends → Allowed s End
+end-may s bytes e = subst (OfStep s bytes) e (of-step s bytes) .1
 
 pub end-size : (s : State) (bytes : List ℕ) → readRecord s bytes ≡ ends → length bytes ≡ 2
 end-size s bytes e = ap length (end-is s bytes e)
