@@ -193,8 +193,8 @@ static inline unsigned merelsplum_offer_refusal(uint64_t answer) {
 
 /* What the file holds: the outline, the distances, and in numbers its strategy, seed, threshold (the bits of a double), and how many
  * contours, edges and distances there are. numbers has no length of its own and is not NULL. Answer: 0, or a refusal; 11 where a buffer
- * is too short. The largest job has 64 lengths, 256 kinds, 2048 points and 2016 distances. It is not tested here whether the distances
- * are as many as the pairs of splines, nor how many splines there are: merelsplum_job_check does that. */
+ * is too short, and else the refusal of merelsplum_job_check: a file that is read here is accepted. The largest job has 64 lengths,
+ * 256 kinds, 2048 points and 2016 distances. */
 uint64_t merelsplum_job_read(
     const uint8_t *file, size_t file_len,
     uint16_t *lengths, size_t lengths_len,

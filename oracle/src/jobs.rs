@@ -347,12 +347,15 @@ impl Outcome {
         self.colored.as_ref().err().copied()
     }
 
+    /// The job of an accepted file, or the fault of reading or of the checks after it.
+    pub fn accepted(&self) -> Result<&Reading, Fault> {
+        let reading = self.reading.as_ref().map_err(|fault| *fault)?;
+        self.colored.as_ref().map(|_| reading).map_err(|fault| *fault)
+    }
+
     /// The part of a contour, empty for a refused file.
     pub fn part(&self, contour: u64) -> Range<usize> {
-        match (&self.reading, &self.colored) {
-            (Ok(reading), Ok(_)) => reading.part(contour),
-            _ => 0..0,
-        }
+        self.accepted().map_or(0..0, |reading| reading.part(contour))
     }
 
     /// What the program prints.

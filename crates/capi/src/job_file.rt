@@ -9,10 +9,9 @@ use job::progress::Read;
 use job::reader;
 ghost use mathlib.Core.Path.{_≡_};
 ghost use Rattle.coloring.specs.Outline.{result};
-ghost use Rattle.job.specs.Job.{readJob};
 ghost use Rattle.job.specs.Buffers.{buffers};
 ghost use Rattle.job.specs.Reader.{readInto};
-ghost use Rattle.job.specs.Color.{colorFile, checkFile};
+ghost use Rattle.job.specs.Color.{colorFile, checkFile, acceptJob};
 ghost use Rattle.job.specs.Listing.{listFile};
 ghost use Rattle.job.specs.Part.{contourPlace};
 ghost use Rattle.capi.specs.EdgeColoring.{coloredCode, handed, handOut};
@@ -34,10 +33,12 @@ fn write_numbers(answer: Read, numbers: &mut [u64; 6])
 {
     match answer {
         Read::Job(n) => {
+            let header = n.header;
+            let strategy = header.strategy;
             *numbers = [
-                n.strategy as u64,
-                n.seed,
-                n.threshold,
+                wide(strategy.number()),
+                header.seed,
+                header.threshold,
                 n.contours as u64,
                 n.edges as u64,
                 n.distances as u64,
@@ -57,7 +58,7 @@ pub extern "C" fn merelsplum_job_read(
     numbers: &mut [u64; 6],
 ) -> u64
     ensures { λ r. ⌜ Reads
-        (readInto (readJob (now (file .entry))) (buffers (now (lengths .entry)) (now (kinds .entry)) (now (points .entry)) (now (distances .entry))))
+        (readInto (acceptJob (now (file .entry))) (buffers (now (lengths .entry)) (now (kinds .entry)) (now (points .entry)) (now (distances .entry))))
         (now (numbers .entry)) r (now (lengths .exit)) (now (kinds .exit)) (now (points .exit)) (now (distances .exit)) (now (numbers .exit)) ⌝ }
 {
     let answer = reader::read(file, lengths, kinds, points, distances);

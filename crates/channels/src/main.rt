@@ -1,6 +1,4 @@
 // Reads a job file from standard input and prints a line for each coloured edge, or the number of its refusal.
-use job::listing::Listed;
-use job::listing::listing;
 use libc::STDIN_FILENO;
 use libc::STDOUT_FILENO;
 
@@ -9,10 +7,6 @@ fn main() {
     let mut input = [0u8; 34000];
     let n = io::read_full(STDIN_FILENO, &mut input);
     let mut text = [0u8; 5598];
-    match listing(&input[..n], &mut text) {
-        Listed::Bytes(length) => {
-            io::write_all(STDOUT_FILENO, &text[..length]);
-        }
-        Listed::Refused(_) => {}
-    }
+    let length = job::listing::text(&input[..n], &mut text);
+    io::write_all(STDOUT_FILENO, &text[..length]);
 }

@@ -18,7 +18,7 @@ use Rattle.graph.specs.Lists.{over}
 use Rattle.coloring.specs.declared.outline.Counts.{Counts}
 use Rattle.coloring.specs.declared.outline.Colored.the-variants.{Edges, Refused}
 use Rattle.coloring.specs.Places.{total}
-use Rattle.coloring.specs.Sizes.{sizes, sizes-map, cut-again, flatten-length}
+use Rattle.coloring.specs.Sizes.{Sized, sizes, sizes-map, cut-again, flatten-length}
 use Rattle.coloring.specs.Outline.{kindOf, cut, encode, Result, Outcome, outcome, fits, delivered, deliver}
 use Rattle.coloring.specs.Shape.{countsOf}
 use Rattle.job.specs.Job.{Job, Reading, reads, refuses, readJob}
@@ -27,7 +27,7 @@ use Rattle.job.specs.declared.listing.Listed.the-variants as listed
 use Rattle.job.specs.Listing as list
 use Rattle.job.specs.Listing.{listing, refusalLine, checkedText, readingText, fileText, listFile, contourCount}
 use Rattle.job.proofs.listing.ListingLaws.{listing-few, refusal-few}
-use Rattle.job.proofs.color.ColorLaws.{map-flatten}
+use Rattle.job.proofs.color.ColorLaws.{map-flatten, numbered}
 use Rattle.job.proofs.color.ShapeLaws.{ShapeOf, shape-of}
 
 -- ---- the text is at most 5,598 bytes long
@@ -77,7 +77,7 @@ pub record Front (file : List ℕ) (contours edges : ℕ) (new : Result) : Type 
   pub text : fileText file
       ≡ listing (cut (take contours (new .lengths)) (take edges (new .kinds))) (cut (take contours (new .lengths)) (take edges (new .colors)))
 
-take-over : {A : Type 0} {n : ℕ} {new : List A} (xs ys : List A) → new ≡ over xs ys → n ≡ length xs → take n new ≡ xs
+pub take-over : {A : Type 0} {n : ℕ} {new : List A} (xs ys : List A) → new ≡ over xs ys → n ≡ length xs → take n new ≡ xs
 unfolding over
 take-over {n = n} xs ys e h = rw e (take-at xs _ n (sym h))
 
@@ -116,18 +116,22 @@ front-of file contours edges job old new s c e l k m text =
     }
 
 module _ (file : List ℕ) (old : Result) (room : HoldsResults old) where
-  fits-all : (job : Job) → readJob file ≡ reads job → fits (colored job) old ≡ true
+  fits-sized : (job : Job) (shape : Result) → readJob file ≡ reads job → Sized shape (length (coloredEdges job)) (length (flatten (coloredEdges job))) → fits shape old ≡ true
   unfolding fits
-  fits-all job e =
+  fits-sized job shape e long =
       let s = shape-of job file e in
-      let long = s .sized in
-      let shape = colored job in
       rw (
         le-leb (length (shape .lengths)) (length (old .lengths)) (omega (arith, long .lengths-long, s .contours-fit, room .lengths-fit)),
         le-leb (length (shape .kinds)) (length (old .kinds)) (omega (arith, long .kinds-long, s .edges-fit, room .kinds-fit)),
         le-leb (length (shape .points)) (length (old .points)) (omega (arith, long .points-long, s .edges-fit, room .points-fit)),
         le-leb (length (shape .colors)) (length (old .colors)) (omega (arith, long .colors-long, s .edges-fit, room .colors-fit)),
       )
+
+  fits-all : (job : Job) → readJob file ≡ reads job → fits (colored job) old ≡ true
+  fits-all job e = fits-sized job (colored job) e (shape-of job file e .sized)
+
+  pub fits-numbered : (job : Job) → readJob file ≡ reads job → fits (numbered job) old ≡ true
+  fits-numbered job e = fits-sized job _ e (shape-of job file e .numbers-sized)
 
   pub color-answer : colorFile file old .answer ≡ checkFile file
   unfolding colorFile colorReading colorJob checkFile checkReading deliver delivered

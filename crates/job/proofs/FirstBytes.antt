@@ -7,7 +7,6 @@ use native.Mathlib.Omega.{arith}
 use lib.Dec.{leb}
 use lib.ListN.{length, getD, take, drop, length-append, length-drop, take-append-drop}
 use lib.Seq.{drop-drop, take-all, take-append-le, drop-append-le, length-take-le}
-use lib.Ieee.{binary64, ofBits}
 use borrow.Author.Tests.{le-leb, leb-true, leb-false}
 use Rattle.graph.specs.declared.refusal.Refusal.{Refusal}
 use Rattle.graph.specs.declared.refusal.Refusal.the-variants.{Truncated, MisplacedMark, TooMany, UnknownKind, BadThreshold, BadCoordinate, BadDistance}
@@ -24,15 +23,15 @@ use Rattle.job.specs.declared.records.Phase.the-variants.{Start, Outside
 use Rattle.job.specs.declared.records.State.{State}
 use Rattle.job.specs.declared.progress.Progress.{Progress}
 use Rattle.job.specs.Patterns.{number, words, floats, isThreshold, isCoordinate, isDistance}
-use Rattle.job.specs.Records.{Record, header, edge, distances, Step, next, ends, fails, require, knownStrategy, controls, bodySize, allowed, fits, closing, among, byDistance, edgeOf, itemOf, recordSize, markOf, readHeader, readEdge, readDistances, readEnd, readBody, readMarked, readRecord, after, Records, _then_, recordsFrom}
+use Rattle.job.specs.Records.{Record, header, edge, distances, Step, next, ends, fails, require, knownStrategy, strategyOf, controls, bodySize, allowed, fits, closing, among, byDistance, edgeOf, itemOf, recordSize, markOf, readHeader, readEdge, readDistances, readEnd, readBody, readMarked, readRecord, after, Records, _then_, recordsFrom}
 use Rattle.job.specs.Job.{noJob, jobFrom, Reading, reads, refuses, readJob}
-use Rattle.job.specs.Color.{colorReading, colorFile, acceptedReading, accepted}
+use Rattle.job.specs.Color.{colorReading, colorFile, acceptReading, acceptJob, hasJob, accepted}
 use Rattle.job.specs.Part.{contourPart}
 use Rattle.job.specs.Listing.{readingText, fileText}
 use Rattle.job.specs.Progress.{begin, advanced}
-use Rattle.job.proofs.records.RecordLaws.{controls-few}
+use Rattle.job.proofs.records.RecordLaws.{Allowed, controls-few}
 use Rattle.job.proofs.records.ReadingLaws.{taken, end-size, records-next, records-fault}
-use Rattle.job.proofs.progress.ProgressLaws.{besides, among-contours, at-start, in-contour, Reached, reached-begin, reached-next, further, place-after, state-after, bytes-few}
+use Rattle.job.proofs.progress.ProgressLaws.{besides, among-contours, at-start, in-contour, Reached, reached-begin, reached-next, further, bytes-few}
 use Rattle.job.proofs.part.PartLaws.{part-refused}
 
 -- a step with more bytes after it
@@ -57,7 +56,7 @@ module _ (more : List ℕ) where
   unfolding readHeader
   header-more body rest =
       let threshold = number (take 8 (drop 9 body)) in
-      let r = header (getD body 0 0) (number (take 8 (drop 1 body))) (ofBits binary64 threshold) in
+      let r = header (record { strategy = strategyOf (getD body 0 0); seed = number (take 8 (drop 1 body)); threshold = threshold }) in
       require-more (knownStrategy (getD body 0 0)) UnknownKind (require (isThreshold threshold) BadThreshold (next r rest)) (require (isThreshold threshold) BadThreshold (next r (rest ++ more)))
       (λ h. require-more (isThreshold threshold) BadThreshold (next r rest) (next r (rest ++ more)) (λ k. refl))
 
@@ -89,15 +88,15 @@ module _ (more : List ℕ) where
   end-more (b ∷ rest) h = refl
 
   -- a record of a known mark, where its fixed part and what it needs after that are there
-  known-more : (s : State) (mark : Mark) (bytes : List ℕ) → (allowed s mark ≡ true → bodySize mark ≤ length bytes)
-      → (allowed s mark ≡ true → readBody mark (take (bodySize mark) bytes) (drop (bodySize mark) bytes ++ more) ≡ extend more (readBody mark (take (bodySize mark) bytes) (drop (bodySize mark) bytes)))
+  known-more : (s : State) (mark : Mark) (bytes : List ℕ) → (Allowed s mark → bodySize mark ≤ length bytes)
+      → (Allowed s mark → readBody mark (take (bodySize mark) bytes) (drop (bodySize mark) bytes ++ more) ≡ extend more (readBody mark (take (bodySize mark) bytes) (drop (bodySize mark) bytes)))
       → readMarked s (Known mark) (bytes ++ more) ≡ extend more (readMarked s (Known mark) bytes)
   unfolding readMarked
   known-more s mark bytes size body =
       let n = bodySize mark in
       let read : List ℕ → Step = λ b. require (leb n (length b)) Truncated (readBody mark (take n b) (drop n b)) in
-      require-more (allowed s mark) MisplacedMark (require (fits s mark) TooMany (read bytes)) (require (fits s mark) TooMany (read (bytes ++ more)))
-      (λ may. require-more (fits s mark) TooMany (read bytes) (read (bytes ++ more))
+      require-more (allowed (s .phase) (s .numbers .header .strategy) mark) MisplacedMark (require (fits (s .numbers) mark) TooMany (read bytes)) (require (fits (s .numbers) mark) TooMany (read (bytes ++ more)))
+      (λ may. require-more (fits (s .numbers) mark) TooMany (read bytes) (read (bytes ++ more))
       (λ room.
       let whole = size may in
       let one : leb n (length bytes) ≡ true = le-leb n (length bytes) whole in
@@ -120,8 +119,8 @@ module _ (more : List ℕ) where
       known-more s Distances bytes (λ may. omega (arith, many (due may)))
       (λ may. distances-more (take 2 bytes) (drop 2 bytes) (rw length-drop (omega (arith, many (due may)))))
     where
-      due : allowed s Distances ≡ true → closing (s .phase) ≡ false
-      due may = among-contours (s .phase) (and-left (among (s .phase)) (byDistance (s .strategy)) may)
+      due : Allowed s Distances → closing (s .phase) ≡ false
+      due may = among-contours (s .phase) (and-left (among (s .phase)) (byDistance (s .numbers .header .strategy)) may)
   marked-more s (Known End) bytes some many = unfold readBody in known-more s End bytes (λ may. omega arith) (λ may. end-more bytes some)
 
   record-more : (s : State) (bytes : List ℕ) → 3 ≤ length bytes → (closing (s .phase) ≡ false → 16134 ≤ length bytes)
@@ -159,7 +158,7 @@ module _ (short more : List ℕ) (long : length short ≡ 34000) where
       ∙ record-more more (p .state) (drop (p .at) short) (rw length-drop (omega (arith, cut .0))) (λ h. rw length-drop (omega (arith, cut .1 h)))
 
   same-here : (p : Progress) → Reached file p
-      → ((r : Record) (rest : List ℕ) → readRecord (p .state) (drop (p .at) short) ≡ next r rest → recordsFrom (after (p .state) r) (rest ++ more) ≡ recordsFrom (after (p .state) r) rest)
+      → ((r : Record) (rest : List ℕ) → readRecord (p .state) (drop (p .at) short) ≡ next r rest → recordsFrom (after (p .state) (itemOf r)) (rest ++ more) ≡ recordsFrom (after (p .state) (itemOf r)) rest)
       → (step : Step) → readRecord (p .state) (drop (p .at) short) ≡ step → recordsFrom (p .state) (drop (p .at) file) ≡ recordsFrom (p .state) (drop (p .at) short)
   same-here p at later (next r rest) e =
       records-next (p .state) (drop (p .at) file) r (rest ++ more) (same-step p at ∙ ap (extend more) e)
@@ -175,14 +174,14 @@ module _ (short more : List ℕ) (long : length short ≡ 34000) where
     where
       later : ((q : Progress) → Reached file q → 34000 - q .at ≤ n → recordsFrom (q .state) (drop (q .at) file) ≡ recordsFrom (q .state) (drop (q .at) short))
           → (p : Progress) → Reached file p → 34000 - p .at ≤ suc n → (r : Record) (rest : List ℕ) → readRecord (p .state) (drop (p .at) short) ≡ next r rest
-          → recordsFrom (after (p .state) r) (rest ++ more) ≡ recordsFrom (after (p .state) r) rest
+          → recordsFrom (after (p .state) (itemOf r)) (rest ++ more) ≡ recordsFrom (after (p .state) (itemOf r)) rest
       later same p at h r rest e =
           let f : readRecord (p .state) (drop (p .at) file) ≡ next r (rest ++ more) = same-step p at ∙ ap (extend more) e in
           let on = reached-next file p at r (rest ++ more) f in
-          let q = advanced p (itemOf r) in
-          let kept : rest ≡ drop (q .at) short = taken (p .state) (drop (p .at) short) r rest e .beyond ∙ drop-drop (recordSize r) (p .at) short ∙ ap (λ (k : ℕ). drop k short) (sym (place-after p r)) in
-          let all : rest ++ more ≡ drop (q .at) file = taken (p .state) (drop (p .at) file) r (rest ++ more) f .beyond ∙ drop-drop (recordSize r) (p .at) file ∙ ap (λ (k : ℕ). drop k file) (sym (place-after p r)) in
-          rw (← state-after p r, all, kept) (same q on (omega (arith, further file p at r (rest ++ more) f)))
+          let q = advanced p (itemOf r) (recordSize r) in
+          let kept : rest ≡ drop (q .at) short = taken (p .state) (drop (p .at) short) r rest e .beyond ∙ drop-drop (recordSize r) (p .at) short in
+          let all : rest ++ more ≡ drop (q .at) file = taken (p .state) (drop (p .at) file) r (rest ++ more) f .beyond ∙ drop-drop (recordSize r) (p .at) file in
+          rw (all, kept) (same q on (omega (arith, further file p at r (rest ++ more) f)))
 
 pub first-bytes-decide : (file : List ℕ) → readJob (take 34000 file) ≡ readJob file
 unfolding readJob
@@ -208,10 +207,10 @@ unfolding fileText
 first-bytes-text file = ap readingText (first-bytes-decide file)
 
 pub accepted-few : (file : List ℕ) → accepted file ≡ true → length file ≤ 33177
-unfolding accepted acceptedReading
+unfolding acceptJob acceptReading
 accepted-few file h = go (readJob file) refl h
   where
-    go : (reading : Reading) → readJob file ≡ reading → acceptedReading reading ≡ true → length file ≤ 33177
+    go : (reading : Reading) → readJob file ≡ reading → hasJob (acceptReading reading) ≡ true → length file ≤ 33177
     go (reads job) e h = bytes-few file job e
     go (refuses refusal) e h = let z : _≡_ {A = ℕ} 0 1 = cc in absurd (omega arith)
 
@@ -219,7 +218,7 @@ pub first-bytes-part : (file : List ℕ) (number : ℕ) → contourPart (take 34
 first-bytes-part file number = go (accepted file) refl
   where
     same : accepted (take 34000 file) ≡ accepted file
-    same = unfold accepted in ap acceptedReading (first-bytes-decide file)
+    same = unfold acceptJob in ap (λ (r : Reading). hasJob (acceptReading r)) (first-bytes-decide file)
 
     go : (b : Bool) → accepted file ≡ b → contourPart (take 34000 file) number ≡ contourPart file number
     go true h = ap (λ (x : List ℕ). contourPart x number) (take-all 34000 file (omega (arith, accepted-few file h)))

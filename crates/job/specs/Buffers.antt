@@ -11,7 +11,6 @@ use Rattle.geometry.specs.EdgeSegment.{toStored}
 use Rattle.graph.specs.Lists.{over}
 use Rattle.job.specs.declared.records.Kind.{Kind}
 use Rattle.job.specs.declared.records.Kind.the-variants.{Line, Quadratic, Cubic}
-use Rattle.job.specs.declared.records.State.{State}
 use Rattle.job.specs.declared.records.Item.{Item}
 use Rattle.job.specs.declared.records.Item.the-variants.{Header, Contour, Edge, Distances}
 use Rattle.job.specs.Patterns.{words, floats}
@@ -79,24 +78,24 @@ kindNumber Cubic = 3
 unfoldable pub placesFrom : Kind → List ℕ → List Float
 placesFrom kind body = toStored (edgeOf kind (floats (words (2 * controls kind) body))) .points
 
--- the buffers after a record that was read in a state from some bytes
-unfoldable pub written : Item → State → List ℕ → Buffers → Buffers
+-- the buffers after a record that was read with so much before it from some bytes
+unfoldable pub written : Item → Numbers → List ℕ → Buffers → Buffers
 unfolding placesFrom
-written (Header h) s bytes b = b
-written Contour s bytes b = record { lengths = set (b .lengths) (s .contours) 0; kinds = b .kinds; points = b .points; distances = b .distances }
-written (Edge kind) s bytes b = record {
-  lengths = set (b .lengths) (s .contours - 1) (getD (b .lengths) (s .contours - 1) 0 + 1);
-  kinds = set (b .kinds) (s .edges) (kindNumber kind);
-  points = take (8 * s .edges) (b .points) ++ (placesFrom kind (take (16 * controls kind) (drop 2 bytes)) ++ drop 8 (drop (8 * s .edges) (b .points)));
+written (Header h) n bytes b = b
+written Contour n bytes b = record { lengths = set (b .lengths) (n .contours) 0; kinds = b .kinds; points = b .points; distances = b .distances }
+written (Edge kind) n bytes b = record {
+  lengths = set (b .lengths) (n .contours - 1) (getD (b .lengths) (n .contours - 1) 0 + 1);
+  kinds = set (b .kinds) (n .edges) (kindNumber kind);
+  points = take (8 * n .edges) (b .points) ++ (placesFrom kind (take (16 * controls kind) (drop 2 bytes)) ++ drop 8 (drop (8 * n .edges) (b .points)));
   distances = b .distances;
 }
-written (Distances count) s bytes b = record { lengths = b .lengths; kinds = b .kinds; points = b .points; distances = over (floats (words count (drop 4 bytes))) (b .distances) }
+written (Distances count) n bytes b = record { lengths = b .lengths; kinds = b .kinds; points = b .points; distances = over (floats (words count (drop 4 bytes))) (b .distances) }
 
 -- there is room for a record
-abbrev pub Room : Item → State → List ℕ → Buffers → Type 0
-Room (Header h) s bytes b = Unit
-Room Contour s bytes b = s .contours < length (b .lengths)
-Room (Edge kind) s bytes b =
-    (0 < s .contours) × (s .contours ≤ length (b .lengths)) × (getD (b .lengths) (s .contours - 1) 0 < 65535)
-    × (s .edges < length (b .kinds)) × (8 * suc (s .edges) ≤ length (b .points)) × (2 + 16 * controls kind ≤ length bytes)
-Room (Distances count) s bytes b = (count ≤ length (b .distances)) × (4 + 8 * count ≤ length bytes)
+abbrev pub Room : Item → Numbers → List ℕ → Buffers → Type 0
+Room (Header h) n bytes b = Unit
+Room Contour n bytes b = n .contours < length (b .lengths)
+Room (Edge kind) n bytes b =
+    (0 < n .contours) × (n .contours ≤ length (b .lengths)) × (getD (b .lengths) (n .contours - 1) 0 < 65535)
+    × (n .edges < length (b .kinds)) × (8 * suc (n .edges) ≤ length (b .points)) × (2 + 16 * controls kind ≤ length bytes)
+Room (Distances count) n bytes b = (count ≤ length (b .distances)) × (4 + 8 * count ≤ length bytes)

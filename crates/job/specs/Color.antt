@@ -1,14 +1,16 @@
 -- What colouring a job gives, and reading and colouring a file in one (document 01, "What the desk says back": after reading, splines 4, 8, 11).
-use Prim.Native.Nat.{ℕ, _≤_}
-use mathlib.Core.Bool.{Bool, true, false, cond}
+use Prim.Native.Nat.{ℕ, _-_, _*_, _/_, _≤_}
+use mathlib.Core.Path.{_≡_}
+use mathlib.Core.Bool.{Bool, true, false}
 use mathlib.Core.List.{List, map}
-use lib.Dec.{eqb}
+use lib.Dec.{leb, eqb}
 use lib.Ieee.{Float}
 use lib.ListN.{length}
 use Rattle.geometry.specs.declared.edge_segment.EdgeSegment.{EdgeSegment}
 use Rattle.graph.specs.declared.refusal.Checked.{Checked}
 use Rattle.graph.specs.declared.refusal.Checked.the-variants.{Passed, Failed}
-use Rattle.graph.specs.Refusal.{refusalNumber}
+use Rattle.graph.specs.declared.refusal.Refusal.the-variants.{TooMany, LengthMismatch}
+use Rattle.graph.specs.Refusal.{require}
 use Rattle.coloring.specs.declared.outline.Counts.{Counts}
 use Rattle.coloring.specs.declared.outline.Colored.{Colored}
 use Rattle.coloring.specs.declared.outline.Colored.the-variants.{Edges, Refused}
@@ -22,23 +24,30 @@ use Rattle.coloring.specs.Values.{splineValues, middleValue, checkMarking}
 use Rattle.coloring.specs.Outline.{Outline, Result, Outcome, encode, deliver}
 use Rattle.coloring.specs.Shape.{countsOf}
 use Rattle.coloring.specs.EdgeColoring.{edgeColoring, edgeColoringSimple, edgeColoringInkTrap, edgeColoringByDistance}
-use Rattle.job.specs.Job.{Job, Reading, reads, refuses, readJob}
+use Rattle.job.specs.declared.progress.Numbers as Numbers
+use Rattle.job.specs.declared.records.Strategy.{Strategy}
+use Rattle.job.specs.declared.records.Strategy.the-variants as strategy
+use Rattle.job.specs.Job.{thresholdOf, Job, Reading, reads, refuses, readJob}
+use Rattle.job.specs.declared.progress.Read.the-variants as read
+use Rattle.job.specs.Progress.{answerOf}
 use Rattle.job.specs.Buffers.{Buffers}
 
 -- ---- a job
 
--- 1 simple, 2 ink trap, 3 by distance
-abbrev pub byStrategy : {A : Type 0} → ℕ → A → A → A → A
-byStrategy strategy simple inkTrap distance = cond (eqb strategy 1) simple (cond (eqb strategy 2) inkTrap distance)
+abbrev pub byStrategy : {A : Type 0} → Strategy → A → A → A → A
+byStrategy strategy.Simple simple inkTrap distance = simple
+byStrategy strategy.InkTrap simple inkTrap distance = inkTrap
+byStrategy strategy.ByDistance simple inkTrap distance = distance
 
 -- how its edges are marked
 abbrev pub markingOf : Job → Marking
-markingOf job = byStrategy (job .strategy) (Colors Simple (job .seed)) (Colors InkTrap (job .seed)) (Distances (job .seed))
+markingOf job =
+    byStrategy (job .header .strategy) (Colors Simple (job .header .seed)) (Colors InkTrap (job .header .seed)) (Distances (job .header .seed))
 
 -- its contours with their corners, laid out
 unfoldable pub laidIn : Job → List Cornered
 unfolding searchCorners layout
-laidIn job = map layout (map (searchCorners (job .threshold)) (job .contours))
+laidIn job = map layout (map (searchCorners (thresholdOf (job .header))) (job .contours))
 
 -- what is left to check of a job that was read, for strategy 3 only: splines 4, then the distances
 unfoldable pub checkJob : Job → Checked
@@ -90,38 +99,53 @@ unfoldable pub checkFile : List ℕ → Colored
 unfolding readJob checkReading
 checkFile file = checkReading (readJob file)
 
--- accepted: reading and colouring give no number other than 11
-abbrev pub isPassed : Checked → Bool
-isPassed Passed = true
-isPassed (Failed refusal) = false
+-- the job of an accepted file, or its first refusal: that of reading, then that of the checks
+abbrev pub acceptChecked : Checked → Job → Reading
+acceptChecked Passed job = reads job
+acceptChecked (Failed refusal) job = refuses refusal
 
-unfoldable pub acceptedReading : Reading → Bool
+unfoldable pub acceptReading : Reading → Reading
 unfolding checkJob
-acceptedReading (reads job) = isPassed (checkJob job)
-acceptedReading (refuses refusal) = false
+acceptReading (reads job) = acceptChecked (checkJob job) job
+acceptReading (refuses refusal) = refuses refusal
 
-unfoldable pub accepted : List ℕ → Bool
-unfolding readJob acceptedReading
-accepted file = acceptedReading (readJob file)
+unfoldable pub acceptJob : List ℕ → Reading
+unfolding readJob acceptReading
+acceptJob file = acceptReading (readJob file)
+
+-- accepted: reading and colouring give no number other than 11
+abbrev pub hasJob : Reading → Bool
+hasJob (reads job) = true
+hasJob (refuses refusal) = false
+
+abbrev pub accepted : List ℕ → Bool
+accepted file = hasJob (acceptJob file)
 
 -- ---- in the words of contracts
-
--- no number other than 11
-abbrev pub noOther : Colored → Bool
-noOther (Edges counts) = true
-noOther (Refused refusal) = eqb (refusalNumber refusal) 11
 
 abbrev pub outlineOf : Buffers → Outline
 outlineOf b = record { lengths = b .lengths; kinds = b .kinds; points = b .points }
 
 -- the colouring of buffers by a strategy
-unfoldable pub colorStored : ℕ → ℕ → Float → Buffers → Result → Outcome
+unfoldable pub colorStored : Strategy → ℕ → Float → Buffers → Result → Outcome
 unfolding edgeColoring
-colorStored strategy seed threshold b old =
-    byStrategy strategy
+colorStored by seed threshold b old =
+    byStrategy by
     (edgeColoringSimple (outlineOf b) threshold seed old)
     (edgeColoringInkTrap (outlineOf b) threshold seed old)
     (edgeColoringByDistance (outlineOf b) threshold seed (b .distances) old)
+
+-- what was counted, where it has at most 64 splines and a distance for each pair of them
+abbrev pub paired : Colored → ℕ → Colored
+paired (Edges counts) distances =
+    answered (require (leb (counts .splines) 64) TooMany
+    (require (eqb distances (counts .splines * (counts .splines - 1) / 2)) LengthMismatch Passed)) counts
+paired (Refused refusal) distances = Refused refusal
+
+-- a file was read, with these numbers, and its strategy asks for distances
+pub record AsksDistances (reading : Reading) (n : Numbers.Numbers) : Type 0 where
+  pub told : read.Job n ≡ answerOf reading
+  pub asks : n .header .strategy ≡ strategy.ByDistance
 
 -- four buffers that hold every job
 pub record HoldsJobs (b : Buffers) : Type 0 where

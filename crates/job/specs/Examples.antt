@@ -3,9 +3,8 @@ use Prim.Native.Nat.{ℕ}
 use mathlib.Core.Path.{_≡_, refl}
 use mathlib.Core.Bool.{true, false}
 use mathlib.Core.List.{List, [], _∷_, _++_}
-use lib.IntN.{negsuc}
 use lib.Ieee as Ieee
-use lib.Ieee.{fin, ofBits}
+use lib.Ieee.{ofBits}
 use Rattle.math.specs.Scalar.{f0, f1}
 use Rattle.math.specs.Sqrt.{sqrtOf}
 use Rattle.math.specs.Vector2.{new, sub, divScalar, dot, cross, squaredLength, lengthOf, normalize}
@@ -15,12 +14,16 @@ use Rattle.graph.specs.declared.refusal.Refusal.the-variants.{Truncated, Unknow
 use Rattle.coloring.specs.declared.outline.Colored.the-variants.{Edges, Refused}
 use Rattle.coloring.specs.Corners.{searchCorners, cornerCount, firstCorner}
 use Rattle.coloring.specs.Outline.{Result, result, outcome}
+use Rattle.job.specs.declared.records.Strategy.{Strategy}
+use Rattle.job.specs.declared.records.Strategy.the-variants.{Simple, InkTrap, ByDistance}
+use Rattle.job.specs.declared.records.Header.{Header}
+use Rattle.job.specs.declared.records.Phase.{Phase}
 use Rattle.job.specs.declared.records.Phase.the-variants.{Inside, Closing}
 use Rattle.job.specs.declared.records.State.{State}
 use Rattle.job.specs.Records.{fails, start, readRecord}
 use Rattle.job.specs.Job.{Job, reads, refuses, readJob}
 use Rattle.job.specs.Part.{contourPart}
-use Rattle.job.specs.Color.{colorFile, checkFile, accepted}
+use Rattle.job.specs.Color.{colorFile, checkFile, acceptJob, accepted}
 use Rattle.job.specs.declared.listing.Listed.the-variants as answer
 use Rattle.job.specs.Listing as list
 use Rattle.job.specs.Listing.{decimal, refusalLine, fileText, listFile}
@@ -73,11 +76,12 @@ squareContour rest = CT (line zeros zeros one zeros (line one zeros one one (lin
 abbrev pub squareFile : List ℕ
 squareFile = opening 1 (squareContour (EN []))
 
+abbrev headerOf : Strategy → Header
+headerOf by = record { strategy = by; seed = 0; threshold = 0x3FC0_0000_0000_0000 }
+
 abbrev pub squareJob : Job
 squareJob = record {
-  strategy = 1;
-  seed = 0;
-  threshold = fin false 1 (negsuc 2);
+  header = headerOf Simple;
   contours = (Line (new f0 f0) (new f1 f0) ∷ Line (new f1 f0) (new f1 f1) ∷ Line (new f1 f1) (new f0 f1) ∷ Line (new f0 f1) (new f0 f0) ∷ []) ∷ [];
   distances = [];
 }
@@ -87,17 +91,17 @@ unfolding readJob ofBits
 square = refl
 
 -- a job without contours
-pub no-contours : readJob (opening 1 (EN [])) ≡ reads (record { strategy = 1; seed = 0; threshold = fin false 1 (negsuc 2); contours = []; distances = [] })
+pub no-contours : readJob (opening 1 (EN [])) ≡ reads (record { header = headerOf Simple; contours = []; distances = [] })
 unfolding readJob ofBits
 no-contours = refl
 
 -- the same by distance: DS stands there with the count 0
-pub no-pairs : readJob (opening 3 (DS (0 ∷ 0 ∷ EN []))) ≡ reads (record { strategy = 3; seed = 0; threshold = fin false 1 (negsuc 2); contours = []; distances = [] })
+pub no-pairs : readJob (opening 3 (DS (0 ∷ 0 ∷ EN []))) ≡ reads (record { header = headerOf ByDistance; contours = []; distances = [] })
 unfolding readJob ofBits
 no-pairs = refl
 
 -- two contours, the first empty; an edge goes to the last
-pub empty-contour : readJob (opening 2 (CT (CT (line zeros zeros one one (EN []))))) ≡ reads (record { strategy = 2; seed = 0; threshold = fin false 1 (negsuc 2); contours = [] ∷ (Line (new f0 f0) (new f1 f1) ∷ []) ∷ []; distances = [] })
+pub empty-contour : readJob (opening 2 (CT (CT (line zeros zeros one one (EN []))))) ≡ reads (record { header = headerOf InkTrap; contours = [] ∷ (Line (new f0 f0) (new f1 f1) ∷ []) ∷ []; distances = [] })
 unfolding readJob ofBits
 empty-contour = refl
 
@@ -126,14 +130,17 @@ unfolding readJob
 unknown-before-misplaced = refl
 
 -- a record at a place of its own: the places with 64 contours and with 256 edges
+abbrev at : Phase → Strategy → ℕ → ℕ → State
+at phase by contours edges = record { phase = phase; numbers = record { header = headerOf by; contours = contours; edges = edges; distances = 0 } }
+
 abbrev fullOfContours : State
-fullOfContours = record { phase = Inside; strategy = 1; contours = 64; edges = 0 }
+fullOfContours = at Inside Simple 64 0
 
 abbrev fullOfEdges : State
-fullOfEdges = record { phase = Inside; strategy = 1; contours = 1; edges = 256 }
+fullOfEdges = at Inside Simple 1 256
 
 abbrev closed : State
-closed = record { phase = Closing; strategy = 3; contours = 64; edges = 256 }
+closed = at Closing ByDistance 64 256
 
 pub misplaced-before-too-many : (readRecord closed (CT []) ≡ fails MisplacedMark) × (readRecord closed (LN []) ≡ fails MisplacedMark)
 unfolding readRecord
@@ -170,7 +177,7 @@ coordinate = refl
 -- ---- DS
 
 abbrev due : State
-due = record { phase = Inside; strategy = 3; contours = 1; edges = 3 }
+due = at Inside ByDistance 1 3
 
 pub misplaced-before-count : readRecord fullOfContours (DS []) ≡ fails MisplacedMark
 unfolding readRecord
@@ -226,12 +233,12 @@ abbrev squareAlone : List ℕ
 squareAlone = opening 3 (squareContour (DS (0 ∷ 0 ∷ EN [])))
 
 pub miscounted-before-short : (colorFile squareAlone noPlaces ≡ outcome (Refused LengthMismatch) noPlaces) × (accepted squareAlone ≡ false)
-unfolding colorFile accepted ofBits searchCorners cornerCount firstCorner direction sub dot cross divScalar squaredLength lengthOf normalize sqrtOf Ieee.add Ieee.sub Ieee.mul Ieee.div Ieee.ne Ieee.le Ieee.lt
+unfolding colorFile acceptJob ofBits searchCorners cornerCount firstCorner direction sub dot cross divScalar squaredLength lengthOf normalize sqrtOf Ieee.add Ieee.sub Ieee.mul Ieee.div Ieee.ne Ieee.le Ieee.lt
 miscounted-before-short = (refl, refl)
 
 -- 11 is no fault of the file
 pub short : (colorFile squareFile noPlaces ≡ outcome (Refused ResultTooShort) noPlaces) × (accepted squareFile ≡ true)
-unfolding colorFile accepted ofBits
+unfolding colorFile acceptJob ofBits
 short = (refl, refl)
 
 pub square-checked : checkFile squareFile ≡ Edges (record { contours = 1; edges = 4; splines = 4 })

@@ -1,22 +1,28 @@
 -- A job, and the function from the bytes of a file to a job or its first refusal (document 01, "Trays and the job file").
-use Prim.Native.Nat.{ℕ}
-use mathlib.Core.List.{List, [], _∷_, _++_}
-use lib.Ieee.{Float}
-use Rattle.math.specs.Scalar.{f0}
+use Prim.Native.Nat.{ℕ, _<_, _^_}
+use mathlib.Core.Path.{_≡_}
+use mathlib.Core.Bool.{Bool, true, cond}
+use mathlib.Core.List.{List, [], _∷_, _++_, map, flatten}
+use lib.Ieee.{Float, binary64, fits, ofBits}
 use Rattle.geometry.specs.declared.edge_segment.EdgeSegment.{EdgeSegment}
 use Rattle.graph.specs.declared.refusal.Refusal.{Refusal}
-use Rattle.job.specs.Records.{Record, header, contour, edge, distances, Records, complete, fault, _then_, start, recordsFrom}
+use Rattle.graph.specs.Lists.{all}
+use Rattle.job.specs.declared.records.Mark.the-variants.{End}
+use Rattle.job.specs.declared.records.Header.{Header}
+use Rattle.job.specs.Records.{noHeader, byDistance, marked, bytesOf, coordinates, Record, header, contour, edge, distances, Records, complete, fault, _then_, start, recordsFrom}
 
 pub record Job : Type 0 where
-  pub strategy : ℕ
-  pub seed : ℕ
-  pub threshold : Float
+  pub header : Header
   pub contours : List (List EdgeSegment)
   pub distances : List Float
 
 -- what a file begins with
 abbrev pub noJob : Job
-noJob = record { strategy = 0; seed = 0; threshold = f0; contours = []; distances = [] }
+noJob = record { header = noHeader; contours = []; distances = [] }
+
+-- the threshold of a header, which holds its bit pattern
+abbrev pub thresholdOf : Header → Float
+thresholdOf h = ofBits binary64 (h .threshold)
 
 -- an edge more in the last contour
 unfoldable pub withEdge : List (List EdgeSegment) → EdgeSegment → List (List EdgeSegment)
@@ -27,14 +33,10 @@ withEdge (c ∷ d ∷ contours) e = c ∷ withEdge (d ∷ contours) e
 -- a job with a record more
 unfoldable pub enter : Job → Record → Job
 unfolding withEdge
-enter job (header strategy seed threshold) =
-    record { strategy = strategy; seed = seed; threshold = threshold; contours = job .contours; distances = job .distances }
-enter job contour =
-    record { strategy = job .strategy; seed = job .seed; threshold = job .threshold; contours = job .contours ++ ([] ∷ []); distances = job .distances }
-enter job (edge e) =
-    record { strategy = job .strategy; seed = job .seed; threshold = job .threshold; contours = withEdge (job .contours) e; distances = job .distances }
-enter job (distances ds) =
-    record { strategy = job .strategy; seed = job .seed; threshold = job .threshold; contours = job .contours; distances = ds }
+enter job (header h) = record { header = h; contours = job .contours; distances = job .distances }
+enter job contour = record { header = job .header; contours = job .contours ++ ([] ∷ []); distances = job .distances }
+enter job (edge e) = record { header = job .header; contours = withEdge (job .contours) e; distances = job .distances }
+enter job (distances ds) = record { header = job .header; contours = job .contours; distances = ds }
 
 -- what reading a file gives
 pub data Reading : Type 0 where
@@ -51,3 +53,37 @@ jobFrom job (r then rest) = jobFrom (enter job r) rest
 unfoldable pub readJob : List ℕ → Reading
 unfolding jobFrom recordsFrom
 readJob file = jobFrom noJob (recordsFrom start file)
+
+-- ---- and back: the records of a job, in order, and its file
+
+abbrev pub contourRecords : List EdgeSegment → List Record
+contourRecords edges = contour ∷ map edge edges
+
+unfoldable pub outlineRecords : Header → List (List EdgeSegment) → List Record
+unfolding flatten
+outlineRecords h contours = header h ∷ flatten (map contourRecords contours)
+
+-- DS for strategy 3 only
+unfoldable pub recordsOf : Job → List Record
+unfolding outlineRecords
+recordsOf job = outlineRecords (job .header) (job .contours) ++ cond (byDistance (job .header .strategy)) (distances (job .distances) ∷ []) []
+
+unfoldable pub recordBytes : List Record → List ℕ
+unfolding bytesOf
+recordBytes [] = []
+recordBytes (r ∷ rs) = bytesOf r ++ recordBytes rs
+
+unfoldable pub fileOf : Job → List ℕ
+unfolding recordsOf recordBytes
+fileOf job = recordBytes (recordsOf job) ++ marked End []
+
+-- ---- what a file can hold: the logic's floats and numbers have values that 64 bits do not have
+
+abbrev pub doubles : List Float → Bool
+doubles xs = all (fits binary64) xs
+
+pub record Holdable (job : Job) : Type 0 where
+  pub seed : job .header .seed < 2 ^ 64
+  pub threshold : job .header .threshold < 2 ^ 64
+  pub coordinates-are : all (λ (e : EdgeSegment). doubles (coordinates e)) (flatten (job .contours)) ≡ true
+  pub distances-are : doubles (job .distances) ≡ true

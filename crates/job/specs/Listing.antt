@@ -1,6 +1,6 @@
 -- The text of an answer (document 01, "Trays and the job file", program `channels`): a line an output edge, last `edges` and their count; or one line
 -- with the refusal's number.
-use Prim.Native.Nat.{ℕ, zero, suc, _+_, _/_, _%_}
+use Prim.Native.Nat.{ℕ, zero, suc, _+_, _/_, _%_, _≤_}
 use mathlib.Core.Path.{_≡_}
 use mathlib.Core.Bool.{true, false, cond}
 use mathlib.Core.List.{List, [], _∷_, _++_, map, flatten}
@@ -138,3 +138,9 @@ pasted at text out = take at out ++ (text ++ drop (at + length text) out)
 pub record Pasted (text : List ℕ) (at : ℕ) (old : List ℕ) (next : ℕ) (new : List ℕ) : Type 0 where
   pub place : next ≡ at + length text
   pub holds : new ≡ pasted at text old
+
+-- a text over what stood there, and its length
+pub record Printed (text old : List ℕ) (n : ℕ) (new : List ℕ) : Type 0 where
+  pub counts : n ≡ length text
+  pub within : n ≤ length new
+  pub holds : new ≡ over text old

@@ -8,8 +8,8 @@ use Rattle.job.specs.declared.records.Item.the-variants.{Header, Contour
 use Rattle.job.specs.declared.part.Span.{Span}
 use Rattle.job.specs.declared.part.Seek.{Seek}
 use Rattle.job.specs.declared.part.Seek.the-variants.{Passing, Open, Done}
-use Rattle.job.specs.Records.{itemOf, recordSize, Records, complete, fault, _then_, start, recordsFrom}
-use Rattle.job.specs.Color.{accepted}
+use Rattle.job.specs.Records.{itemOf, bytesOf, recordSize, Records, complete, fault, _then_, start, recordsFrom}
+use Rattle.job.specs.Color.{acceptJob, accepted}
 
 -- a record, which starts at a place: the contour begins at the CT with none left to pass, and ends at the first record that is no edge
 unfoldable pub sought : Seek → ℕ → Item → Seek
@@ -31,7 +31,7 @@ spanOf (Open from) at = record { start = from; end = at }
 spanOf (Done span) at = span
 
 unfoldable pub seek : Seek → ℕ → Records → Span
-unfolding sought
+unfolding sought bytesOf
 seek q at complete = spanOf q at
 seek q at (fault refusal) = spanOf q at
 seek q at (r then rest) = seek (sought q at (itemOf r)) (at + recordSize r) rest
@@ -42,7 +42,7 @@ contourSpan file number = seek (Passing number) 0 (recordsFrom start file)
 
 -- where its bytes stand: nowhere for a refused file or a number too large
 unfoldable pub contourPlace : List ℕ → ℕ → Span
-unfolding accepted contourSpan
+unfolding acceptJob contourSpan
 contourPlace file number = cond (accepted file) (contourSpan file number) (record { start = 0; end = 0 })
 
 unfoldable pub contourPart : List ℕ → ℕ → List ℕ

@@ -1,7 +1,7 @@
 -- What the reader makes of a file: the numbers of its job, and the buffers for its contours and distances.
 use Prim.Native.Nat.{ℕ}
 use mathlib.Core.Path.{_≡_}
-use mathlib.Core.Bool.{true, cond}
+use mathlib.Core.Bool.{Bool, true, false, cond}
 use mathlib.Core.List.{List}
 use lib.Ieee.{Float}
 use Rattle.graph.specs.declared.refusal.Refusal.the-variants.{ResultTooShort}
@@ -17,7 +17,7 @@ pub record Outcome : Type 0 where
   pub answer : Read
   pub buffers : Buffers
 
--- the file's refusal; 11 where a buffer is too short; or the job, each buffer over what stood there
+-- the refusal of an accepted reading; 11 where a buffer is too short; or the job, each buffer over what stood there
 unfoldable pub readInto : Reading → Buffers → Outcome
 unfolding roomFor overEach stored
 readInto (refuses refusal) old = record { answer = read.Refused refusal; buffers = old }
@@ -25,6 +25,10 @@ readInto (reads job) old =
     cond (hasRoom (numbersOf job) old)
     (record { answer = read.Job (numbersOf job); buffers = overEach (stored job) old })
     (record { answer = read.Refused ResultTooShort; buffers = old })
+
+abbrev pub isJob : Read → Bool
+isJob (read.Job n) = true
+isJob (read.Refused refusal) = false
 
 -- ---- in the words of contracts
 

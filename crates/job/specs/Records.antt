@@ -1,17 +1,20 @@
 -- The records of a job file up to its end or its first fault (document 01, "Trays and the job file" and "What the desk says back").
 use Prim.Native.Nat.{ℕ, zero, suc, _+_, _*_}
 use mathlib.Core.Bool.{Bool, true, false, not, cond, _&&_, _||_}
-use mathlib.Core.List.{List, [], _∷_}
+use mathlib.Core.List.{List, [], _∷_, _++_}
 use lib.ListN.{length, take, drop, getD}
 use lib.Dec.{leb, ltb, eqb}
-use lib.Ieee.{Float, binary64, ofBits, toBits}
-use Rattle.geometry.specs.EdgeSegment.{pointAt}
+use lib.Ieee.{Float}
+use Rattle.geometry.specs.EdgeSegment.{pointAt, toStored}
 use Rattle.geometry.specs.declared.edge_segment.EdgeSegment.{EdgeSegment}
 use Rattle.geometry.specs.declared.edge_segment.EdgeSegment.the-variants as segment
 use Rattle.graph.specs.declared.refusal.Refusal.{Refusal}
 use Rattle.graph.specs.declared.refusal.Refusal.the-variants.{Truncated, UnknownMark, MisplacedMark, TooMany, UnknownKind, BadThreshold, BadCoordinate, BadDistance}
 use Rattle.graph.specs.Lists.{all}
 use Rattle.graph.specs.Limits.{maxDistances}
+use Rattle.job.specs.declared.records.Strategy.{Strategy}
+use Rattle.job.specs.declared.records.Strategy.the-variants.{Simple, InkTrap, ByDistance}
+use Rattle.job.specs.declared.records.Header as fields
 use Rattle.job.specs.declared.records.Kind.{Kind}
 use Rattle.job.specs.declared.records.Kind.the-variants.{Line, Quadratic, Cubic}
 use Rattle.job.specs.declared.records.Mark.{Mark}
@@ -21,11 +24,12 @@ use Rattle.job.specs.declared.records.Marked.the-variants.{Known, Unknow
 use Rattle.job.specs.declared.records.Phase.{Phase}
 use Rattle.job.specs.declared.records.Phase.the-variants.{Start, Outside, Inside, Closing}
 use Rattle.job.specs.declared.records.State.{State}
+use Rattle.job.specs.declared.progress.Numbers.{Numbers}
 use Rattle.job.specs.declared.records.Item.{Item}
 use Rattle.job.specs.declared.records.Item.the-variants as item
 use Rattle.job.specs.declared.records.Found.{Found}
 use Rattle.job.specs.declared.records.Found.the-variants as found
-use Rattle.job.specs.Patterns.{number, words, floats, isThreshold, isCoordinate, isDistance}
+use Rattle.job.specs.Patterns.{number, little, words, floats, floatBytes, isThreshold, isCoordinate, isDistance}
 
 -- ---- marks
 
@@ -65,10 +69,34 @@ bodySize (Edge kind) = 16 * controls kind
 bodySize Distances = 2
 bodySize End = 0
 
+-- ---- strategies
+
+-- 1 simple, 2 ink trap, 3 by distance
+abbrev pub strategyNumber : Strategy → ℕ
+strategyNumber Simple = 1
+strategyNumber InkTrap = 2
+strategyNumber ByDistance = 3
+
+abbrev pub knownStrategy : ℕ → Bool
+knownStrategy n = leb 1 n && leb n 3
+
+-- the strategy of a known number
+unfoldable pub strategyOf : ℕ → Strategy
+strategyOf n = cond (eqb n 1) Simple (cond (eqb n 2) InkTrap ByDistance)
+
+-- the strategy that asks for distances
+abbrev pub byDistance : Strategy → Bool
+byDistance Simple = false
+byDistance InkTrap = false
+byDistance ByDistance = true
+
 -- ---- what may stand where
 
+abbrev pub noHeader : fields.Header
+noHeader = record { strategy = Simple; seed = 0; threshold = 0 }
+
 abbrev pub start : State
-start = record { phase = Start; strategy = 0; contours = 0; edges = 0 }
+start = record { phase = Start; numbers = record { header = noHeader; contours = 0; edges = 0; distances = 0 } }
 
 abbrev pub atStart : Phase → Bool
 atStart Start = true
@@ -97,29 +125,25 @@ closing Outside = false
 closing Inside = false
 closing Closing = true
 
--- the strategy that asks for distances
-abbrev pub byDistance : ℕ → Bool
-byDistance strategy = eqb strategy 3
-
-abbrev pub allowed : State → Mark → Bool
-allowed s Header = atStart (s .phase)
-allowed s Contour = among (s .phase)
-allowed s (Edge kind) = inside (s .phase)
-allowed s Distances = among (s .phase) && byDistance (s .strategy)
-allowed s End = closing (s .phase) || among (s .phase) && not (byDistance (s .strategy))
+abbrev pub allowed : Phase → Strategy → Mark → Bool
+allowed phase strategy Header = atStart phase
+allowed phase strategy Contour = among phase
+allowed phase strategy (Edge kind) = inside phase
+allowed phase strategy Distances = among phase && byDistance strategy
+allowed phase strategy End = closing phase || among phase && not (byDistance strategy)
 
 -- at most 64 contours and 256 edges; distances are counted in their record
-abbrev pub fits : State → Mark → Bool
-fits s Header = true
-fits s Contour = ltb (s .contours) 64
-fits s (Edge kind) = ltb (s .edges) 256
-fits s Distances = true
-fits s End = true
+abbrev pub fits : Numbers → Mark → Bool
+fits n Header = true
+fits n Contour = ltb (n .contours) 64
+fits n (Edge kind) = ltb (n .edges) 256
+fits n Distances = true
+fits n End = true
 
 -- ---- one record
 
 pub data Record : Type 0 where
-  header : ℕ → ℕ → Float → Record  -- strategy, seed, threshold
+  header : fields.Header → Record
   contour : Record
   edge : EdgeSegment → Record
   distances : List Float → Record
@@ -146,19 +170,16 @@ kindOf (segment.Line p0 p1) = Line
 kindOf (segment.Quadratic p0 p1 p2) = Quadratic
 kindOf (segment.Cubic p0 p1 p2 p3) = Cubic
 
-abbrev pub knownStrategy : ℕ → Bool
-knownStrategy strategy = leb 1 strategy && leb strategy 3
-
 -- the fields of a record, in their order, and the bytes after them
 unfoldable pub readHeader : List ℕ → List ℕ → Step
-unfolding number
+unfolding number strategyOf
 readHeader body rest =
     let strategy = getD body 0 0 in
     let seed = number (take 8 (drop 1 body)) in
     let threshold = number (take 8 (drop 9 body)) in
     require (knownStrategy strategy) UnknownKind
     (require (isThreshold threshold) BadThreshold
-    (next (header strategy seed (ofBits binary64 threshold)) rest))
+    (next (header (record { strategy = strategyOf strategy; seed = seed; threshold = threshold })) rest))
 
 unfoldable pub readEdge : Kind → List ℕ → List ℕ → Step
 unfolding words floats all
@@ -195,8 +216,8 @@ unfoldable pub readMarked : State → Marked → List ℕ → Step
 unfolding readBody
 readMarked s Unknown bytes = fails UnknownMark
 readMarked s (Known mark) bytes =
-    require (allowed s mark) MisplacedMark
-    (require (fits s mark) TooMany
+    require (allowed (s .phase) (s .numbers .header .strategy) mark) MisplacedMark
+    (require (fits (s .numbers) mark) TooMany
     (require (leb (bodySize mark) (length bytes)) Truncated
     (readBody mark (take (bodySize mark) bytes) (drop (bodySize mark) bytes))))
 
@@ -207,19 +228,56 @@ readRecord s [] = fails Truncated
 readRecord s (a ∷ []) = fails Truncated
 readRecord s (a ∷ b ∷ bytes) = readMarked s (markOf a b) bytes
 
--- how many bytes a record takes
-abbrev pub recordSize : Record → ℕ
-recordSize (header strategy seed threshold) = 19
-recordSize contour = 2
-recordSize (edge e) = 2 + 16 * controls (kindOf e)
-recordSize (distances ds) = 4 + 8 * length ds
+-- ---- and back: a record as it stands in a file
 
--- the state after a record
-abbrev pub after : State → Record → State
-after s (header strategy seed threshold) = record { phase = Outside; strategy = strategy; contours = s .contours; edges = s .edges }
-after s contour = record { phase = Inside; strategy = s .strategy; contours = s .contours + 1; edges = s .edges }
-after s (edge e) = record { phase = s .phase; strategy = s .strategy; contours = s .contours; edges = s .edges + 1 }
-after s (distances ds) = record { phase = Closing; strategy = s .strategy; contours = s .contours; edges = s .edges }
+abbrev pub recordMark : Record → Mark
+recordMark (header h) = Header
+recordMark contour = Contour
+recordMark (edge e) = Edge (kindOf e)
+recordMark (distances ds) = Distances
+
+-- x then y of each control point
+abbrev pub coordinates : EdgeSegment → List Float
+coordinates e = take (2 * controls (kindOf e)) (toStored e .points)
+
+unfoldable pub fieldsOf : Record → List ℕ
+unfolding little floatBytes toStored
+fieldsOf (header h) = strategyNumber (h .strategy) ∷ (little 8 (h .seed) ++ little 8 (h .threshold))
+fieldsOf contour = []
+fieldsOf (edge e) = floatBytes (coordinates e)
+fieldsOf (distances ds) = little 2 (length ds) ++ floatBytes ds
+
+abbrev pub marked : Mark → List ℕ → List ℕ
+marked mark fields = letters mark .0 ∷ letters mark .1 ∷ fields
+
+unfoldable pub bytesOf : Record → List ℕ
+unfolding fieldsOf
+bytesOf r = marked (recordMark r) (fieldsOf r)
+
+-- ---- what follows a record
+
+-- a record without its floats: of an edge its kind, of DS how many distances
+abbrev pub itemOf : Record → Item
+itemOf (header h) = item.Header h
+itemOf contour = item.Contour
+itemOf (edge e) = item.Edge (kindOf e)
+itemOf (distances ds) = item.Distances (length ds)
+
+abbrev pub phaseAfter : Phase → Item → Phase
+phaseAfter phase (item.Header h) = Outside
+phaseAfter phase item.Contour = Inside
+phaseAfter phase (item.Edge kind) = phase
+phaseAfter phase (item.Distances count) = Closing
+
+-- the numbers with a record more
+abbrev pub counted : Numbers → Item → Numbers
+counted n (item.Header h) = record { header = h; contours = n .contours; edges = n .edges; distances = n .distances }
+counted n item.Contour = record { header = n .header; contours = n .contours + 1; edges = n .edges; distances = n .distances }
+counted n (item.Edge kind) = record { header = n .header; contours = n .contours; edges = n .edges + 1; distances = n .distances }
+counted n (item.Distances count) = record { header = n .header; contours = n .contours; edges = n .edges; distances = count }
+
+abbrev pub after : State → Item → State
+after s item = record { phase = phaseAfter (s .phase) item; numbers = counted (s .numbers) item }
 
 -- ---- a file
 
@@ -235,7 +293,7 @@ unfoldable pub recordsWithin : ℕ → State → List ℕ → Records
 unfolding readRecord
 recordsWithin zero s bytes = fault Truncated
 recordsWithin (suc n) s bytes =
-    elim (readRecord s bytes) [ next r rest ↦ r then recordsWithin n (after s r) rest | ends ↦ complete | fails refusal ↦ fault refusal ]
+    elim (readRecord s bytes) [ next r rest ↦ r then recordsWithin n (after s (itemOf r)) rest | ends ↦ complete | fails refusal ↦ fault refusal ]
 
 unfoldable pub recordsFrom : State → List ℕ → Records
 unfolding recordsWithin
@@ -243,13 +301,10 @@ recordsFrom s bytes = recordsWithin (length bytes) s bytes
 
 -- ---- in the words of contracts: what the code finds at a record
 
-abbrev pub itemOf : Record → Item
-itemOf (header strategy seed threshold) = item.Header (record { strategy = strategy; seed = seed; threshold = toBits binary64 threshold })
-itemOf contour = item.Contour
-itemOf (edge e) = item.Edge (kindOf e)
-itemOf (distances ds) = item.Distances (length ds)
+abbrev pub recordSize : Record → ℕ
+recordSize r = length (bytesOf r)
 
 abbrev pub foundOf : Step → Found
-foundOf (next r rest) = found.Item (itemOf r)
+foundOf (next r rest) = found.Item (itemOf r) (recordSize r)
 foundOf ends = found.End
 foundOf (fails refusal) = found.Fails refusal

@@ -1,9 +1,9 @@
 // The buffers that a job is read into: contour lengths, kinds, points and distances, written record by record.
 use crate::patterns;
+use crate::progress::Numbers;
 use crate::records;
 use crate::records::Item;
 use crate::records::Kind;
-use crate::records::State;
 use math::bits::float;
 ghost use mathlib.Core.Path.{_≡_};
 ghost use Prim.Native.Nat.{_*_, _≤_};
@@ -61,28 +61,28 @@ fn kind_number(kind: Kind) -> u8
 // A record, written into the buffers. The bytes start at its mark.
 pub(crate) fn write_item(
     item: Item,
-    s: State,
+    n: Numbers,
     bytes: &[u8],
     lengths: &mut [u16],
     kinds: &mut [u8],
     points: &mut [f64],
     distances: &mut [f64],
 )
-    requires { ⌜ Room item s (now bytes) (buffers (now lengths) (now kinds) (now points) (now distances)) ⌝ }
+    requires { ⌜ Room item n (now bytes) (buffers (now lengths) (now kinds) (now points) (now distances)) ⌝ }
     ensures { λ _. ⌜ Hold
-        (written item s (now (bytes .entry)) (buffers (now (lengths .entry)) (now (kinds .entry)) (now (points .entry)) (now (distances .entry))))
+        (written item n (now (bytes .entry)) (buffers (now (lengths .entry)) (now (kinds .entry)) (now (points .entry)) (now (distances .entry))))
         (now (lengths .exit)) (now (kinds .exit)) (now (points .exit)) (now (distances .exit)) ⌝ }
 {
     match item {
         Item::Header(_) => {}
         Item::Contour => {
-            let contours = s.contours;
+            let contours = n.contours;
             lengths[contours] = 0;
         }
         Item::Edge(kind) => {
-            let last = s.contours - 1;
+            let last = n.contours - 1;
             lengths[last] = lengths[last] + 1;
-            let edges = s.edges;
+            let edges = n.edges;
             kinds[edges] = kind_number(kind);
             let end = 2 + 16 * records::controls(kind);
             let from = 8 * edges;

@@ -1,19 +1,28 @@
 // Reading and colouring in one: a file, and four buffers that its coloured shape goes to.
+use crate::progress;
+use crate::progress::Numbers;
 use crate::progress::Read;
 use crate::reader;
+use crate::records;
+use crate::records::Strategy;
+use coloring::by_distance::collect_splines;
 use coloring::by_distance::edge_coloring_by_distance;
 use coloring::edge_coloring::edge_coloring_ink_trap;
 use coloring::edge_coloring::edge_coloring_simple;
 use coloring::outline::Colored;
+use graph::refusal::Refusal;
 use math::bits::float;
 ghost use mathlib.Core.Path.{_≡_};
+ghost use Prim.Native.Nat.{_-_, _*_, _/_, _≤_};
 ghost use Rattle.coloring.specs.Outline.{result, outcome};
+ghost use Rattle.job.specs.Job.{readJob};
 ghost use Rattle.job.specs.Buffers.{buffers};
-ghost use Rattle.job.specs.Color.{colorStored, colorFile, checkFile, HoldsJobs};
+ghost use Rattle.job.specs.Progress.{answerOf};
+ghost use Rattle.job.specs.Color.{colorStored, colorFile, checkFile, acceptJob, paired, AsksDistances, HoldsJobs, HoldsResults};
 
 // The colouring of an outline by a strategy.
 fn color_stored(
-    strategy: u8,
+    strategy: Strategy,
     seed: u64,
     threshold: f64,
     lengths: &[u16],
@@ -29,8 +38,8 @@ fn color_stored(
         colorStored strategy seed threshold (buffers (now (lengths .entry)) (now (kinds .entry)) (now (points .entry)) (now (distances .entry)))
         (result (now («out_lengths» .entry)) (now («out_kinds» .entry)) (now («out_points» .entry)) (now («out_colors» .entry))) ⌝ }
 {
-    if strategy == 1 {
-        return edge_coloring_simple(
+    match strategy {
+        Strategy::Simple => edge_coloring_simple(
             lengths,
             kinds,
             points,
@@ -40,10 +49,8 @@ fn color_stored(
             out_kinds,
             out_points,
             out_colors,
-        );
-    }
-    if strategy == 2 {
-        return edge_coloring_ink_trap(
+        ),
+        Strategy::InkTrap => edge_coloring_ink_trap(
             lengths,
             kinds,
             points,
@@ -53,20 +60,20 @@ fn color_stored(
             out_kinds,
             out_points,
             out_colors,
-        );
+        ),
+        Strategy::ByDistance => edge_coloring_by_distance(
+            lengths,
+            kinds,
+            points,
+            threshold,
+            seed,
+            distances,
+            out_lengths,
+            out_kinds,
+            out_points,
+            out_colors,
+        ),
     }
-    edge_coloring_by_distance(
-        lengths,
-        kinds,
-        points,
-        threshold,
-        seed,
-        distances,
-        out_lengths,
-        out_kinds,
-        out_points,
-        out_colors,
-    )
 }
 
 // The same for a file, with places for a job.
@@ -86,16 +93,19 @@ fn color_in(
         colorFile (now (file .entry))
         (result (now («out_lengths» .entry)) (now («out_kinds» .entry)) (now («out_points» .entry)) (now («out_colors» .entry))) ⌝ }
 {
-    match reader::read(file, lengths, kinds, points, distances) {
+    match progress::scan(file) {
         Read::Job(n) => {
+            reader::fill(file, lengths, kinds, points, distances);
             let contours = n.contours;
             let edges = n.edges;
             let places = 8 * edges;
             let count = n.distances;
-            let threshold = float(n.threshold);
+            let header = n.header;
+            let strategy = header.strategy;
+            let threshold = float(header.threshold);
             color_stored(
-                n.strategy,
-                n.seed,
+                strategy,
+                header.seed,
                 threshold,
                 &lengths[..contours],
                 &kinds[..edges],
@@ -141,13 +151,128 @@ pub fn color(
     )
 }
 
+// How many pairs so many splines have.
+fn pair_count(splines: usize) -> usize
+    requires { ⌜ splines ≤ 64 ⌝ }
+    ensures { λ r. ⌜ r ≡ splines * (splines - 1) / 2 ⌝ }
+{
+    if splines == 0 {
+        return 0;
+    }
+    splines * (splines - 1) / 2
+}
+
+// What was counted, where it has one distance for each pair of splines.
+fn paired(counted: Colored, distances: usize) -> Colored
+    ensures { λ r. ⌜ r ≡ paired counted distances ⌝ }
+{
+    match counted {
+        Colored::Edges(counts) => {
+            let splines = counts.splines;
+            if splines > 64 {
+                return Colored::Refused(Refusal::TooMany);
+            }
+            if distances != pair_count(splines) {
+                return Colored::Refused(Refusal::LengthMismatch);
+            }
+            Colored::Edges(counts)
+        }
+        Colored::Refused(refusal) => Colored::Refused(refusal),
+    }
+}
+
+// The answer for a job by distance, with places for it and for a result. Of its splines only the number is needed.
+fn check_by_distance(
+    file: &[u8],
+    n: Numbers,
+    lengths: &mut [u16],
+    kinds: &mut [u8],
+    points: &mut [f64],
+    distances: &mut [f64],
+    out_lengths: &mut [u16],
+    out_kinds: &mut [u8],
+    out_points: &mut [f64],
+    out_splines: &mut [u8],
+) -> Colored
+    requires { ⌜ AsksDistances (readJob (now file)) n ⌝ }
+    requires { ⌜ HoldsJobs (buffers (now lengths) (now kinds) (now points) (now distances)) ⌝ }
+    requires { ⌜ HoldsResults (result (now «out_lengths») (now «out_kinds») (now «out_points») (now «out_splines»)) ⌝ }
+    ensures { λ r. ⌜ r ≡ checkFile (now (file .entry)) ⌝ }
+{
+    reader::fill(file, lengths, kinds, points, distances);
+    let contours = n.contours;
+    let edges = n.edges;
+    let places = 8 * edges;
+    let header = n.header;
+    let threshold = float(header.threshold);
+    let counted = collect_splines(
+        &lengths[..contours],
+        &kinds[..edges],
+        &points[..places],
+        threshold,
+        out_lengths,
+        out_kinds,
+        out_points,
+        out_splines,
+    );
+    paired(counted, n.distances)
+}
+
 // The answer of reading and colouring a file where every result has room: how many edges, or the first refusal.
 pub fn check(file: &[u8]) -> Colored
     ensures { λ r. ⌜ r ≡ checkFile (now (file .entry)) ⌝ }
 {
-    let mut lengths = [0u16; 64];
-    let mut kinds = [0u8; 508];
-    let mut points = [0.0f64; 4064];
-    let mut colors = [0u8; 508];
-    color(file, &mut lengths, &mut kinds, &mut points, &mut colors)
+    let mut out_lengths = [0u16; 64];
+    let mut out_kinds = [0u8; 508];
+    let mut out_points = [0.0f64; 4064];
+    let mut out_colors = [0u8; 508];
+    if let Read::Job(n) = progress::scan(file) {
+        let header = n.header;
+        let strategy = header.strategy;
+        if records::by_distance(strategy) {
+            let mut lengths = [0u16; 64];
+            let mut kinds = [0u8; 256];
+            let mut points = [0.0f64; 2048];
+            let mut distances = [0.0f64; 2016];
+            return check_by_distance(
+                file,
+                n,
+                &mut lengths,
+                &mut kinds,
+                &mut points,
+                &mut distances,
+                &mut out_lengths,
+                &mut out_kinds,
+                &mut out_points,
+                &mut out_colors,
+            );
+        }
+    }
+    color(
+        file,
+        &mut out_lengths,
+        &mut out_kinds,
+        &mut out_points,
+        &mut out_colors,
+    )
+}
+
+// The numbers of an accepted file's job, or the first refusal of reading and checking it. A job without distances has nothing left to check.
+pub(crate) fn accept(file: &[u8]) -> Read
+    ensures { λ r. ⌜ r ≡ answerOf (acceptJob (now (file .entry))) ⌝ }
+{
+    match progress::scan(file) {
+        Read::Job(n) => {
+            let header = n.header;
+            let strategy = header.strategy;
+            if !records::by_distance(strategy) {
+                return Read::Job(n);
+            }
+            match check(file) {
+                Colored::Edges(_) => Read::Job(n),
+                Colored::Refused(refusal) => Read::Refused(refusal),
+            }
+        }
+        Read::Refused(refusal) => Read::Refused(refusal),
+    }
 }

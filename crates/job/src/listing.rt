@@ -12,7 +12,7 @@ ghost use Rattle.coloring.specs.Places.{total};
 ghost use Rattle.coloring.specs.Outline.{cut, result};
 ghost use Rattle.job.specs.Job.{readJob};
 ghost use Rattle.job.specs.Color.{HoldsResults};
-ghost use Rattle.job.specs.Listing.{digit, decimal, letter, field, line, contourLines, shapeLines, listing, refusalLine, fileText, listFile, outcome, contourCount, Pasted};
+ghost use Rattle.job.specs.Listing.{digit, decimal, letter, field, line, contourLines, shapeLines, listing, refusalLine, fileText, listFile, outcome, contourCount, Pasted, Printed};
 
 // The answer of a listing: how many bytes were written, or 11.
 pub enum Listed {
@@ -194,9 +194,9 @@ fn write_answer(
     }
 }
 
-fn write_text(file: &[u8], text: &mut [u8]) -> usize
-    requires { ⌜ 5598 ≤ length (now text) ⌝ }
-    ensures { λ r. ⌜ Pasted (fileText (now (file .entry))) 0 (now (text .entry)) r (now (text .exit)) ⌝ }
+// The text of a file's answer, at the start of a buffer that holds every text; how many bytes. What `channels` prints.
+pub fn text(file: &[u8], out: &mut [u8; 5598]) -> usize
+    ensures { λ r. ⌜ Printed (fileText (now (file .entry))) (now (out .entry)) r (now (out .exit)) ⌝ }
 {
     let mut lengths = [0u16; 64];
     let mut kinds = [0u8; 508];
@@ -208,7 +208,7 @@ fn write_text(file: &[u8], text: &mut [u8]) -> usize
         &mut kinds,
         &mut points,
         &mut colors,
-        text,
+        out,
     )
 }
 
@@ -217,11 +217,11 @@ fn write_text(file: &[u8], text: &mut [u8]) -> usize
 pub fn listing(file: &[u8], out: &mut [u8]) -> Listed
     ensures { λ r. ⌜ outcome r (now (out .exit)) ≡ listFile (now (file .entry)) (now (out .entry)) ⌝ }
 {
-    let mut text = [0u8; 5598];
-    let n = write_text(file, &mut text);
+    let mut whole = [0u8; 5598];
+    let n = text(file, &mut whole);
     if n > out.len() {
         return Listed::Refused(Refusal::ResultTooShort);
     }
-    put_word(out, 0, &text[..n]);
+    put_word(out, 0, &whole[..n]);
     Listed::Bytes(n)
 }

@@ -5,10 +5,9 @@ use crate::progress::Read;
 use crate::records;
 use crate::records::Found;
 use crate::records::Item;
-use coloring::outline::Colored;
 ghost use mathlib.Core.Path.{_≡_};
 ghost use lib.ListN.{length};
-ghost use Rattle.job.specs.Color.{accepted, noOther};
+ghost use Rattle.job.specs.Color.{accepted};
 ghost use Rattle.job.specs.Part.{sought, spanOf, contourSpan, contourPlace, contourPart, Inside};
 
 // From a byte up to another.
@@ -75,9 +74,9 @@ fn contour_span(file: &[u8], number: usize) -> Span
         let at = p.at;
         let state = p.state;
         match records::read_record(state, &file[at..]) {
-            Found::Item(item) => {
+            Found::Item(item, size) => {
                 q = sought(q, at, item);
-                p = progress::advance(p, item);
+                p = progress::advance(p, item, size);
             }
             Found::End => {
                 return span_of(q, at);
@@ -89,28 +88,12 @@ fn contour_span(file: &[u8], number: usize) -> Span
     }
 }
 
-// Whether an answer is no number other than 11.
-fn no_other(answer: Colored) -> bool
-    ensures { λ r. ⌜ r ≡ noOther answer ⌝ }
-{
-    match answer {
-        Colored::Edges(_) => true,
-        Colored::Refused(refusal) => refusal.number() == 11,
-    }
-}
-
-// Whether a file is accepted. No buffer is needed to tell: a result that does not fit is no fault.
+// Whether a file is accepted.
 fn accepted(file: &[u8]) -> bool
     ensures { λ r. ⌜ r ≡ accepted (now (file .entry)) ⌝ }
 {
-    match progress::scan(file) {
-        Read::Job(_) => {
-            let mut lengths = [0u16; 1];
-            let mut kinds = [0u8; 1];
-            let mut points = [0.0f64; 1];
-            let mut colors = [0u8; 1];
-            no_other(color::color(file, &mut lengths, &mut kinds, &mut points, &mut colors))
-        }
+    match color::accept(file) {
+        Read::Job(_) => true,
         Read::Refused(_) => false,
     }
 }

@@ -1,19 +1,21 @@
 // How far a file is read, record by record, and the numbers of its job.
 use crate::records;
 use crate::records::Found;
+use crate::records::Header;
 use crate::records::Item;
 use crate::records::Phase;
 use crate::records::State;
+use crate::records::Strategy;
 use graph::refusal::Refusal;
 ghost use mathlib.Core.Path.{_≡_};
 ghost use Rattle.job.specs.Job.{readJob};
-ghost use Rattle.job.specs.Progress.{begin, advanced, numbersAt, answerOf, Counts};
+ghost use Prim.Native.Nat.{_<_};
+ghost use Rattle.job.specs.Records.{phaseAfter, counted};
+ghost use Rattle.job.specs.Progress.{begin, advanced, answerOf, Counts};
 
-// The numbers of a job: its fields, the threshold as its bit pattern, and how many contours, edges and distances it has.
+// The numbers of a job: its header, and how many contours, edges and distances it has.
 pub struct Numbers {
-    pub strategy: u8,
-    pub seed: u64,
-    pub threshold: u64,
+    pub header: Header,
     pub contours: usize,
     pub edges: usize,
     pub distances: usize,
@@ -25,104 +27,95 @@ pub enum Read {
     Refused(Refusal),
 }
 
-// How far a file is read.
+// How far a file is read: a place, and what was read before it.
 pub struct Progress {
     pub at: usize,
     pub state: State,
-    pub seed: u64,
-    pub threshold: u64,
-    pub distances: usize,
 }
 
 pub(crate) fn begin() -> Progress
     ensures { λ r. ⌜ r ≡ begin ⌝ }
 {
-    Progress {
-        at: 0,
-        state: State {
-            phase: Phase::Start,
-            strategy: 0,
-            contours: 0,
-            edges: 0,
-        },
+    let header = Header {
+        strategy: Strategy::Simple,
         seed: 0,
         threshold: 0,
+    };
+    let numbers = Numbers {
+        header,
+        contours: 0,
+        edges: 0,
         distances: 0,
+    };
+    let state = State {
+        phase: Phase::Start,
+        numbers,
+    };
+    Progress { at: 0, state }
+}
+
+fn phase_after(phase: Phase, item: Item) -> Phase
+    ensures { λ r. ⌜ r ≡ phaseAfter phase item ⌝ }
+{
+    match item {
+        Item::Header(_) => Phase::Outside,
+        Item::Contour => Phase::Inside,
+        Item::Edge(_) => phase,
+        Item::Distances(_) => Phase::Closing,
     }
 }
 
-// One record further.
-pub(crate) fn advance(p: Progress, item: Item) -> Progress
-    requires { ⌜ Counts p item ⌝ }
-    ensures { λ r. ⌜ r ≡ advanced p item ⌝ }
+// The numbers with a record more.
+fn counted(n: Numbers, item: Item) -> Numbers
+    requires { ⌜ (n .contours < 65536) × (n .edges < 65536) ⌝ }
+    ensures { λ r. ⌜ r ≡ counted n item ⌝ }
 {
-    let s = p.state;
+    let header = n.header;
     match item {
-        Item::Header(h) => Progress {
-            at: p.at + 19,
-            state: State {
-                phase: Phase::Outside,
-                strategy: h.strategy,
-                contours: s.contours,
-                edges: s.edges,
-            },
-            seed: h.seed,
-            threshold: h.threshold,
-            distances: p.distances,
+        Item::Header(h) => Numbers {
+            header: h,
+            contours: n.contours,
+            edges: n.edges,
+            distances: n.distances,
         },
-        Item::Contour => Progress {
-            at: p.at + 2,
-            state: State {
-                phase: Phase::Inside,
-                strategy: s.strategy,
-                contours: s.contours + 1,
-                edges: s.edges,
-            },
-            seed: p.seed,
-            threshold: p.threshold,
-            distances: p.distances,
+        Item::Contour => Numbers {
+            header,
+            contours: n.contours + 1,
+            edges: n.edges,
+            distances: n.distances,
         },
-        Item::Edge(kind) => {
-            let phase = s.phase;
-            Progress {
-                at: p.at + (2 + 16 * records::controls(kind)),
-                state: State {
-                    phase,
-                    strategy: s.strategy,
-                    contours: s.contours,
-                    edges: s.edges + 1,
-                },
-                seed: p.seed,
-                threshold: p.threshold,
-                distances: p.distances,
-            }
-        }
-        Item::Distances(count) => Progress {
-            at: p.at + (4 + 8 * count),
-            state: State {
-                phase: Phase::Closing,
-                strategy: s.strategy,
-                contours: s.contours,
-                edges: s.edges,
-            },
-            seed: p.seed,
-            threshold: p.threshold,
+        Item::Edge(_) => Numbers {
+            header,
+            contours: n.contours,
+            edges: n.edges + 1,
+            distances: n.distances,
+        },
+        Item::Distances(count) => Numbers {
+            header,
+            contours: n.contours,
+            edges: n.edges,
             distances: count,
         },
     }
 }
 
-fn numbers_at(p: Progress) -> Numbers
-    ensures { λ r. ⌜ r ≡ numbersAt p ⌝ }
+// One record further, which takes so many bytes.
+pub(crate) fn advance(p: Progress, item: Item, size: usize) -> Progress
+    requires { ⌜ Counts p size ⌝ }
+    ensures { λ r. ⌜ r ≡ advanced p item size ⌝ }
 {
     let s = p.state;
-    Numbers {
-        strategy: s.strategy,
-        seed: p.seed,
-        threshold: p.threshold,
-        contours: s.contours,
-        edges: s.edges,
-        distances: p.distances,
+    let before = s.phase;
+    let numbers = s.numbers;
+    let phase = phase_after(before, item);
+    let more = counted(numbers, item);
+    let state = State {
+        phase,
+        numbers: more,
+    };
+    Progress {
+        at: p.at + size,
+        state,
     }
 }
 
@@ -135,11 +128,12 @@ pub(crate) fn scan(file: &[u8]) -> Read
         let at = p.at;
         let state = p.state;
         match records::read_record(state, &file[at..]) {
-            Found::Item(item) => {
-                p = advance(p, item);
+            Found::Item(item, size) => {
+                p = advance(p, item, size);
             }
             Found::End => {
-                return Read::Job(numbers_at(p));
+                let numbers = state.numbers;
+                return Read::Job(numbers);
             }
             Found::Fails(refusal) => {
                 return Read::Refused(refusal);

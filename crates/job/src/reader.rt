@@ -1,5 +1,6 @@
 // The reader of a job file: its numbers, and its contours and distances into the caller's buffers.
 use crate::buffers;
+use crate::color;
 use crate::progress;
 use crate::progress::Numbers;
 use crate::progress::Read;
@@ -9,11 +10,12 @@ use graph::refusal::Refusal;
 ghost use mathlib.Core.Path.{_≡_};
 ghost use Prim.Native.Nat.{_≤_};
 ghost use Rattle.job.specs.Job.{readJob};
+ghost use Rattle.job.specs.Color.{acceptJob};
 ghost use Rattle.job.specs.Buffers.{buffers, roomFor, Hold};
 ghost use Rattle.job.specs.Reader.{readInto, Delivers, Fits, filled};
 
 // The job of a file that is read and has room, written into the buffers.
-fn fill(
+pub(crate) fn fill(
     file: &[u8],
     lengths: &mut [u16],
     kinds: &mut [u8],
@@ -30,9 +32,18 @@ fn fill(
         let at = p.at;
         let state = p.state;
         match records::read_record(state, &file[at..]) {
-            Found::Item(item) => {
-                buffers::write_item(item, state, &file[at..], lengths, kinds, points, distances);
-                p = progress::advance(p, item);
+            Found::Item(item, size) => {
+                let numbers = state.numbers;
+                buffers::write_item(
+                    item,
+                    numbers,
+                    &file[at..],
+                    lengths,
+                    kinds,
+                    points,
+                    distances,
+                );
+                p = progress::advance(p, item, size);
             }
             Found::End => {
                 return;
@@ -60,7 +71,8 @@ fn has_room(n: Numbers, lengths: usize, kinds: usize, points: usize, distances: 
     n.distances <= distances
 }
 
-// Reads a file: its job's numbers, and its contours and distances into the buffers; or the first refusal, 11 where a buffer is too short.
+// Reads a file: the numbers of its job, and its contours and distances into the buffers; or the number that `check` gives; or 11 where a buffer
+// is too short.
 // A refusal leaves every buffer as it came, and places beyond the job keep theirs.
 pub fn read(
     file: &[u8],
@@ -70,10 +82,10 @@ pub fn read(
     distances: &mut [f64],
 ) -> Read
     ensures { λ r. ⌜ Delivers
-        (readInto (readJob (now (file .entry))) (buffers (now (lengths .entry)) (now (kinds .entry)) (now (points .entry)) (now (distances .entry))))
+        (readInto (acceptJob (now (file .entry))) (buffers (now (lengths .entry)) (now (kinds .entry)) (now (points .entry)) (now (distances .entry))))
         r (now (lengths .exit)) (now (kinds .exit)) (now (points .exit)) (now (distances .exit)) ⌝ }
 {
-    match progress::scan(file) {
+    match color::accept(file) {
         Read::Job(n) => {
             if !has_room(n, lengths.len(), kinds.len(), points.len(), distances.len()) {
                 return Read::Refused(Refusal::ResultTooShort);

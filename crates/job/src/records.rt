@@ -1,13 +1,33 @@
 // The records of a job file, one after another: a mark of two letters, then its fields (document 01, "Trays and the job file").
 use crate::patterns;
 use crate::patterns::Range;
+use crate::progress::Numbers;
 use graph::refusal::Refusal;
 ghost use mathlib.Core.Path.{_≡_};
 ghost use mathlib.Core.List.{[]};
 ghost use lib.ListN.{length};
 ghost use Rattle.job.specs.declared.records.Mark.the-variants.{Edge};
 ghost use Rattle.job.specs.declared.records.Marked.the-variants.{Known};
-ghost use Rattle.job.specs.Records.{markOf, controls, bodySize, atStart, inside, among, closing, allowed, fits, readHeader, readEdge, readDistances, readEnd, readBody, readMarked, readRecord, foundOf};
+ghost use Rattle.job.specs.Records.{strategyNumber, strategyOf, byDistance, markOf, controls, bodySize, atStart, inside, among, closing, allowed, fits, readHeader, readEdge, readDistances, readEnd, readBody, readMarked, readRecord, foundOf};
+
+pub enum Strategy {
+    Simple,
+    InkTrap,
+    ByDistance,
+}
+
+impl Strategy {
+    // 1 simple, 2 ink trap, 3 by distance
+    pub fn number(self) -> u8
+        ensures { λ r. ⌜ r ≡ strategyNumber self ⌝ }
+    {
+        match self {
+            Strategy::Simple => 1,
+            Strategy::InkTrap => 2,
+            Strategy::ByDistance => 3,
+        }
+    }
+}
 
 pub enum Kind {
     Line,
@@ -46,19 +66,17 @@ pub enum Phase {
     Closing,
 }
 
+// The fields of JB, the threshold as its bit pattern.
+pub struct Header {
+    pub strategy: Strategy,
+    pub seed: u64,
+    pub threshold: u64,
+}
+
 // What is allowed next follows from this.
 pub struct State {
     pub phase: Phase,
-    pub strategy: u8,
-    pub contours: usize,
-    pub edges: usize,
-}
-
-// The fields of JB, the threshold as its bit pattern.
-pub struct Header {
-    pub strategy: u8,
-    pub seed: u64,
-    pub threshold: u64,
+    pub numbers: Numbers,
 }
 
 // A record without its floats: of an edge its kind, of DS how many distances.
@@ -69,9 +87,9 @@ pub enum Item {
     Distances(usize),
 }
 
-// What the first record of some bytes is.
+// What the first record of some bytes is: a record and how many bytes it takes, the end, or its fault.
 pub enum Found {
-    Item(Item),
+    Item(Item, usize),
     End,
     Fails(Refusal),
 }
@@ -190,42 +208,65 @@ fn closing(phase: Phase) -> bool
     }
 }
 
-// Whether a mark may stand there.
-fn allowed(s: State, mark: Mark) -> bool
-    ensures { λ r. ⌜ r ≡ allowed s mark ⌝ }
+// Whether the strategy asks for distances.
+pub(crate) fn by_distance(strategy: Strategy) -> bool
+    ensures { λ r. ⌜ r ≡ byDistance strategy ⌝ }
 {
-    let phase = s.phase;
+    match strategy {
+        Strategy::Simple => false,
+        Strategy::InkTrap => false,
+        Strategy::ByDistance => true,
+    }
+}
+
+// Whether a mark may stand there.
+fn allowed(phase: Phase, strategy: Strategy, mark: Mark) -> bool
+    ensures { λ r. ⌜ r ≡ allowed phase strategy mark ⌝ }
+{
     match mark {
         Mark::Header => at_start(phase),
         Mark::Contour => among(phase),
         Mark::Edge(_) => inside(phase),
-        Mark::Distances => among(phase) && s.strategy == 3,
-        Mark::End => closing(phase) || (among(phase) && s.strategy != 3),
+        Mark::Distances => among(phase) && by_distance(strategy),
+        Mark::End => closing(phase) || (among(phase) && !by_distance(strategy)),
     }
 }
 
 // Whether one more such record is within the maximum.
-fn fits(s: State, mark: Mark) -> bool
-    ensures { λ r. ⌜ r ≡ fits s mark ⌝ }
+fn fits(n: Numbers, mark: Mark) -> bool
+    ensures { λ r. ⌜ r ≡ fits n mark ⌝ }
 {
     match mark {
         Mark::Header => true,
-        Mark::Contour => s.contours < 64,
-        Mark::Edge(_) => s.edges < 256,
+        Mark::Contour => n.contours < 64,
+        Mark::Edge(_) => n.edges < 256,
         Mark::Distances => true,
         Mark::End => true,
     }
+}
+
+// The strategy of a number from 1 to 3.
+fn strategy_of(number: u8) -> Strategy
+    ensures { λ r. ⌜ r ≡ strategyOf number ⌝ }
+{
+    if number == 1 {
+        return Strategy::Simple;
+    }
+    if number == 2 {
+        return Strategy::InkTrap;
+    }
+    Strategy::ByDistance
 }
 
 fn read_header(body: &[u8]) -> Found
     requires { ⌜ length (now body) ≡ 17 ⌝ }
     ensures { λ r. ⌜ r ≡ foundOf (readHeader (now (body .entry)) []) ⌝ }
 {
-    let strategy = body[0];
-    if strategy < 1 {
+    let number = body[0];
+    if number < 1 {
         return Found::Fails(Refusal::UnknownKind);
     }
-    if 3 < strategy {
+    if 3 < number {
         return Found::Fails(Refusal::UnknownKind);
     }
     let seed = patterns::number(&body[1..9]);
@@ -233,11 +274,13 @@ fn read_header(body: &[u8]) -> Found
     if !patterns::is_threshold(threshold) {
         return Found::Fails(Refusal::BadThreshold);
     }
-    Found::Item(Item::Header(Header {
+    let strategy = strategy_of(number);
+    let header = Header {
         strategy,
         seed,
         threshold,
-    }))
+    };
+    Found::Item(Item::Header(header), 2 + body.len())
 }
 
 fn read_edge(kind: Kind, body: &[u8]) -> Found
@@ -245,7 +288,7 @@ fn read_edge(kind: Kind, body: &[u8]) -> Found
     ensures { λ r. ⌜ r ≡ foundOf (readEdge kind (now (body .entry)) []) ⌝ }
 {
     if patterns::words_within(Range::Coordinate, 2 * controls(kind), body) {
-        return Found::Item(Item::Edge(kind));
+        return Found::Item(Item::Edge(kind), 2 + body.len());
     }
     Found::Fails(Refusal::BadCoordinate)
 }
@@ -262,7 +305,7 @@ fn read_distances(body: &[u8], rest: &[u8]) -> Found
         return Found::Fails(Refusal::Truncated);
     }
     if patterns::words_within(Range::Distance, count, rest) {
-        return Found::Item(Item::Distances(count));
+        return Found::Item(Item::Distances(count), 2 + body.len() + 8 * count);
     }
     Found::Fails(Refusal::BadDistance)
 }
@@ -282,7 +325,7 @@ fn read_body(mark: Mark, body: &[u8], rest: &[u8]) -> Found
 {
     match mark {
         Mark::Header => read_header(body),
-        Mark::Contour => Found::Item(Item::Contour),
+        Mark::Contour => Found::Item(Item::Contour, 2 + body.len()),
         Mark::Edge(kind) => read_edge(kind, body),
         Mark::Distances => read_distances(body, rest),
         Mark::End => read_end(rest),
@@ -293,10 +336,14 @@ fn read_body(mark: Mark, body: &[u8], rest: &[u8]) -> Found
 fn read_marked(s: State, mark: Mark, bytes: &[u8]) -> Found
     ensures { λ r. ⌜ r ≡ foundOf (readMarked s (Known mark) (now (bytes .entry))) ⌝ }
 {
-    if !allowed(s, mark) {
+    let phase = s.phase;
+    let numbers = s.numbers;
+    let header = numbers.header;
+    let strategy = header.strategy;
+    if !allowed(phase, strategy, mark) {
         return Found::Fails(Refusal::MisplacedMark);
     }
-    if !fits(s, mark) {
+    if !fits(numbers, mark) {
         return Found::Fails(Refusal::TooMany);
     }
     let size = body_size(mark);

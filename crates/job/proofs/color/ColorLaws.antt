@@ -5,7 +5,7 @@ use mathlib.Core.List.{List, [], _∷_, map, map-append, flatten}
 use Prim.Native.Nat.{ℕ, _-_, _*_, _/_, _≤_}
 use native.Mathlib.Omega.{arith}
 use lib.Dec.{leb, eqb}
-use lib.Ieee.{Float, binary64, ofBits}
+use lib.Ieee.{Float}
 use lib.ListN.{length, take, drop, length-append, length-map}
 use lib.Seq.{take-at, drop-at}
 use borrow.Author.Tests.{le-leb, eq-eqb}
@@ -17,33 +17,36 @@ use Rattle.graph.specs.declared.refusal.Checked.the-variants.{Passed, Failed}
 use Rattle.graph.specs.declared.refusal.Refusal.the-variants.{TooMany, LengthMismatch, BadDistance, ResultTooShort}
 use Rattle.graph.specs.Refusal.{refusalNumber, require}
 use Rattle.graph.specs.PairOrder.{distancesValid}
-use Rattle.graph.specs.Limits.{maxSplines, maxDistances}
+use Rattle.graph.specs.Limits.{maxSplines}
 use Rattle.graph.specs.declared.refusal.Refusal.{Refusal}
 use Rattle.graph.specs.Lists.{all, over}
 use Rattle.coloring.specs.declared.outline.Counts.{Counts}
 use Rattle.coloring.specs.declared.outline.Colored.{Colored}
 use Rattle.coloring.specs.declared.settings.Strategy.the-variants.{Simple, InkTrap}
 use Rattle.coloring.specs.declared.settings.Marking.{Marking}
-use Rattle.coloring.specs.declared.settings.Marking.the-variants.{Colors, Distances}
+use Rattle.coloring.specs.declared.settings.Marking.the-variants.{Colors, Numbers, Distances}
 use Rattle.coloring.specs.Corners.{searchCorners}
-use Rattle.coloring.specs.Values.{splineValues, checkMarking}
+use Rattle.coloring.specs.Values.{splineValues, middleValue, checkMarking}
 use Rattle.coloring.specs.Splines.{splineTotal}
 use Rattle.coloring.specs.Outline as outline
 use Rattle.coloring.specs.declared.outline.Colored.the-variants as color
-use Rattle.coloring.specs.Outline.{Result, Outcome, outcome, edgeOf, contours, knownKind, coordinatesFit, check, fits, delivered, deliver}
-use Rattle.coloring.specs.Shape.{painted, deliverFound}
+use Rattle.coloring.specs.Outline.{Outline, Result, Outcome, outcome, edgeOf, contours, knownKind, coordinatesFit, check, deliver}
+use Rattle.coloring.specs.Shape.{painted, countsOf, deliverFound}
 use Rattle.coloring.specs.Sizes.{sizes, cut-again, flatten-length, points-length}
-use Rattle.coloring.specs.EdgeColoring.{edgeColoring}
+use Rattle.coloring.specs.EdgeColoring.{edgeColoring, collectSplines}
 use Rattle.job.specs.declared.progress.Numbers.{Numbers as JobNumbers}
 use Rattle.job.specs.declared.progress.Read.{Read}
 use Rattle.job.specs.declared.progress.Read.the-variants as read
-use Rattle.job.specs.Job.{Job, Reading, reads, refuses, readJob}
-use Rattle.job.specs.Progress.{edgeCount, numbersOf}
+use Rattle.job.specs.declared.records.Strategy as strategies
+use Rattle.job.specs.declared.records.Strategy.the-variants as by
+use Rattle.job.specs.Job.{thresholdOf, Job, Reading, reads, refuses, readJob}
+use Rattle.job.specs.Progress.{edgeCount, numbersOf, answerOf}
 use Rattle.job.specs.Buffers.{Buffers, buffers, kindsOf, placesOf, stored, overEach, roomFor, hasRoom, Hold}
-use Rattle.job.specs.Reader.{readInto, Delivers}
-use Rattle.job.specs.Color.{laidIn, checkJob, coloredEdges, edgeColors, colored, colorJob, colorReading, colorFile, isPassed, acceptedReading, accepted, noOther, outlineOf, colorStored, HoldsJobs}
+use Rattle.job.specs.Reader.{Fits, filled}
+use Rattle.job.specs.Color.{byStrategy, laidIn, checkJob, coloredEdges, edgeColors, colored, colorJob, colorReading, colorFile, outlineOf, colorStored, HoldsJobs}
 use Rattle.job.proofs.records.ReadingLaws.{edgeFits}
 use Rattle.job.proofs.progress.ProgressLaws.{Sound, job-sound, contours-few, edges-few}
+use Rattle.job.proofs.reader.DeliverLaws.{answer-job, answer-refused}
 use Rattle.job.proofs.buffers.StoredLaws.{kinds-length}
 
 -- ---- the buffers hold the contours
@@ -85,8 +88,12 @@ coordinates-pass (segment.Line p0 p1 ∷ edges) h = and-next (edgeFits (segment.
 coordinates-pass (segment.Quadratic p0 p1 p2 ∷ edges) h = and-next (edgeFits (segment.Quadratic p0 p1 p2)) _ _ h (λ k. coordinates-pass edges k)
 coordinates-pass (segment.Cubic p0 p1 p2 p3 ∷ edges) h = and-next (edgeFits (segment.Cubic p0 p1 p2 p3)) _ _ h (λ k. coordinates-pass edges k)
 
+-- the laid out shape of a job with its splines' numbers
+abbrev pub numbered : Job → Result
+numbered job = painted (middleValue Numbers) (splineValues Numbers [] (laidIn job)) (laidIn job)
+
 module _ (job : Job) (so : Sound job) (contours-fit : length (job .contours) ≤ 64) (edges-fit : edgeCount (job .contours) ≤ 256) where
-  pub passes : check (outlineOf (stored job)) (job .threshold) ≡ Passed
+  pub passes : check (outlineOf (stored job)) (thresholdOf (job .header)) ≡ Passed
   unfolding check stored
   passes =
       let edges = flatten (job .contours) in
@@ -110,10 +117,10 @@ module _ (job : Job) (so : Sound job) (contours-fit : length (job .contours) ≤
   module _ (old : Result) where
     -- by a marking, and with distances or without
     abbrev marked : Marking → List Float → Outcome
-    marked marking distances = deliverFound Passed marking distances (map (searchCorners (job .threshold)) (job .contours)) old
+    marked marking distances = deliverFound Passed marking distances (map (searchCorners (thresholdOf (job .header))) (job .contours)) old
 
     abbrev colored-by : Marking → List Float → Outcome
-    colored-by marking distances = edgeColoring (record { marking = marking; threshold = job .threshold }) (outlineOf (stored job)) distances old
+    colored-by marking distances = edgeColoring (record { marking = marking; threshold = thresholdOf (job .header) }) (outlineOf (stored job)) distances old
 
     without : (marking : Marking) → colored-by marking [] ≡ marked marking []
     unfolding edgeColoring
@@ -123,22 +130,30 @@ module _ (job : Job) (so : Sound job) (contours-fit : length (job .contours) ≤
     unfolding edgeColoring
     with marking = rw (le-leb (length (job .distances)) 2016 (so .distances-few), passes, contours-again job)
 
+    -- collecting its splines counts the edges and splines of its result
+    pub collected : collectSplines (outlineOf (stored job)) (thresholdOf (job .header)) old
+        ≡ deliver (require (leb (splineTotal (laidIn job)) maxSplines) TooMany Passed) (countsOf (laidIn job)) (numbered job) old
+    unfolding laidIn
+    collected = without Numbers
+
     stored-is : stored job .distances ≡ job .distances
     unfolding stored
     stored-is = refl
 
-    stored-colored : colorStored (job .strategy) (job .seed) (job .threshold) (stored job) old ≡ colorJob job old
+    stored-colored : colorStored (job .header .strategy) (job .header .seed) (thresholdOf (job .header)) (stored job) old ≡ colorJob job old
     unfolding colorStored colorJob checkJob colored edgeColors coloredEdges laidIn painted splineValues
     stored-colored =
-        rw (stored-is, without (Colors Simple (job .seed)), without (Colors InkTrap (job .seed)), with (Distances (job .seed)))
-        (go (eqb (job .strategy) 1) (eqb (job .strategy) 2))
+        rw (stored-is, without (Colors Simple seed), without (Colors InkTrap seed), with (Distances seed)) (go (job .header .strategy))
       where
-        go : (a b : Bool)
-            → cond a (marked (Colors Simple (job .seed)) []) (cond b (marked (Colors InkTrap (job .seed)) []) (marked (Distances (job .seed)) (job .distances)))
-            ≡ marked (cond a (Colors Simple (job .seed)) (cond b (Colors InkTrap (job .seed)) (Distances (job .seed)))) (job .distances)
-        go true b = refl
-        go false true = refl
-        go false false = refl
+        seed : ℕ
+        seed = job .header .seed
+
+        go : (by : strategies.Strategy)
+            → byStrategy by (marked (Colors Simple seed) []) (marked (Colors InkTrap seed) []) (marked (Distances seed) (job .distances))
+            ≡ marked (byStrategy by (Colors Simple seed) (Colors InkTrap seed) (Distances seed)) (job .distances)
+        go by.Simple = refl
+        go by.InkTrap = refl
+        go by.ByDistance = refl
 
 -- ---- from what the reader delivers
 
@@ -151,7 +166,7 @@ unfolding over
 within xs ys e = omega (arith, e, length-append xs (drop (length xs) ys))
 
 -- a job that was read has room
-job-room : (file : List ℕ) (job : Job) (old : Buffers) → readJob file ≡ reads job → HoldsJobs old → hasRoom (numbersOf job) old ≡ true
+pub job-room : (file : List ℕ) (job : Job) (old : Buffers) → readJob file ≡ reads job → HoldsJobs old → hasRoom (numbersOf job) old ≡ true
 unfolding roomFor
 job-room file job old e h =
     let few = contours-few file job e in
@@ -171,31 +186,19 @@ pub record Holding (file : List ℕ) (n : JobNumbers) (old : Buffers) (lengths k
   pub numbers : n ≡ numbersOf job
   pub holds : Hold (overEach (stored job) old) lengths kinds points distances
 
-module _ (file : List ℕ) (old : Buffers) (room : HoldsJobs old) (lengths kinds : List ℕ) (points distances : List Float) where
-  pub read-job : (answer : Read) (n : JobNumbers) → answer ≡ read.Job n → Delivers (readInto (readJob file) old) answer lengths kinds points distances
-      → Holding file n old lengths kinds points distances
-  unfolding readInto
-  read-job answer n is d = go (readJob file) refl (rw is at d)
-    where
-      go : (reading : Reading) → readJob file ≡ reading → Delivers (readInto reading old) (read.Job n) lengths kinds points distances → Holding file n old lengths kinds points distances
-      go (reads job) e d =
-          let given = rw (job-room file job old e room) at d in
-          record { job = job; is-read = e; numbers = let same = given .answers in cc; holds = given .holds }
-      go (refuses refusal) e d = let no = d .answers in let z : _≡_ {A = ℕ} 0 1 = cc in absurd (omega arith)
+module _ (file : List ℕ) (n : JobNumbers) (old : Buffers) (told : read.Job n ≡ answerOf (readJob file)) where
+  pub fits-jobs : HoldsJobs old → Fits (readJob file) old
+  fits-jobs room = let a = answer-job (readJob file) n told in rw (a .is-read) (job-room file (a .job) old (a .is-read) room)
 
-  pub read-refused : (answer : Read) (refusal : Refusal) (out : Result) → answer ≡ read.Refused refusal → Delivers (readInto (readJob file) old) answer lengths kinds points distances
-      → outcome (color.Refused refusal) out ≡ colorFile file out
-  unfolding readInto colorFile colorReading
-  read-refused answer refusal out is d = go (readJob file) refl (rw is at d)
-    where
-      go : (reading : Reading) → readJob file ≡ reading → Delivers (readInto reading old) (read.Refused refusal) lengths kinds points distances
-          → outcome (color.Refused refusal) out ≡ colorReading reading out
-      go (reads job) e d =
-          let given = rw (job-room file job old e room) at d in
-          let no = given .answers in
-          let z : _≡_ {A = ℕ} 0 1 = cc in
-          absurd (omega arith)
-      go (refuses other) e d = let same : refusal ≡ other = (let a = d .answers in cc) in ap (λ (r : Refusal). outcome (color.Refused r) out) same
+  pub holding-of : (lengths kinds : List ℕ) (points distances : List Float) → Hold (filled (readJob file) old) lengths kinds points distances
+      → Holding file n old lengths kinds points distances
+  holding-of lengths kinds points distances h =
+      let a = answer-job (readJob file) n told in
+      record { job = a .job; is-read = a .is-read; numbers = a .numbers; holds = rw (a .is-read) at h }
+
+pub color-refused : (file : List ℕ) (refusal : Refusal) (out : Result) → read.Refused refusal ≡ answerOf (readJob file) → outcome (color.Refused refusal) out ≡ colorFile file out
+unfolding colorFile colorReading
+color-refused file refusal out told = rw (answer-refused (readJob file) refusal told)
 
 module _ {file : List ℕ} {n : JobNumbers} {old : Buffers} {lengths kinds : List ℕ} {points distances : List Float} (h : Holding file n old lengths kinds points distances) where
   -- the parts of the buffers that hold the job
@@ -219,12 +222,19 @@ module _ {file : List ℕ} {n : JobNumbers} {old : Buffers} {lengths kinds : Lis
         take-over (length (job .distances)) (job .distances) (old .distances) refl,
       )
 
-  pub held-colored : (threshold : Float) (out : Result) → threshold ≡ ofBits binary64 (n .threshold) → colorStored (n .strategy) (n .seed) threshold held out ≡ colorFile file out
+  -- and the outline in them
+  abbrev pub held-outline : Outline
+  held-outline = outlineOf held
+
+  pub held-is-outline : held-outline ≡ outlineOf (stored (h .job))
+  held-is-outline = ap outlineOf held-is
+
+  pub held-colored : (threshold : Float) (out : Result) → threshold ≡ thresholdOf (n .header) → colorStored (n .header .strategy) (n .header .seed) threshold held out ≡ colorFile file out
   unfolding colorFile colorReading
   held-colored threshold out e =
       let job = h .job in
       let so = job-sound file job (h .is-read) in
-      rw (held-is, e, h .numbers, so .threshold-back, h .is-read)
+      rw (held-is, e, h .numbers, h .is-read)
       (stored-colored job so (contours-few file job (h .is-read)) (edges-few file job (h .is-read)) out)
 
   -- and they lie within the buffers
@@ -246,44 +256,3 @@ module _ {file : List ℕ} {n : JobNumbers} {old : Buffers} {lengths kinds : Lis
   pub distances-within : n .distances ≤ length distances
   unfolding overEach stored
   distances-within = rw (h .numbers, h .holds .distances-are) (within (h .job .distances) (old .distances) refl)
-
--- ---- which files are accepted
-
--- the checks of a job do not give 11
-abbrev Early : Checked → Type 0
-Early Passed = Unit
-Early (Failed refusal) = eqb (refusalNumber refusal) 11 ≡ false
-
-checks-early : (job : Job) → Early (checkJob job)
-unfolding checkJob
-checks-early job = go (eqb (job .strategy) 1) (eqb (job .strategy) 2)
-  where
-    splines : ℕ
-    splines = splineTotal (laidIn job)
-
-    required : (b : Bool) (refusal : Refusal) (rest : Checked) → eqb (refusalNumber refusal) 11 ≡ false → Early rest → Early (require b refusal rest)
-    required true refusal rest h k = k
-    required false refusal rest h k = h
-
-    go : (a b : Bool) → Early (checkMarking (cond a (Colors Simple (job .seed)) (cond b (Colors InkTrap (job .seed)) (Distances (job .seed)))) splines (job .distances))
-    go true b = tt
-    go false true = tt
-    go false false =
-        required (leb splines maxSplines && leb (length (job .distances)) maxDistances) TooMany _ refl
-        (required (eqb (length (job .distances)) (splines * (splines - 1) / 2)) LengthMismatch _ refl
-        (required (distancesValid (job .distances)) BadDistance Passed refl tt))
-
-delivered-passed : (checked : Checked) (counts : Counts) (written old : Result) → Early checked → noOther (deliver checked counts written old .answer) ≡ isPassed checked
-unfolding deliver delivered
-delivered-passed (Failed refusal) counts written old h = h
-delivered-passed Passed counts written old h = go (fits written old)
-  where
-    go : (b : Bool) → noOther ((cond b (delivered counts written old) (outcome (color.Refused ResultTooShort) old)) .answer) ≡ true
-    go true = refl
-    go false = refl
-
-pub accepted-job : (file : List ℕ) (job : Job) (old : Result) (answer : Colored) (buffers : Result) → readJob file ≡ reads job → outcome answer buffers ≡ colorFile file old → noOther answer ≡ accepted file
-unfolding accepted acceptedReading colorFile colorReading colorJob
-accepted-job file job old answer buffers e same =
-    let here = rw e at same in
-    rw e (ap (λ (o : Outcome). noOther (o .answer)) here ∙ delivered-passed (checkJob job) _ _ old (checks-early job))

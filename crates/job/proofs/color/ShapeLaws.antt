@@ -1,10 +1,8 @@
 -- The coloured shape of a job: as many colours as edges, at most 64 contours and 508 edges, and each colour below 8.
 use mathlib.Core.Path.{_≡_, refl, sym, ap, _∙_}
-use mathlib.Core.Bool.{Bool, true, false, cond}
 use mathlib.Core.List.{List, [], _∷_, map, map-map, flatten}
 use Prim.Native.Nat.{ℕ, zero, suc, _≤_}
 use native.Mathlib.Omega.{arith}
-use lib.Dec.{eqb}
 use lib.Ieee.{Float}
 use lib.ListN.{length, length-map}
 use Rattle.geometry.specs.EdgeColor.{bitsOf, bits-below}
@@ -15,7 +13,7 @@ use Rattle.graph.specs.SplineColors.{colorSplines}
 use Rattle.coloring.specs.declared.settings.Strategy.{Strategy}
 use Rattle.coloring.specs.declared.settings.Strategy.the-variants.{Simple, InkTrap}
 use Rattle.coloring.specs.declared.settings.Marking.{Marking}
-use Rattle.coloring.specs.declared.settings.Marking.the-variants.{Colors, Distances}
+use Rattle.coloring.specs.declared.settings.Marking.the-variants.{Colors, Numbers, Distances}
 use Rattle.coloring.specs.Places.{total}
 use Rattle.coloring.specs.Switching.{initColor}
 use Rattle.coloring.specs.Corners.{Cornered, searchCorners, edgesIn, flagsIn}
@@ -24,10 +22,14 @@ use Rattle.coloring.specs.Splines.{splineTotal, paintContours}
 use Rattle.coloring.specs.Values.{shapeColors, splineColor, splineValues, middleValue}
 use Rattle.coloring.specs.Sizes.{sizes, flatten-length, flags-length, Flagged, search-flagged, laid-sizes, edges-most, Sized, encoded-sized, painted-sizes}
 use Rattle.coloring.specs.PaintLaws.{contours-map}
-use Rattle.job.specs.Job.{Job, reads, readJob}
+use Rattle.coloring.specs.Shape.{painted}
+use Rattle.job.specs.declared.records.Strategy as strategies
+use Rattle.job.specs.declared.records.Strategy.the-variants as by
+use Rattle.job.specs.Job.{thresholdOf, Job, reads, readJob}
 use Rattle.job.specs.Progress.{edgeCount}
-use Rattle.job.specs.Color.{laidIn, coloredEdges, edgeColors, colored}
+use Rattle.job.specs.Color.{byStrategy, laidIn, coloredEdges, edgeColors, colored}
 use Rattle.job.proofs.progress.ProgressLaws.{contours-few, edges-few}
+use Rattle.job.proofs.color.ColorLaws.{numbered}
 use Rattle.job.proofs.listing.ListingLaws.{AreColors, EachColors}
 
 -- ---- edges in
@@ -58,13 +60,14 @@ pub record ShapeOf (job : Job) : Type 0 where
   pub marked : sizes (edgeColors job) ≡ sizes (coloredEdges job)
   pub are-colors : EachColors (edgeColors job)
   pub sized : Sized (colored job) (length (coloredEdges job)) (length (flatten (coloredEdges job)))
+  pub numbers-sized : Sized (numbered job) (length (coloredEdges job)) (length (flatten (coloredEdges job)))
 
 module _ (job : Job) where
   abbrev found : List Cornered
-  found = map (searchCorners (job .threshold)) (job .contours)
+  found = map (searchCorners (thresholdOf (job .header))) (job .contours)
 
   found-flagged : Flagged found
-  found-flagged = search-flagged (job .threshold) (job .contours)
+  found-flagged = search-flagged (thresholdOf (job .header)) (job .contours)
 
   -- what the splines get are colours, and the middle run of a teardrop gets one
   painted-colors : (marking : Marking) (colors : List EdgeColor) → middleValue marking ≡ bitsOf White → splineValues marking (job .distances) (laidIn job) ≡ map bitsOf colors
@@ -73,49 +76,60 @@ module _ (job : Job) where
       rw (middle, values, ← contours-map bitsOf White colors (flagsIn (laidIn job))) (colors-each (λ (c : EdgeColor). c) (paintContours White colors (flagsIn (laidIn job))))
 
   colors-by : (strategy : Strategy)
-      → let marking = Colors strategy (job .seed) in
+      → let marking = Colors strategy (job .header .seed) in
       EachColors (paintContours (middleValue marking) (splineValues marking (job .distances) (laidIn job)) (flagsIn (laidIn job)))
   unfolding splineValues
-  colors-by strategy = painted-colors (Colors strategy (job .seed)) (shapeColors strategy (initColor (job .seed)) (laidIn job)) refl refl
+  colors-by strategy = painted-colors (Colors strategy (job .header .seed)) (shapeColors strategy (initColor (job .header .seed)) (laidIn job)) refl refl
 
-  colors-by-distance : let marking = Distances (job .seed) in
+  colors-by-distance : let marking = Distances (job .header .seed) in
       EachColors (paintContours (middleValue marking) (splineValues marking (job .distances) (laidIn job)) (flagsIn (laidIn job)))
   unfolding splineValues
   colors-by-distance =
-      let coloring = colorSplines (splineTotal (laidIn job)) (job .distances) (job .seed) in
-      painted-colors (Distances (job .seed)) (map splineColor coloring) refl (sym (map-map bitsOf splineColor coloring))
+      let coloring = colorSplines (splineTotal (laidIn job)) (job .distances) (job .header .seed) in
+      painted-colors (Distances (job .header .seed)) (map splineColor coloring) refl (sym (map-map bitsOf splineColor coloring))
 
   are-colors-all : EachColors (edgeColors job)
   unfolding edgeColors
-  are-colors-all = go (eqb (job .strategy) 1) (eqb (job .strategy) 2)
+  are-colors-all = go (job .header .strategy)
     where
-      go : (a b : Bool)
-          → let marking = cond a (Colors Simple (job .seed)) (cond b (Colors InkTrap (job .seed)) (Distances (job .seed))) in
+      seed : ℕ
+      seed = job .header .seed
+
+      go : (by : strategies.Strategy)
+          → let marking = byStrategy by (Colors Simple seed) (Colors InkTrap seed) (Distances seed) in
           EachColors (paintContours (middleValue marking) (splineValues marking (job .distances) (laidIn job)) (flagsIn (laidIn job)))
-      go true b = colors-by Simple
-      go false true = colors-by InkTrap
-      go false false = colors-by-distance
+      go by.Simple = colors-by Simple
+      go by.InkTrap = colors-by InkTrap
+      go by.ByDistance = colors-by-distance
 
   -- a byte for each edge
   bytes-each : sizes (edgeColors job) ≡ sizes (coloredEdges job)
   unfolding edgeColors coloredEdges laidIn
   bytes-each = painted-sizes found found-flagged _ _
 
+  -- and a number
+  abbrev edgeNumbers : List (List ℕ)
+  edgeNumbers = paintContours (middleValue Numbers) (splineValues Numbers [] (laidIn job)) (flagsIn (laidIn job))
+
+  numbers-each : sizes edgeNumbers ≡ sizes (coloredEdges job)
+  unfolding coloredEdges laidIn
+  numbers-each = painted-sizes found found-flagged _ _
+
   contours-kept : length (coloredEdges job) ≡ length (job .contours)
   unfolding coloredEdges laidIn
-  contours-kept = length-map (map layout found) _ ∙ length-map found layout ∙ length-map (job .contours) (searchCorners (job .threshold))
+  contours-kept = length-map (map layout found) _ ∙ length-map found layout ∙ length-map (job .contours) (searchCorners (thresholdOf (job .header)))
 
   module _ (file : List ℕ) (e : readJob file ≡ reads job) where
     out-few : length (flatten (coloredEdges job)) ≤ 508
     unfolding coloredEdges laidIn
     out-few =
-        let edges : total (sizes (flagsIn found)) ≡ edgeCount (job .contours) = ap total (flags-in (job .threshold) (job .contours)) ∙ sym (flatten-length (job .contours)) in
-        let contours : length (flagsIn found) ≡ length (job .contours) = length-map found _ ∙ length-map (job .contours) (searchCorners (job .threshold)) in
+        let edges : total (sizes (flagsIn found)) ≡ edgeCount (job .contours) = ap total (flags-in (thresholdOf (job .header)) (job .contours)) ∙ sym (flatten-length (job .contours)) in
+        let contours : length (flagsIn found) ≡ length (job .contours) = length-map found _ ∙ length-map (job .contours) (searchCorners (thresholdOf (job .header))) in
         let most = edges-most (flagsIn found) (omega (arith, contours, contours-few file job e)) (omega (arith, edges, edges-few file job e)) in
         omega (arith, flatten-length (edgesIn (map layout found)), ap total (laid-sizes found found-flagged), most)
 
     pub shape-of : ShapeOf job
-    unfolding colored
+    unfolding colored painted coloredEdges
     shape-of = record {
       contours-are = contours-kept;
       contours-fit = omega (arith, contours-kept, contours-few file job e);
@@ -123,4 +137,5 @@ module _ (job : Job) where
       marked = bytes-each;
       are-colors = are-colors-all;
       sized = encoded-sized (coloredEdges job) (edgeColors job) bytes-each;
+      numbers-sized = encoded-sized (coloredEdges job) edgeNumbers numbers-each;
     }

@@ -16,7 +16,7 @@ use Rattle.job.specs.Progress.{begin, advanced}
 use Rattle.job.specs.Color.{accepted}
 use Rattle.job.specs.Part.{sought, spanOf, seek, contourSpan, contourPlace, contourPart, Inside}
 use Rattle.job.proofs.records.ReadingLaws.{Read-as, records-end, records-fault}
-use Rattle.job.proofs.progress.ProgressLaws.{Reached, reached-begin, reached-next, records-ahead, place-after, further}
+use Rattle.job.proofs.progress.ProgressLaws.{Reached, reached-begin, reached-next, records-ahead, further}
 
 -- what was found lies before a place
 abbrev Before : Seek → ℕ → Type 0
@@ -52,18 +52,14 @@ unfolding contourSpan
 seeking-begin file number = record { at = reached-begin file; rest = refl; before = tt }
 
 module _ (file : List ℕ) (number : ℕ) (p : Progress) (q : Seek) (here : Seeking file number p q) where
-  pub seeking-next : (item : Item) → Read-as (readRecord (p .state) (drop (p .at) file)) item → Seeking file number (advanced p item) (sought q (p .at) item)
+  pub seeking-next : (item : Item) (size : ℕ) → Read-as (readRecord (p .state) (drop (p .at) file)) item size → Seeking file number (advanced p item size) (sought q (p .at) item)
   unfolding seek
-  seeking-next item read =
-      let moved = place-after p (read .r) in
-      rw (← read .is-item)
+  seeking-next item size read =
+      rw (← read .is-item, ← read .is-size)
       (record {
         at = reached-next file p (here .at) (read .r) (read .rest) (read .is-next);
-        rest =
-            ap (λ (n : ℕ). seek (sought q (p .at) (itemOf (read .r))) n (recordsFrom (advanced p (itemOf (read .r)) .state) (drop (advanced p (itemOf (read .r)) .at) file))) moved
-            ∙ sym (ap (seek q (p .at)) (records-ahead file p (here .at) (read .r) (read .rest) (read .is-next)))
-            ∙ here .rest;
-        before = before-next q (p .at) (advanced p (itemOf (read .r)) .at) (itemOf (read .r)) (omega (arith, further file p (here .at) (read .r) (read .rest) (read .is-next))) (here .before);
+        rest = sym (ap (seek q (p .at)) (records-ahead file p (here .at) (read .r) (read .rest) (read .is-next))) ∙ here .rest;
+        before = before-next q (p .at) _ (itemOf (read .r)) (omega (arith, further file p (here .at) (read .r) (read .rest) (read .is-next))) (here .before);
       })
 
   pub seeking-end : readRecord (p .state) (drop (p .at) file) ≡ ends → spanOf q (p .at) ≡ contourSpan file number

@@ -7,19 +7,19 @@ use native.Mathlib.Omega.{arith}
 use lib.Pow.{pow-mono, pow-add}
 use lib.ListN.{length, take, drop, getD, length-drop, length-map}
 use lib.Seq.{drop-drop, drop-cons, getD-drop}
-use borrow.Author.Tests.{le-ltb, leb-true}
+use borrow.Author.Tests.{le-ltb}
 use lib.Dec.{T}
 use lib.Ieee.{Float, binary64, isNan, nanBits, ofBits, toBits}
 use lib.Ieee.Bits.{nanBits-is, nanBits-above, toBits-ofBits}
 use Rattle.graph.specs.Lists.{all}
-use Rattle.job.specs.Patterns.{number, words, floats, isThreshold, signBit}
+use Rattle.job.specs.Patterns.{number, words, floats, floatBytes, signBit}
 
 -- ---- the number of some bytes
 
 abbrev pub AreBytes : List ℕ → Type 0
 AreBytes bytes = (i : ℕ) → getD bytes i 0 < 256
 
-number-below : (bytes : List ℕ) → AreBytes bytes → number bytes < 2 ^ (8 * length bytes)
+pub number-below : (bytes : List ℕ) → AreBytes bytes → number bytes < 2 ^ (8 * length bytes)
 unfolding number
 number-below [] h = omega arith
 number-below (b ∷ bytes) h =
@@ -40,6 +40,12 @@ number-at bytes i h = rw (drop-cons bytes i 0 h)
 
 no-nan-pattern : (b : ℕ) → b % 9223372036854775808 ≤ 9218868437227405312 → nanBits binary64 b ≡ false
 no-nan-pattern b h = nanBits-above binary64 b ∙ le-ltb _ _ h
+
+-- it comes back from its float
+pub pattern-back : (b : ℕ) → b < 2 ^ 64 → b % signBit ≤ 9218868437227405312 → toBits binary64 (ofBits binary64 b) ≡ b
+pattern-back b h low =
+    let no-nan : isNan (ofBits binary64 b) ≡ false = sym (nanBits-is binary64 b) ∙ no-nan-pattern b low in
+    toBits-ofBits binary64 b h (subst (λ (x : Bool). T (not x)) (sym no-nan) tt)
 
 -- ---- many numbers, one after another
 
@@ -66,16 +72,14 @@ pub all-stops : {A : Type 0} (test : A → Bool) (x : A) (xs rest : List A) → 
 unfolding all
 all-stops test x xs rest e h = rw (e, h)
 
--- a threshold's pattern comes back from its float
-pub threshold-back : (b : ℕ) → b < 2 ^ 64 → isThreshold b ≡ true → toBits binary64 (ofBits binary64 b) ≡ b
-threshold-back b h t =
-    let low = leb-true (b % signBit) 4607182418800017408 t in
-    let no-nan : isNan (ofBits binary64 b) ≡ false = sym (nanBits-is binary64 b) ∙ no-nan-pattern b (omega arith) in
-    toBits-ofBits binary64 b h (subst (λ (x : Bool). T (not x)) (sym no-nan) tt)
-
 pub floats-length : (n : ℕ) (bytes : List ℕ) → length (floats (words n bytes)) ≡ n
 unfolding floats
 floats-length n bytes = length-map (words n bytes) (ofBits binary64) ∙ words-length n bytes
+
+pub float-bytes-length : (xs : List Float) → length (floatBytes xs) ≡ 8 * length xs
+unfolding floatBytes
+float-bytes-length [] = refl
+float-bytes-length (x ∷ xs) = omega (arith, float-bytes-length xs)
 
 pub floats-at : (n i : ℕ) (bytes : List ℕ) (d : Float) → i < n → getD (floats (words n bytes)) i d ≡ ofBits binary64 (number (take 8 (drop (8 * i) bytes)))
 unfolding floats words

@@ -13,7 +13,7 @@ use lib.Ieee.Exact.{HasValue, odd-sign}
 use lib.Ieee.Fits.{down-pos}
 use lib.Ieee.Order.{transfer}
 use Rattle.job.specs.Patterns.{isThreshold, isCoordinate, isDistance}
-use borrow.Author.Tests.{lt-ltb, le-ltb, le-leb, lt-leb, eq-eqb, ne-eqb, leb-true, leb-false, ltb-false, eqb-true, eqb-false}
+use borrow.Author.Tests.{lt-ltb, le-ltb, le-leb, lt-leb, eq-eqb, ne-eqb, leb-true, leb-false, ltb-true, ltb-false, eqb-true, eqb-false}
 
 -- the size of a finite pattern with the exponent field x and the digits t, in units of the smallest number
 abbrev unitsOf : ℕ → ℕ → ℕ
@@ -265,6 +265,14 @@ no-distance s t = go s (eqb t 0)
 shifted : (n : ℕ) → eqb (9223372036854775808 + n) 9223372036854775808 ≡ eqb n 0
 shifted zero = refl
 shifted (suc n) = ne-eqb (9223372036854775808 + suc n) 9223372036854775808 (λ e. omega arith) ∙ sym (eqb·suc-zero n)
+
+-- a distance's pattern is one of 64 bits
+pub distance-below : (b : ℕ) → isDistance b ≡ true → b < 2 ^ 64
+distance-below b h = go (ltb b 9218868437227405312) refl h
+  where
+    go : (c : Bool) → ltb b 9218868437227405312 ≡ c → (c || eqb b 9223372036854775808) ≡ true → b < 2 ^ 64
+    go true e k = omega (arith, ltb-true b 9218868437227405312 e)
+    go false e k = omega (arith, eqb-true b 9223372036854775808 k)
 
 pub distance-means : (b : ℕ) → b < 2 ^ 64 → isDistance b ≡ NotBelow (ofBits binary64 b)
 unfolding ofBits not-below

@@ -4,26 +4,33 @@ use mathlib.Core.Bool.{Bool, true, false, _&&_}
 use mathlib.Core.List.{List, [], _∷_, _++_, append-nil, append-assoc, flatten}
 use Prim.Native.Nat.{ℕ, zero, suc, _+_, _*_, _-_, _<_, _≤_, _^_}
 use native.Mathlib.Omega.{arith}
-use lib.ListN.{length, drop, length-append, length-drop}
-use lib.Seq.{drop-drop}
+use lib.ListN.{length, take, drop, length-append, length-drop, take-append-drop}
+use lib.Seq.{drop-drop, take-add, take-at}
 use lib.Ieee as Ieee
-use lib.Ieee.{binary64, ofBits, toBits}
+use lib.Ieee.{ofBits}
 use borrow.Author.Tests.{ltb-true}
 use Rattle.math.specs.Scalar.{f1}
 use Rattle.geometry.specs.declared.edge_segment.EdgeSegment.{EdgeSegment}
 use Rattle.graph.specs.declared.refusal.Refusal.{Refusal}
 use Rattle.graph.specs.Bools.{and-left}
 use Rattle.graph.specs.Lists.{all}
+use Rattle.graph.specs.PairOrder.{distancesValid}
 use Rattle.coloring.specs.Outline.{between}
 use Rattle.job.specs.declared.records.Phase.{Phase}
 use Rattle.job.specs.declared.records.Phase.the-variants.{Start, Outside, Inside, Closing}
 use Rattle.job.specs.declared.records.State.{State}
+use Rattle.job.specs.declared.records.Item.{Item}
 use Rattle.job.specs.declared.progress.Progress.{Progress}
-use Rattle.job.specs.Records.{Record, header, contour, edge, distances, Step, next, ends, fails, atStart, kindOf, inside, among, closing, byDistance, allowed, fits, start, recordSize, itemOf, readRecord, after, _then_, recordsFrom}
-use Rattle.job.specs.Job.{Job, noJob, withEdge, enter, reads, refuses, jobFrom, readJob}
-use Rattle.job.specs.Progress.{edgeCount, begin, itemSize, advanced, numbersAt, numbersOf, Counts}
-use Rattle.job.proofs.records.RecordLaws.{controls-few}
-use Rattle.job.proofs.records.ReadingLaws.{recordMark, Held, edgeFits, InRange, end-size, Taken, taken, size-some, records-next, records-end, records-fault}
+use Rattle.job.specs.declared.progress.Numbers.{Numbers}
+use Rattle.job.specs.Records.{Record, header, contour, edge, distances, Step, next, ends, fails, atStart, kindOf, inside, among, closing, byDistance, recordMark, coordinates, bytesOf, fits, start, recordSize, itemOf, phaseAfter, counted, readRecord, after, _then_, recordsFrom}
+use Rattle.job.specs.Job.{Holdable, doubles, recordsOf, recordBytes, fileOf, thresholdOf, Job, noJob, withEdge, enter, reads, refuses, jobFrom, readJob}
+use Rattle.job.specs.Progress.{edgeCount, begin, advanced, numbersOf, Counts}
+use Rattle.job.proofs.progress.ReadyLaws.{Ready}
+use Rattle.job.proofs.progress.SoFarLaws.{bytes-more, soFar, so-far-next, so-far-end, asked-next, nothing-next, floats-doubles, edge-doubles}
+use Rattle.job.proofs.patterns.PatternLaws.{AreBytes}
+use Rattle.job.proofs.patterns.ByteLaws.{are-dropped}
+use Rattle.job.proofs.records.RecordLaws.{Allowed, controls-few, size-is, size-some}
+use Rattle.job.proofs.records.ReadingLaws.{Held, edgeFits, InRange, Read-as, end-is, end-may, end-size, Taken, taken, records-next, records-end, records-fault}
 
 -- ---- an edge more in the last contour
 
@@ -48,47 +55,27 @@ more-concat (c ∷ contours) = ap (λ (x : List EdgeSegment). c ++ x) (more-conc
 -- ---- the counts of a job
 
 abbrev progressAt : ℕ → Phase → Job → Progress
-progressAt at phase job = record {
-  at = at;
-  state = record { phase = phase; strategy = job .strategy; contours = length (job .contours); edges = edgeCount (job .contours) };
-  seed = job .seed;
-  threshold = toBits binary64 (job .threshold);
-  distances = length (job .distances);
-}
+progressAt at phase job = record { at = at; state = record { phase = phase; numbers = numbersOf job } }
 
-abbrev phaseAfter : Phase → Record → Phase
-phaseAfter phase (header strategy seed threshold) = Outside
-phaseAfter phase contour = Inside
-phaseAfter phase (edge e) = phase
-phaseAfter phase (distances ds) = Closing
-
--- an edge comes only where a contour is open
-abbrev pub Ready : Job → Record → Type 0
-Ready job (header strategy seed threshold) = Unit
-Ready job contour = Unit
-Ready job (edge e) = 0 < length (job .contours)
-Ready job (distances ds) = Unit
-
-progress-next : (at : ℕ) (phase : Phase) (job : Job) (r : Record) → Ready job r
-    → advanced (progressAt at phase job) (itemOf r) ≡ progressAt (at + recordSize r) (phaseAfter phase r) (enter job r)
-unfolding advanced enter flatten
-progress-next at phase job (header strategy seed threshold) ready = refl
-progress-next at phase job contour ready = rw (length-append (job .contours) ([] ∷ []), more-concat (job .contours))
-progress-next at phase job (edge e) ready =
+numbers-next : (job : Job) (r : Record) → Ready job r → counted (numbersOf job) (itemOf r) ≡ numbersOf (enter job r)
+unfolding enter flatten
+numbers-next job (header h) ready = refl
+numbers-next job contour ready = rw (length-append (job .contours) ([] ∷ []), more-concat (job .contours))
+numbers-next job (edge e) ready =
     rw (with-edge-length (job .contours) e, with-edge-concat (job .contours) e ready, length-append (flatten (job .contours)) (e ∷ []))
-progress-next at phase job (distances ds) ready = refl
+numbers-next job (distances ds) ready = refl
 
 -- ---- a job whose floats lie within their ranges
 
 pub record Sound (job : Job) : Type 0 where
-  pub threshold-fits : between (Ieee.neg f1) (job .threshold) f1 ≡ true
-  pub threshold-back : ofBits binary64 (toBits binary64 (job .threshold)) ≡ job .threshold
+  pub threshold-fits : between (Ieee.neg f1) (thresholdOf (job .header)) f1 ≡ true
   pub coordinates-fit : all edgeFits (flatten (job .contours)) ≡ true
   pub distances-few : length (job .distances) ≤ 2016
+  pub distances-valid : distancesValid (job .distances) ≡ true
 
 sound-begin : Sound noJob
-unfolding flatten all toBits ofBits Ieee.neg Ieee.le
-sound-begin = record { threshold-fits = refl; threshold-back = refl; coordinates-fit = refl; distances-few = omega arith }
+unfolding flatten all ofBits Ieee.neg Ieee.le
+sound-begin = record { threshold-fits = refl; coordinates-fit = refl; distances-few = omega arith; distances-valid = refl }
 
 all-snoc : {A : Type 0} (test : A → Bool) (xs : List A) (x : A) → all test xs ≡ true → test x ≡ true → all test (xs ++ (x ∷ [])) ≡ true
 unfolding all
@@ -101,19 +88,39 @@ all-snoc test (y ∷ xs) x h k = go (test y) h (λ e. all-snoc test xs x e k)
 
 sound-next : (job : Job) (r : Record) (bytes : List ℕ) → Ready job r → Held r bytes → InRange r → Sound job → Sound (enter job r)
 unfolding enter
-sound-next job (header strategy seed threshold) bytes is-ready held fits so =
-    record { threshold-fits = fits .0; threshold-back = fits .1; coordinates-fit = so .coordinates-fit; distances-few = so .distances-few }
+sound-next job (header h) bytes is-ready held fits so =
+    record { threshold-fits = fits; coordinates-fit = so .coordinates-fit; distances-few = so .distances-few; distances-valid = so .distances-valid }
 sound-next job contour bytes is-ready held fits so =
-    record { threshold-fits = so .threshold-fits; threshold-back = so .threshold-back; coordinates-fit = rw (more-concat (job .contours)) (so .coordinates-fit); distances-few = so .distances-few }
+    record { threshold-fits = so .threshold-fits; coordinates-fit = rw (more-concat (job .contours)) (so .coordinates-fit); distances-few = so .distances-few; distances-valid = so .distances-valid }
 sound-next job (edge e) bytes is-ready held fits so =
     record {
       threshold-fits = so .threshold-fits;
-      threshold-back = so .threshold-back;
       coordinates-fit = rw (with-edge-concat (job .contours) e is-ready) (all-snoc edgeFits (flatten (job .contours)) e (so .coordinates-fit) fits);
       distances-few = so .distances-few;
+      distances-valid = so .distances-valid;
     }
 sound-next job (distances ds) bytes is-ready held fits so =
-    record { threshold-fits = so .threshold-fits; threshold-back = so .threshold-back; coordinates-fit = so .coordinates-fit; distances-few = held .0 }
+    record { threshold-fits = so .threshold-fits; coordinates-fit = so .coordinates-fit; distances-few = held .0; distances-valid = fits }
+
+-- ---- a job that a file can hold
+
+holdable-next : (job : Job) (r : Record) (bytes : List ℕ) → Ready job r → Held r bytes → AreBytes bytes → Holdable job → Holdable (enter job r)
+unfolding enter
+holdable-next job (header h) bytes is-ready held are so =
+    record { seed = held are .0; threshold = held are .1; coordinates-are = so .coordinates-are; distances-are = so .distances-are }
+holdable-next job contour bytes is-ready held are so =
+    record { seed = so .seed; threshold = so .threshold; coordinates-are = rw (more-concat (job .contours)) (so .coordinates-are); distances-are = so .distances-are }
+holdable-next job (edge e) bytes is-ready held are so =
+    record {
+      seed = so .seed;
+      threshold = so .threshold;
+      coordinates-are = rw (with-edge-concat (job .contours) e is-ready)
+          (all-snoc (λ (x : EdgeSegment). doubles (coordinates x)) (flatten (job .contours)) e (so .coordinates-are)
+          (ap (λ (x : EdgeSegment). doubles (coordinates x)) held ∙ edge-doubles (kindOf e) _));
+      distances-are = so .distances-are;
+    }
+holdable-next job (distances ds) bytes is-ready held are so =
+    record { seed = so .seed; threshold = so .threshold; coordinates-are = so .coordinates-are; distances-are = ap doubles (held .1) ∙ floats-doubles _ }
 
 -- ---- a place that reading reaches
 
@@ -126,7 +133,7 @@ besides Closing = 19 + (4 + 8 * 2016)
 
 pub record Reached (file : List ℕ) (p : Progress) : Type 0 where
   pub job : Job
-  pub counted : p ≡ progressAt (p .at) (p .state .phase) job
+  pub numbers-are : p .state .numbers ≡ numbersOf job
   pub within : p .at ≤ length file
   pub rest : jobFrom job (recordsFrom (p .state) (drop (p .at) file)) ≡ readJob file
   pub opened : inside (p .state .phase) ≡ true → 0 < length (job .contours)
@@ -135,12 +142,17 @@ pub record Reached (file : List ℕ) (p : Progress) : Type 0 where
   pub contours-fit : length (job .contours) ≤ 64
   pub edges-fit : edgeCount (job .contours) ≤ 256
   pub sound : Sound job
+  pub nothing-yet : atStart (p .state .phase) ≡ true → job .contours ≡ []
+  pub asked : closing (p .state .phase) ≡ true → byDistance (job .header .strategy) ≡ true
+  pub placed : p .at ≡ length (recordBytes (soFar (p .state .phase) job))
+  pub passed : AreBytes file → take (p .at) file ≡ recordBytes (soFar (p .state .phase) job)
+  pub holdable : AreBytes file → Holdable job
 
 pub reached-begin : (file : List ℕ) → Reached file begin
-unfolding readJob flatten toBits ofBits
+unfolding readJob flatten recordBytes all
 reached-begin file = record {
   job = noJob;
-  counted = refl;
+  numbers-are = refl;
   within = omega arith;
   rest = refl;
   opened = λ h. let z : _≡_ {A = ℕ} 0 1 = cc in absurd (omega arith);
@@ -149,42 +161,26 @@ reached-begin file = record {
   contours-fit = omega arith;
   edges-fit = omega arith;
   sound = sound-begin;
+  nothing-yet = λ h. refl;
+  asked = λ h. let z : _≡_ {A = ℕ} 0 1 = cc in absurd (omega arith);
+  placed = refl;
+  passed = λ are. refl;
+  holdable = λ are. record { seed = omega arith; threshold = omega arith; coordinates-are = refl; distances-are = refl };
 }
 
 pub begin-job : (file : List ℕ) → reached-begin file .job ≡ noJob
 unfolding reached-begin
 begin-job file = refl
 
--- what one record more changes
-pub state-after : (p : Progress) (r : Record) → advanced p (itemOf r) .state ≡ after (p .state) r
-unfolding advanced
-state-after p (header strategy seed threshold) = refl
-state-after p contour = refl
-state-after p (edge e) = refl
-state-after p (distances ds) = refl
-
-pub place-after : (p : Progress) (r : Record) → advanced p (itemOf r) .at ≡ p .at + recordSize r
-unfolding advanced
-place-after p (header strategy seed threshold) = refl
-place-after p contour = refl
-place-after p (edge e) = refl
-place-after p (distances ds) = refl
-
-size-is : (r : Record) → recordSize r ≡ itemSize (itemOf r)
-size-is (header strategy seed threshold) = refl
-size-is contour = refl
-size-is (edge e) = refl
-size-is (distances ds) = refl
-
-ready : (job : Job) (s : State) (r : Record) → allowed s (recordMark r) ≡ true → (inside (s .phase) ≡ true → 0 < length (job .contours)) → Ready job r
-ready job s (header strategy seed threshold) may opened = tt
+ready : (job : Job) (s : State) (r : Record) → Allowed s (recordMark r) → (inside (s .phase) ≡ true → 0 < length (job .contours)) → Ready job r
+ready job s (header h) may opened = tt
 ready job s contour may opened = tt
 ready job s (edge e) may opened = opened may
 ready job s (distances ds) may opened = tt
 
-opened-after : (job : Job) (s : State) (r : Record) → Ready job r → inside (after s r .phase) ≡ true → 0 < length (enter job r .contours)
+opened-after : (job : Job) (s : State) (r : Record) → Ready job r → inside (phaseAfter (s .phase) (itemOf r)) ≡ true → 0 < length (enter job r .contours)
 unfolding enter
-opened-after job s (header strategy seed threshold) is-ready h = let z : _≡_ {A = ℕ} 0 1 = cc in absurd (omega arith)
+opened-after job s (header x) is-ready h = let z : _≡_ {A = ℕ} 0 1 = cc in absurd (omega arith)
 opened-after job s contour is-ready h = rw (length-append (job .contours) ([] ∷ [])) (omega arith)
 opened-after job s (edge e) is-ready h = rw (with-edge-length (job .contours) e) is-ready
 opened-after job s (distances ds) is-ready h = let z : _≡_ {A = ℕ} 0 1 = cc in absurd (omega arith)
@@ -208,40 +204,40 @@ in-contour Inside h = refl
 in-contour Closing h = cc
 
 -- no record comes after the distances
-pub not-closing : (s : State) (r : Record) → allowed s (recordMark r) ≡ true → closing (s .phase) ≡ false
-not-closing s (header strategy seed threshold) h = at-start (s .phase) h
+pub not-closing : (s : State) (r : Record) → Allowed s (recordMark r) → closing (s .phase) ≡ false
+not-closing s (header x) h = at-start (s .phase) h
 not-closing s contour h = among-contours (s .phase) h
 not-closing s (edge e) h = in-contour (s .phase) h
-not-closing s (distances ds) h = among-contours (s .phase) (and-left (among (s .phase)) (byDistance (s .strategy)) h)
+not-closing s (distances ds) h = among-contours (s .phase) (and-left (among (s .phase)) (byDistance (s .numbers .header .strategy)) h)
 
-none-after : (job : Job) (s : State) (r : Record) → allowed s (recordMark r) ≡ true → (closing (s .phase) ≡ false → job .distances ≡ [])
-    → closing (after s r .phase) ≡ false → enter job r .distances ≡ []
+none-after : (job : Job) (s : State) (r : Record) → Allowed s (recordMark r) → (closing (s .phase) ≡ false → job .distances ≡ [])
+    → closing (phaseAfter (s .phase) (itemOf r)) ≡ false → enter job r .distances ≡ []
 unfolding enter
-none-after job s (header strategy seed threshold) may none h = none (not-closing s (header strategy seed threshold) may)
+none-after job s (header x) may none h = none (not-closing s (header x) may)
 none-after job s contour may none h = none (not-closing s contour may)
 none-after job s (edge e) may none h = none h
 none-after job s (distances ds) may none h = cc
 
-contours-after : (job : Job) (s : State) (r : Record) → s .contours ≡ length (job .contours) → fits s (recordMark r) ≡ true → length (job .contours) ≤ 64 → length (enter job r .contours) ≤ 64
+contours-after : (job : Job) (s : State) (r : Record) → s .numbers .contours ≡ length (job .contours) → fits (s .numbers) (recordMark r) ≡ true → length (job .contours) ≤ 64 → length (enter job r .contours) ≤ 64
 unfolding enter
-contours-after job s (header strategy seed threshold) e h few = few
-contours-after job s contour e h few = rw (length-append (job .contours) ([] ∷ [])) (omega (arith, ltb-true (s .contours) 64 h))
+contours-after job s (header x) e h few = few
+contours-after job s contour e h few = rw (length-append (job .contours) ([] ∷ [])) (omega (arith, ltb-true (s .numbers .contours) 64 h))
 contours-after job s (edge x) e h few = rw (with-edge-length (job .contours) x) few
 contours-after job s (distances ds) e h few = few
 
-edges-after : (job : Job) (s : State) (r : Record) → Ready job r → s .edges ≡ edgeCount (job .contours) → fits s (recordMark r) ≡ true → edgeCount (job .contours) ≤ 256 → edgeCount (enter job r .contours) ≤ 256
+edges-after : (job : Job) (s : State) (r : Record) → Ready job r → s .numbers .edges ≡ edgeCount (job .contours) → fits (s .numbers) (recordMark r) ≡ true → edgeCount (job .contours) ≤ 256 → edgeCount (enter job r .contours) ≤ 256
 unfolding enter flatten
-edges-after job s (header strategy seed threshold) is-ready e h few = few
+edges-after job s (header x) is-ready e h few = few
 edges-after job s contour is-ready e h few = rw (more-concat (job .contours)) few
 edges-after job s (edge x) is-ready e h few =
-    rw (with-edge-concat (job .contours) x is-ready, length-append (flatten (job .contours)) (x ∷ [])) (omega (arith, ltb-true (s .edges) 256 h))
+    rw (with-edge-concat (job .contours) x is-ready, length-append (flatten (job .contours)) (x ∷ [])) (omega (arith, ltb-true (s .numbers .edges) 256 h))
 edges-after job s (distances ds) is-ready e h few = few
 
 record-few : (bytes : List ℕ) (r : Record) → Held r bytes → recordSize r ≤ 4 + 8 * 2016
-record-few bytes (header strategy seed threshold) h = omega arith
-record-few bytes contour h = omega arith
-record-few bytes (edge e) h = omega (arith, controls-few (kindOf e))
-record-few bytes (distances ds) h = omega (arith, h .0)
+record-few bytes (header h) k = omega (arith, size-is (header h))
+record-few bytes contour k = omega (arith, size-is contour)
+record-few bytes (edge e) k = omega (arith, size-is (edge e), controls-few (kindOf e))
+record-few bytes (distances ds) k = omega (arith, size-is (distances ds), k .0)
 
 among-besides : (phase : Phase) → among phase ≡ true → besides phase ≡ 19
 among-besides Start h = cc
@@ -249,21 +245,21 @@ among-besides Outside h = refl
 among-besides Inside h = refl
 among-besides Closing h = cc
 
-size-after : (job : Job) (s : State) (at : ℕ) (r : Record) → Ready job r → allowed s (recordMark r) ≡ true → recordSize r ≤ 4 + 8 * 2016
+size-after : (job : Job) (s : State) (at : ℕ) (r : Record) → Ready job r → Allowed s (recordMark r) → recordSize r ≤ 4 + 8 * 2016
     → at ≤ besides (s .phase) + 2 * length (job .contours) + 66 * edgeCount (job .contours)
-    → at + recordSize r ≤ besides (after s r .phase) + 2 * length (enter job r .contours) + 66 * edgeCount (enter job r .contours)
+    → at + recordSize r ≤ besides (phaseAfter (s .phase) (itemOf r)) + 2 * length (enter job r .contours) + 66 * edgeCount (enter job r .contours)
 unfolding enter flatten
-size-after job s at (header strategy seed threshold) is-ready may few h = omega (arith, start (s .phase) may)
+size-after job s at (header x) is-ready may few h = omega (arith, size-is (header x), start (s .phase) may)
   where
     start : (phase : Phase) → atStart phase ≡ true → besides phase ≡ 0
     start Start h = refl
     start Outside h = cc
     start Inside h = cc
     start Closing h = cc
-size-after job s at contour is-ready may few h = rw (length-append (job .contours) ([] ∷ []), more-concat (job .contours)) (omega (arith, among-besides (s .phase) may))
+size-after job s at contour is-ready may few h = rw (length-append (job .contours) ([] ∷ []), more-concat (job .contours)) (omega (arith, size-is contour, among-besides (s .phase) may))
 size-after job s at (edge e) is-ready may few h =
-    rw (with-edge-length (job .contours) e, with-edge-concat (job .contours) e is-ready, length-append (flatten (job .contours)) (e ∷ [])) (omega (arith, controls-few (kindOf e)))
-size-after job s at (distances ds) is-ready may few h = omega (arith, among-besides (s .phase) (and-left (among (s .phase)) (byDistance (s .strategy)) may))
+    rw (with-edge-length (job .contours) e, with-edge-concat (job .contours) e is-ready, length-append (flatten (job .contours)) (e ∷ [])) (omega (arith, size-is (edge e), controls-few (kindOf e)))
+size-after job s at (distances ds) is-ready may few h = omega (arith, among-besides (s .phase) (and-left (among (s .phase)) (byDistance (s .numbers .header .strategy)) may))
 
 -- a record, read at such a place
 module _ (file : List ℕ) (p : Progress) (at : Reached file p) (r : Record) (rest : List ℕ) (e : readRecord (p .state) (drop (p .at) file) ≡ next r rest) where
@@ -273,58 +269,85 @@ module _ (file : List ℕ) (p : Progress) (at : Reached file p) (r : Record) (re
   pub is-ready : Ready (at .job) r
   is-ready = ready (at .job) (p .state) r (record-taken .may) (at .opened)
 
-  pub contours-are : p .state .contours ≡ length (at .job .contours)
-  contours-are = ap (λ (q : Progress). q .state .contours) (at .counted)
+  pub contours-are : p .state .numbers .contours ≡ length (at .job .contours)
+  contours-are = ap (λ (n : Numbers). n .contours) (at .numbers-are)
 
-  pub edges-are : p .state .edges ≡ edgeCount (at .job .contours)
-  edges-are = ap (λ (q : Progress). q .state .edges) (at .counted)
+  pub edges-are : p .state .numbers .edges ≡ edgeCount (at .job .contours)
+  edges-are = ap (λ (n : Numbers). n .edges) (at .numbers-are)
 
   fits-in : p .at + recordSize r ≤ length file
   fits-in = omega (arith, record-taken .whole, length-drop (p .at) file, at .within)
 
-  pub counts : length file < 2 ^ 64 → Counts p (itemOf r)
+  pub counts : length file < 2 ^ 64 → Counts p (recordSize r)
   counts h = record {
-    place = omega (arith, fits-in, size-is r);
+    place = omega (arith, fits-in);
     contours = omega (arith, contours-are, at .contours-fit);
     edges = omega (arith, edges-are, at .edges-fit);
   }
 
-  pub further : p .at < advanced p (itemOf r) .at
-  further = rw (place-after p r) (omega (arith, size-some r))
+  pub further : p .at < p .at + recordSize r
+  further = omega (arith, size-some r)
 
-  same-counts : advanced p (itemOf r) ≡ progressAt (p .at + recordSize r) (phaseAfter (p .state .phase) r) (enter (at .job) r)
-  same-counts = ap (λ (q : Progress). advanced q (itemOf r)) (at .counted) ∙ progress-next (p .at) (p .state .phase) (at .job) r is-ready
-
-  pub ahead : jobFrom (enter (at .job) r) (recordsFrom (after (p .state) r) (drop (p .at + recordSize r) file)) ≡ readJob file
+  pub ahead : jobFrom (enter (at .job) r) (recordsFrom (after (p .state) (itemOf r)) (drop (p .at + recordSize r) file)) ≡ readJob file
   unfolding jobFrom
   ahead =
       let beyond : rest ≡ drop (p .at + recordSize r) file = record-taken .beyond ∙ drop-drop (recordSize r) (p .at) file in
-      subst (λ (x : List ℕ). jobFrom (enter (at .job) r) (recordsFrom (after (p .state) r) x) ≡ readJob file) beyond
+      subst (λ (x : List ℕ). jobFrom (enter (at .job) r) (recordsFrom (after (p .state) (itemOf r)) x) ≡ readJob file) beyond
       (sym (ap (jobFrom (at .job)) (records-next (p .state) (drop (p .at) file) r rest e)) ∙ at .rest)
 
+  -- the place after it
+  abbrev pub onward : Progress
+  onward = advanced p (itemOf r) (recordSize r)
+
   -- the records from here are this one and those from the next place
-  pub records-ahead : recordsFrom (p .state) (drop (p .at) file) ≡ r then recordsFrom (advanced p (itemOf r) .state) (drop (advanced p (itemOf r) .at) file)
+  pub records-ahead : recordsFrom (p .state) (drop (p .at) file) ≡ r then recordsFrom (onward .state) (drop (onward .at) file)
   records-ahead =
       let beyond : rest ≡ drop (p .at + recordSize r) file = record-taken .beyond ∙ drop-drop (recordSize r) (p .at) file in
-      records-next (p .state) (drop (p .at) file) r rest e ∙ rw (place-after p r, state-after p r, beyond)
+      records-next (p .state) (drop (p .at) file) r rest e ∙ rw beyond
 
-  pub reached-next : Reached file (advanced p (itemOf r))
+  strategy-is : p .state .numbers .header .strategy ≡ at .job .header .strategy
+  strategy-is = ap (λ (n : Numbers). n .header .strategy) (at .numbers-are)
+
+  further-records : soFar (phaseAfter (p .state .phase) (itemOf r)) (enter (at .job) r) ≡ soFar (p .state .phase) (at .job) ++ (r ∷ [])
+  further-records = so-far-next (at .job) (p .state .phase) _ r (record-taken .may) is-ready (at .nothing-yet)
+
+  -- what is taken off is the bytes of the record
+  here-bytes : AreBytes file → take (recordSize r) (drop (p .at) file) ≡ bytesOf r
+  here-bytes are = ap (take (recordSize r)) (record-taken .is-bytes (are-dropped (p .at) file are)) ∙ take-at (bytesOf r) rest (recordSize r) refl
+
+  pub reached-next : Reached file onward
   reached-next = record {
     job = enter (at .job) r;
-    counted = same-counts ∙ sym (ap (λ (q : Progress). progressAt (q .at) (q .state .phase) (enter (at .job) r)) same-counts);
-    within = rw (place-after p r) fits-in;
-    rest = rw (place-after p r, state-after p r) ahead;
-    opened = rw (state-after p r) (opened-after (at .job) (p .state) r is-ready);
-    none-yet = rw (state-after p r) (none-after (at .job) (p .state) r (record-taken .may) (at .none-yet));
-    sized = rw (place-after p r, state-after p r) (size-after (at .job) (p .state) (p .at) r is-ready (record-taken .may) (record-few (drop (p .at) file) r (record-taken .held)) (at .sized));
+    numbers-are = ap (λ (n : Numbers). counted n (itemOf r)) (at .numbers-are) ∙ numbers-next (at .job) r is-ready;
+    within = fits-in;
+    rest = ahead;
+    opened = opened-after (at .job) (p .state) r is-ready;
+    none-yet = none-after (at .job) (p .state) r (record-taken .may) (at .none-yet);
+    sized = size-after (at .job) (p .state) (p .at) r is-ready (record-taken .may) (record-few (drop (p .at) file) r (record-taken .held)) (at .sized);
     contours-fit = contours-after (at .job) (p .state) r contours-are (record-taken .room) (at .contours-fit);
     edges-fit = edges-after (at .job) (p .state) r is-ready edges-are (record-taken .room) (at .edges-fit);
     sound = sound-next (at .job) r (drop (p .at) file) is-ready (record-taken .held) (record-taken .in-range) (at .sound);
+    nothing-yet = nothing-next (p .state .phase) _ r _ (record-taken .may);
+    asked = asked-next (at .job) (p .state .phase) _ r strategy-is (record-taken .may) (at .asked);
+    placed = rw (further-records, bytes-more (soFar (p .state .phase) (at .job)) r, length-append) (ap (λ (n : ℕ). n + recordSize r) (at .placed));
+    passed = λ are. take-add (p .at) (recordSize r) file ∙ rw (further-records, bytes-more (soFar (p .state .phase) (at .job)) r, at .passed are, here-bytes are);
+    holdable = λ are. holdable-next (at .job) r (drop (p .at) file) is-ready (record-taken .held) (are-dropped (p .at) file are) (at .holdable are);
   }
 
   pub next-job : reached-next .job ≡ enter (at .job) r
   unfolding reached-next
   next-job = refl
+
+-- the same from what the code finds
+module _ (file : List ℕ) (p : Progress) (at : Reached file p) {item : Item} {size : ℕ} (read : Read-as (readRecord (p .state) (drop (p .at) file)) item size) where
+  pub counts-on : length file < 2 ^ 64 → Counts p size
+  counts-on h = rw (← read .is-size) (counts file p at (read .r) (read .rest) (read .is-next) h)
+
+  pub reached-on : Reached file (advanced p item size)
+  reached-on = rw (← read .is-item, ← read .is-size) (reached-next file p at (read .r) (read .rest) (read .is-next))
+
+  pub less-on : length file - (p .at + size) < length file - p .at
+  less-on = omega (arith, further file p at (read .r) (read .rest) (read .is-next), reached-next file p at (read .r) (read .rest) (read .is-next) .within, read .is-size)
 
 -- the end of the file, and a fault
 pub reached-end : (file : List ℕ) (p : Progress) (at : Reached file p) → readRecord (p .state) (drop (p .at) file) ≡ ends → reads (at .job) ≡ readJob file
@@ -334,9 +357,6 @@ reached-end file p at e = sym (ap (jobFrom (at .job)) (records-end (p .state) (d
 pub reached-fault : (file : List ℕ) (p : Progress) (at : Reached file p) (refusal : Refusal) → readRecord (p .state) (drop (p .at) file) ≡ fails refusal → refuses refusal ≡ readJob file
 unfolding jobFrom
 reached-fault file p at refusal e = sym (ap (jobFrom (at .job)) (records-fault (p .state) (drop (p .at) file) refusal e)) ∙ at .rest
-
-pub numbers-are : (file : List ℕ) (p : Progress) (at : Reached file p) → numbersAt p ≡ numbersOf (at .job)
-numbers-are file p at = ap numbersAt (at .counted)
 
 -- ---- a file that is read is read to its end
 
@@ -364,7 +384,7 @@ ends-within zero file job p at h e =
     (readRecord (p .state) (drop (p .at) file)) refl
 ends-within (suc n) file job p at h e =
     ends-here file job p at e
-    (λ r rest f. ends-within n file job (advanced p (itemOf r)) (reached-next file p at r rest f) (omega (arith, further file p at r rest f, reached-next file p at r rest f .within)) e)
+    (λ r rest f. ends-within n file job (onward file p at r rest f) (reached-next file p at r rest f) (omega (arith, further file p at r rest f, reached-next file p at r rest f .within)) e)
     (readRecord (p .state) (drop (p .at) file)) refl
 
 ends-at : (file : List ℕ) (job : Job) → readJob file ≡ reads job → Ends-at file job
@@ -392,3 +412,22 @@ bytes-few file job e =
     most Outside = omega arith
     most Inside = omega arith
     most Closing = omega arith
+
+-- ---- a file that is read is the file of its job, which it can hold
+
+pub job-holdable : (file : List ℕ) (job : Job) → AreBytes file → readJob file ≡ reads job → Holdable job
+job-holdable file job are e = let end = ends-at file job e in subst Holdable (end .is-job) (end .at .holdable are)
+
+pub file-of-job : (file : List ℕ) (job : Job) → AreBytes file → readJob file ≡ reads job → file ≡ fileOf job
+unfolding fileOf
+file-of-job file job are e =
+    let end = ends-at file job e in
+    let p = end .p in
+    let at = end .at in
+    let last = end-is (p .state) (drop (p .at) file) (end .at-end) in
+    let by : p .state .numbers .header .strategy ≡ at .job .header .strategy = ap (λ (n : Numbers). n .header .strategy) (at .numbers-are) in
+    let all : soFar (p .state .phase) (at .job) ≡ recordsOf (at .job) = so-far-end (at .job) (p .state .phase) (rw by at (end-may (p .state) (drop (p .at) file) (end .at-end))) (at .asked) in
+    sym (take-append-drop (p .at) file)
+    ∙ ap (λ (x : List ℕ). x ++ drop (p .at) file) (at .passed are ∙ ap recordBytes all)
+    ∙ ap (λ (x : List ℕ). recordBytes (recordsOf (at .job)) ++ x) last
+    ∙ ap fileOf (end .is-job)

@@ -17,13 +17,15 @@ use Rattle.job.specs.declared.records.State.{State}
 use Rattle.job.specs.declared.records.Item.{Item}
 use Rattle.job.specs.declared.progress.Progress.{Progress}
 use Rattle.job.specs.Patterns.{words, floats}
-use Rattle.job.specs.Records.{Record, header, contour, edge, distances, Step, next, ends, fails, controls, kindOf, edgeOf, itemOf, allowed, closing, recordSize, readRecord, after, Records, complete, fault, _then_, recordsFrom}
+use Rattle.job.specs.Records.{Record, header, contour, edge, distances, Step, next, ends, fails, controls, kindOf, edgeOf, itemOf, closing, recordMark, recordSize, readRecord, after, Records, complete, fault, _then_, recordsFrom}
 use Rattle.job.specs.Job.{Job, withEdge, enter, Reading, reads, refuses, jobFrom, readJob}
 use Rattle.job.specs.Progress.{edgeCount, numbersOf, begin, advanced}
 use Rattle.job.specs.Reader.{Fits, filled}
 use Rattle.job.specs.Buffers.{Buffers, buffers, kindsOf, placesOf, kindNumber, placesFrom, stored, overEach, written, roomFor, hasRoom, Hold, Room}
-use Rattle.job.proofs.records.ReadingLaws.{recordMark, Taken, taken, Read-as, records-end, records-fault}
-use Rattle.job.proofs.progress.ProgressLaws.{Reached, reached-begin, begin-job, reached-next, next-job, reached-end, reached-fault, Ready, with-edge-length, with-edge-concat, more-concat, not-closing, record-taken, is-ready, contours-are, edges-are, ahead}
+use Rattle.job.proofs.records.RecordLaws.{Allowed, size-is}
+use Rattle.job.proofs.records.ReadingLaws.{Taken, taken, Read-as, records-end, records-fault}
+use Rattle.job.proofs.progress.ReadyLaws.{Ready}
+use Rattle.job.proofs.progress.ProgressLaws.{Reached, reached-begin, begin-job, reached-next, next-job, reached-end, reached-fault, with-edge-length, with-edge-concat, more-concat, not-closing, record-taken, is-ready, contours-are, edges-are, ahead}
 use Rattle.job.proofs.buffers.BufferLaws.{over-more, over-length, over-set, over-getD, over-part}
 use Rattle.job.proofs.buffers.StoredLaws.{map-snoc, lengths-edge, last-few, kind-number, kinds-edge, places-edge, kinds-length}
 
@@ -31,7 +33,7 @@ use Rattle.job.proofs.buffers.StoredLaws.{map-snoc, lengths-edge, last-
 
 enter-grows : (job : Job) (r : Record) → (length (job .contours) ≤ length (enter job r .contours)) × (edgeCount (job .contours) ≤ edgeCount (enter job r .contours))
 unfolding enter withEdge flatten
-enter-grows job (header strategy seed threshold) = (omega arith, omega arith)
+enter-grows job (header h) = (omega arith, omega arith)
 enter-grows job contour = (omega (arith, length-append (job .contours) ([] ∷ [])), omega (arith, ap length (more-concat (job .contours))))
 enter-grows job (edge e) = (omega (arith, with-edge-length (job .contours) e), more (job .contours))
   where
@@ -115,7 +117,8 @@ same : {l l' k k' : List ℕ} {p p' d d' : List Float} → l ≡ l' → k ≡ k'
 same {l' = l'} {k = k} {k' = k'} {p = p} {p' = p'} {d = d} a b c e =
     ap (λ (x : List ℕ). buffers x k p d) a ∙ ap (λ (x : List ℕ). buffers l' x p d) b ∙ ap (λ (x : List Float). buffers l' k' x d) c ∙ ap (λ (x : List Float). buffers l' k' p' x) e
 
-module _ (job : Job) (old : Buffers) (s : State) (bytes : List ℕ) (contours-at : s .contours ≡ length (job .contours)) (edges-at : s .edges ≡ edgeCount (job .contours)) where
+module _ (job : Job) (old : Buffers) (s : State) (bytes : List ℕ)
+    (contours-at : s .numbers .contours ≡ length (job .contours)) (edges-at : s .numbers .edges ≡ edgeCount (job .contours)) where
   abbrev contours : List (List EdgeSegment)
   contours = job .contours
 
@@ -125,11 +128,11 @@ module _ (job : Job) (old : Buffers) (s : State) (bytes : List ℕ) (contours-at
   count : length (sizes contours) ≡ length contours
   count = length-map contours (λ (c : List EdgeSegment). length c)
 
-  written-contour : Fitting (stored (enter job contour)) old → written (itemOf contour) s bytes (overEach (stored job) old) ≡ overEach (stored (enter job contour)) old
+  written-contour : Fitting (stored (enter job contour)) old → written (itemOf contour) (s .numbers) bytes (overEach (stored job) old) ≡ overEach (stored (enter job contour)) old
   unfolding written overEach stored enter
   written-contour fit =
       let more : sizes (contours ++ ([] ∷ [])) ≡ sizes contours ++ (0 ∷ []) = map-snoc (λ (c : List EdgeSegment). length c) contours [] in
-      let at : s .contours ≡ length (sizes contours) = contours-at ∙ sym count in
+      let at : s .numbers .contours ≡ length (sizes contours) = contours-at ∙ sym count in
       same
       (ap (λ (n : ℕ). set (over (sizes contours) (old .lengths)) n 0) at
       ∙ over-more (sizes contours) (old .lengths) 0 (omega (arith, fit .lengths-fit, ap length more, length-append (sizes contours) (0 ∷ [])))
@@ -140,14 +143,14 @@ module _ (job : Job) (old : Buffers) (s : State) (bytes : List ℕ) (contours-at
 
   written-edge : (e : EdgeSegment) → 0 < length contours → Fitting (stored (enter job (edge e))) old
       → e ≡ edgeOf (kindOf e) (floats (words (2 * controls (kindOf e)) (take (16 * controls (kindOf e)) (drop 2 bytes))))
-      → written (itemOf (edge e)) s bytes (overEach (stored job) old) ≡ overEach (stored (enter job (edge e))) old
+      → written (itemOf (edge e)) (s .numbers) bytes (overEach (stored job) old) ≡ overEach (stored (enter job (edge e))) old
   unfolding written overEach stored enter placesFrom
   written-edge e opened fit held =
       let all : flatten (withEdge contours e) ≡ edges ++ (e ∷ []) = with-edge-concat contours e opened in
-      let last : s .contours - 1 ≡ length contours - 1 = omega arith in
+      let last : s .numbers .contours - 1 ≡ length contours - 1 = omega arith in
       let inside : length contours - 1 < length (sizes contours) = omega (arith, count) in
       let fewer : length (sizes contours) ≤ length (old .lengths) = omega (arith, count, fit .lengths-fit, length-map (withEdge contours e) (λ (c : List EdgeSegment). length c), with-edge-length contours e) in
-      let at : s .edges ≡ length (kindsOf edges) = edges-at ∙ sym (kinds-length edges) in
+      let at : s .numbers .edges ≡ length (kindsOf edges) = edges-at ∙ sym (kinds-length edges) in
       let kinds : kindsOf (flatten (withEdge contours e)) ≡ kindsOf edges ++ (kindNumber (kindOf e) ∷ []) = ap kindsOf all ∙ kinds-edge edges e ∙ ap (λ (n : ℕ). kindsOf edges ++ (n ∷ [])) (kind-number e) in
       let points : placesOf (flatten (withEdge contours e)) ≡ placesOf edges ++ toStored e .points = ap placesOf all ∙ places-edge edges e in
       same
@@ -156,39 +159,39 @@ module _ (job : Job) (old : Buffers) (s : State) (bytes : List ℕ) (contours-at
       (ap (λ (n : ℕ). set (over (kindsOf edges) (old .kinds)) n (kindNumber (kindOf e))) at
       ∙ over-more (kindsOf edges) (old .kinds) (kindNumber (kindOf e)) (omega (arith, fit .kinds-fit, ap length kinds, length-append (kindsOf edges) (kindNumber (kindOf e) ∷ [])))
       ∙ ap (λ (x : List ℕ). over x (old .kinds)) (sym kinds))
-      (ap (λ (x : EdgeSegment). take (8 * s .edges) (over (placesOf edges) (old .points)) ++ (toStored x .points ++ drop 8 (drop (8 * s .edges) (over (placesOf edges) (old .points))))) (sym held)
-      ∙ over-part (placesOf edges) (toStored e .points) (old .points) (8 * s .edges) 8 (omega (arith, edges-at, points-length edges)) (sym (places-length e))
+      (ap (λ (x : EdgeSegment). take (8 * s .numbers .edges) (over (placesOf edges) (old .points)) ++ (toStored x .points ++ drop 8 (drop (8 * s .numbers .edges) (over (placesOf edges) (old .points))))) (sym held)
+      ∙ over-part (placesOf edges) (toStored e .points) (old .points) (8 * s .numbers .edges) 8 (omega (arith, edges-at, points-length edges)) (sym (places-length e))
       ∙ ap (λ (x : List Float). over x (old .points)) (sym points))
       refl
 
   written-distances : (ds : List Float) → job .distances ≡ [] → ds ≡ floats (words (length ds) (drop 4 bytes))
-      → written (itemOf (distances ds)) s bytes (overEach (stored job) old) ≡ overEach (stored (enter job (distances ds))) old
+      → written (itemOf (distances ds)) (s .numbers) bytes (overEach (stored job) old) ≡ overEach (stored (enter job (distances ds))) old
   unfolding written overEach stored enter over
   written-distances ds none held = same refl refl refl (rw none (ap (λ (x : List Float). x ++ drop (length x) (old .distances)) (sym held)))
 
   written-next : (r : Record) (rest : List ℕ) → Taken s bytes r rest → Ready job r → (closing (s .phase) ≡ false → job .distances ≡ []) → Fitting (stored (enter job r)) old
-      → written (itemOf r) s bytes (overEach (stored job) old) ≡ overEach (stored (enter job r)) old
-  written-next (header strategy seed threshold) rest t ready none fit = unfold written overEach stored enter in refl
+      → written (itemOf r) (s .numbers) bytes (overEach (stored job) old) ≡ overEach (stored (enter job r)) old
+  written-next (header h) rest t ready none fit = unfold written overEach stored enter in refl
   written-next contour rest t ready none fit = written-contour fit
   written-next (edge e) rest t ready none fit = written-edge e ready fit (t .held)
   written-next (distances ds) rest t ready none fit = written-distances ds (none (not-closing s (distances ds) (t .may))) (t .held .1)
 
   -- there is room for the record
-  room-contour : Fitting (stored (enter job contour)) old → Room (itemOf contour) s bytes (overEach (stored job) old)
+  room-contour : Fitting (stored (enter job contour)) old → Room (itemOf contour) (s .numbers) bytes (overEach (stored job) old)
   unfolding overEach stored enter
   room-contour fit =
       let more : length (sizes (contours ++ ([] ∷ []))) ≡ length contours + 1 = length-map (contours ++ ([] ∷ [])) (λ (c : List EdgeSegment). length c) ∙ length-append contours ([] ∷ []) in
       rw (over-length (sizes contours) (old .lengths) (omega (arith, count, more, fit .lengths-fit))) (omega (arith, more, fit .lengths-fit))
 
   room-edge : (e : EdgeSegment) → 0 < length contours → edgeCount contours ≤ 256 → 2 + 16 * controls (kindOf e) ≤ length bytes → Fitting (stored (enter job (edge e))) old
-      → Room (itemOf (edge e)) s bytes (overEach (stored job) old)
+      → Room (itemOf (edge e)) (s .numbers) bytes (overEach (stored job) old)
   unfolding overEach stored enter
   room-edge e opened few whole fit =
       let all : edgeCount (withEdge contours e) ≡ edgeCount contours + 1 = ap length (with-edge-concat contours e opened) ∙ length-append edges (e ∷ []) in
       let lengths-in : length (sizes contours) ≤ length (old .lengths) = omega (arith, count, fit .lengths-fit, length-map (withEdge contours e) (λ (c : List EdgeSegment). length c), with-edge-length contours e) in
       let kinds-in : edgeCount contours + 1 ≤ length (old .kinds) = omega (arith, fit .kinds-fit, kinds-length (flatten (withEdge contours e)), all) in
       let points-in : 8 * (edgeCount contours + 1) ≤ length (old .points) = omega (arith, fit .points-fit, points-length (flatten (withEdge contours e)), all) in
-      let last : s .contours - 1 ≡ length contours - 1 = omega arith in (
+      let last : s .numbers .contours - 1 ≡ length contours - 1 = omega arith in (
         omega arith,
         omega (arith, over-length (sizes contours) (old .lengths) lengths-in, count),
         rw (last, over-getD (sizes contours) (old .lengths) (length contours - 1) 0 (omega (arith, count))) (omega (arith, last-few contours opened)),
@@ -198,38 +201,38 @@ module _ (job : Job) (old : Buffers) (s : State) (bytes : List ℕ) (contours-at
       )
 
   room-distances : (ds : List Float) → job .distances ≡ [] → 4 + 8 * length ds ≤ length bytes → Fitting (stored (enter job (distances ds))) old
-      → Room (itemOf (distances ds)) s bytes (overEach (stored job) old)
+      → Room (itemOf (distances ds)) (s .numbers) bytes (overEach (stored job) old)
   unfolding overEach stored enter over
   room-distances ds none whole fit = (rw none (fit .distances-fit), whole)
 
   room-next : (r : Record) (rest : List ℕ) → Taken s bytes r rest → Ready job r → (closing (s .phase) ≡ false → job .distances ≡ []) → edgeCount contours ≤ 256 → Fitting (stored (enter job r)) old
-      → Room (itemOf r) s bytes (overEach (stored job) old)
-  room-next (header strategy seed threshold) rest t ready none few fit = tt
+      → Room (itemOf r) (s .numbers) bytes (overEach (stored job) old)
+  room-next (header h) rest t ready none few fit = tt
   room-next contour rest t ready none few fit = room-contour fit
-  room-next (edge e) rest t ready none few fit = room-edge e ready few (t .whole) fit
-  room-next (distances ds) rest t ready none few fit = room-distances ds (none (not-closing s (distances ds) (t .may))) (t .whole) fit
+  room-next (edge e) rest t ready none few fit = room-edge e ready few (omega (arith, t .whole, size-is (edge e))) fit
+  room-next (distances ds) rest t ready none few fit = room-distances ds (none (not-closing s (distances ds) (t .may))) (omega (arith, t .whole, size-is (distances ds))) fit
 
 -- the distances of the job so far are those of the whole, or none
-distances-so-far : (job whole : Job) (s : State) (bytes rest : List ℕ) (r : Record) → allowed s (recordMark r) ≡ true → (closing (s .phase) ≡ false → job .distances ≡ [])
-    → jobFrom (enter job r) (recordsFrom (after s r) rest) ≡ reads whole → length (enter job r .distances) ≤ length (whole .distances)
+distances-so-far : (job whole : Job) (s : State) (bytes rest : List ℕ) (r : Record) → Allowed s (recordMark r) → (closing (s .phase) ≡ false → job .distances ≡ [])
+    → jobFrom (enter job r) (recordsFrom (after s (itemOf r)) rest) ≡ reads whole → length (enter job r .distances) ≤ length (whole .distances)
 unfolding enter
-distances-so-far job whole s bytes rest (header strategy seed threshold) may none e = omega (arith, ap length (none (not-closing s (header strategy seed threshold) may)))
+distances-so-far job whole s bytes rest (header h) may none e = omega (arith, ap length (none (not-closing s (header h) may)))
 distances-so-far job whole s bytes rest contour may none e = omega (arith, ap length (none (not-closing s contour may)))
 distances-so-far job whole s bytes rest (edge x) may none e = omega (arith, ap length (none (not-closing s (edge x) may)))
 distances-so-far job whole s bytes rest (distances ds) may none e =
-    omega (arith, ap (λ (j : Job). length (j .distances)) (closing-final (after s (distances ds)) rest (enter job (distances ds)) whole refl e))
+    omega (arith, ap (λ (j : Job). length (j .distances)) (closing-final (after s (itemOf (distances ds))) rest (enter job (distances ds)) whole refl e))
 
 -- ---- in the file
 
 module _ (file : List ℕ) (p : Progress) (at : Reached file p) (r : Record) (rest : List ℕ) (e : readRecord (p .state) (drop (p .at) file) ≡ next r rest)
     (old : Buffers) (whole : Job) (f : readJob file ≡ reads whole) (room : hasRoom (numbersOf whole) old ≡ true) where
-  still : jobFrom (enter (at .job) r) (recordsFrom (after (p .state) r) (drop (p .at + recordSize r) file)) ≡ reads whole
+  still : jobFrom (enter (at .job) r) (recordsFrom (after (p .state) (itemOf r)) (drop (p .at + recordSize r) file)) ≡ reads whole
   still = ahead file p at r rest e ∙ f
 
   fitting-next : Fitting (stored (enter (at .job) r)) old
   fitting-next =
       let t = record-taken file p at r rest e in
-      let most = grows (enter (at .job) r) whole (recordsFrom (after (p .state) r) (drop (p .at + recordSize r) file)) still in
+      let most = grows (enter (at .job) r) whole (recordsFrom (after (p .state) (itemOf r)) (drop (p .at + recordSize r) file)) still in
       let space = roomy whole old room in
       fitting (enter (at .job) r) old (length (whole .contours)) (edgeCount (whole .contours)) (most .0) (most .1)
       (record {
@@ -239,12 +242,12 @@ module _ (file : List ℕ) (p : Progress) (at : Reached file p) (r : Record) (re
         distances-fit = omega (arith, space .distances-fit, distances-so-far (at .job) whole (p .state) file (drop (p .at + recordSize r) file) r (t .may) (at .none-yet) still);
       })
 
-  room-here : Room (itemOf r) (p .state) (drop (p .at) file) (overEach (stored (at .job)) old)
+  room-here : Room (itemOf r) (p .state .numbers) (drop (p .at) file) (overEach (stored (at .job)) old)
   room-here =
       room-next (at .job) old (p .state) (drop (p .at) file) (contours-are file p at r rest e) (edges-are file p at r rest e) r rest
       (record-taken file p at r rest e) (is-ready file p at r rest e) (at .none-yet) (at .edges-fit) fitting-next
 
-  written-here : written (itemOf r) (p .state) (drop (p .at) file) (overEach (stored (at .job)) old) ≡ overEach (stored (enter (at .job) r)) old
+  written-here : written (itemOf r) (p .state .numbers) (drop (p .at) file) (overEach (stored (at .job)) old) ≡ overEach (stored (enter (at .job) r)) old
   written-here =
       written-next (at .job) old (p .state) (drop (p .at) file) (contours-are file p at r rest e) (edges-are file p at r rest e) r rest
       (record-taken file p at r rest e) (is-ready file p at r rest e) (at .none-yet) fitting-next
@@ -290,24 +293,24 @@ module _ (file : List ℕ) (old : Buffers) (fits : Fits (readJob file) old) (p :
   abbrev whole : Whole (readJob file) old
   whole = whole-of (readJob file) old fits
 
-  module _ (item : Item) (read : Read-as (readRecord (p .state) (drop (p .at) file)) item) where
-    pub filling-room : Room item (p .state) (drop (p .at) file) before
+  module _ (item : Item) (size : ℕ) (read : Read-as (readRecord (p .state) (drop (p .at) file)) item size) where
+    pub filling-room : Room item (p .state .numbers) (drop (p .at) file) before
     filling-room =
         rw (held-as (overEach (stored (filling .at .job)) old) (filling .holds), ← read .is-item)
         (room-here file p (filling .at) (read .r) (read .rest) (read .is-next) old (whole .job) (whole .is) (whole .room))
 
-    pub filling-next : (lengths' kinds' : List ℕ) (points' ds' : List Float) → Hold (written item (p .state) (drop (p .at) file) before) lengths' kinds' points' ds'
+    pub filling-next : (lengths' kinds' : List ℕ) (points' ds' : List Float) → Hold (written item (p .state .numbers) (drop (p .at) file) before) lengths' kinds' points' ds'
         → length lengths' ≡ length lengths → length kinds' ≡ length kinds → length points' ≡ length points → length ds' ≡ length ds
-        → Filling file old (advanced p item) lengths' kinds' points' ds'
+        → Filling file old (advanced p item size) lengths' kinds' points' ds'
     filling-next lengths' kinds' points' ds' h l k q d =
         let job = filling .at .job in
         let next = reached-next file p (filling .at) (read .r) (read .rest) (read .is-next) in
-        let after : written item (p .state) (drop (p .at) file) before ≡ overEach (stored (next .job)) old =
-        ap (written item (p .state) (drop (p .at) file)) (held-as (overEach (stored job) old) (filling .holds))
-        ∙ ap (λ (i : Item). written i (p .state) (drop (p .at) file) (overEach (stored job) old)) (sym (read .is-item))
+        let after : written item (p .state .numbers) (drop (p .at) file) before ≡ overEach (stored (next .job)) old =
+        ap (written item (p .state .numbers) (drop (p .at) file)) (held-as (overEach (stored job) old) (filling .holds))
+        ∙ ap (λ (i : Item). written i (p .state .numbers) (drop (p .at) file) (overEach (stored job) old)) (sym (read .is-item))
         ∙ written-here file p (filling .at) (read .r) (read .rest) (read .is-next) old (whole .job) (whole .is) (whole .room)
         ∙ ap (λ (j : Job). overEach (stored j) old) (sym (next-job file p (filling .at) (read .r) (read .rest) (read .is-next))) in
-        subst (λ (i : Item). Filling file old (advanced p i) lengths' kinds' points' ds') (read .is-item)
+        rw (← read .is-item, ← read .is-size)
         (record {
           at = next;
           holds = subst (λ (b : Buffers). Hold b lengths' kinds' points' ds') after h;

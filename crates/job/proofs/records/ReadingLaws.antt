@@ -1,15 +1,14 @@
 -- What is known of a record that was read, and the records of a file one by one.
 use mathlib.Core.Path.{_≡_, refl, sym, ap, subst, _∙_}
 use mathlib.Core.Bool.{Bool, true, false}
-use mathlib.Core.List.{List, [], _∷_}
-use Prim.Native.Nat.{ℕ, zero, suc, _+_, _*_, _≤_}
+use mathlib.Core.List.{List, [], _∷_, _++_}
+use Prim.Native.Nat.{ℕ, zero, suc, _+_, _*_, _^_, _<_, _≤_}
 use native.Mathlib.Omega.{arith}
 use lib.Dec.{leb}
 use lib.ListN.{length, getD, take, drop, length-drop}
 use lib.Seq.{drop-drop}
 use lib.Ieee as Ieee
-use lib.Ieee.{binary64, ofBits, toBits}
-use lib.Ieee.Bits.{ofBits-toBits, ofBits-fits}
+use lib.Ieee.{binary64, ofBits}
 use borrow.Author.Tests.{leb-true}
 use Rattle.math.specs.Scalar.{f1}
 use Rattle.geometry.specs.EdgeSegment.{toStored}
@@ -17,6 +16,8 @@ use Rattle.geometry.specs.declared.edge_segment.EdgeSegment.{EdgeSegment}
 use Rattle.graph.specs.declared.refusal.Refusal.{Refusal}
 use Rattle.graph.specs.declared.refusal.Refusal.the-variants.{Truncated, MisplacedMark, TooMany, UnknownKind, BadThreshold, BadCoordinate, BadDistance}
 use Rattle.graph.specs.Lists.{all}
+use Rattle.graph.specs.Bools.{and-left, and-right}
+use Rattle.graph.specs.PairOrder.{validDistance, distancesValid}
 use Rattle.coloring.specs.Outline.{between, inRange, usedPlaces, max-coordinate}
 use Rattle.job.specs.declared.records.Kind.{Kind}
 use Rattle.job.specs.declared.records.Kind.the-variants.{Line, Quadratic, Cubic}
@@ -24,25 +25,23 @@ use Rattle.job.specs.declared.records.Mark.{Mark}
 use Rattle.job.specs.declared.records.Mark.the-variants.{Header, Contour, Edge, Distances, End}
 use Rattle.job.specs.declared.records.Marked.{Marked}
 use Rattle.job.specs.declared.records.Marked.the-variants.{Known, Unknown}
+use Rattle.job.specs.declared.records.Header as fields
 use Rattle.job.specs.declared.records.State.{State}
 use Rattle.job.specs.declared.records.Item.{Item}
 use Rattle.job.specs.declared.records.Found.the-variants as found
 use Rattle.job.specs.Patterns.{number, words, floats, isThreshold, isCoordinate, isDistance}
-use Rattle.job.specs.Records.{Record, header, contour, edge, distances, Step, next, ends, fails, require, knownStrategy, controls, bodySize, allowed, fits, kindOf, edgeOf, recordSize, itemOf, foundOf, markOf, readHeader, readEdge, readDistances, readEnd, readBody, readMarked, readRecord, after, Records, complete, fault, _then_, recordsWithin, recordsFrom}
-use Rattle.job.proofs.patterns.PatternLaws.{floats-length}
-use Rattle.job.proofs.patterns.PatternMeaning.{threshold-means, coordinate-means}
+use Rattle.job.specs.Records.{strategyOf, recordMark, marked, bytesOf, Record, header, contour, edge, distances, Step, next, ends, fails, require, knownStrategy, controls, bodySize, allowed, fits, kindOf, edgeOf, recordSize, itemOf, foundOf, markOf, readHeader, readEdge, readDistances, readEnd, readBody, readMarked, readRecord, after, Records, complete, fault, _then_, recordsWithin, recordsFrom}
+use Rattle.job.specs.Job.{thresholdOf}
+use Rattle.job.proofs.patterns.PatternLaws.{AreBytes, floats-length}
+use Rattle.job.proofs.patterns.PatternMeaning.{threshold-means, coordinate-means, distance-below, distance-means}
+use Rattle.job.proofs.records.BytesLaws.{Lettered, letters-of, marked-bytes, header-below, header-bytes, contour-bytes, edge-bytes, distances-bytes}
+use Rattle.job.proofs.records.RecordLaws.{Allowed, size-is, size-some}
 
 -- ---- a record that was read
 
-abbrev pub recordMark : Record → Mark
-recordMark (header strategy seed threshold) = Header
-recordMark contour = Contour
-recordMark (edge e) = Edge (kindOf e)
-recordMark (distances ds) = Distances
-
 -- the floats of a record are those of its bytes, and its distances are not too many
 abbrev pub Held : Record → List ℕ → Type 0
-Held (header strategy seed threshold) bytes = Unit
+Held (header h) bytes = AreBytes bytes → (h .seed < 2 ^ 64) × (h .threshold < 2 ^ 64)
 Held contour bytes = Unit
 Held (edge e) bytes = e ≡ edgeOf (kindOf e) (floats (words (2 * controls (kindOf e)) (take (16 * controls (kindOf e)) (drop 2 bytes))))
 Held (distances ds) bytes = (length ds ≤ 2016) × (ds ≡ floats (words (length ds) (drop 4 bytes)))
@@ -53,22 +52,23 @@ edgeFits e = all inRange (take (usedPlaces (toStored e .kind)) (toStored e .poin
 
 -- the floats of a record lie within their ranges
 abbrev pub InRange : Record → Type 0
-InRange (header strategy seed threshold) = (between (Ieee.neg f1) threshold f1 ≡ true) × (ofBits binary64 (toBits binary64 threshold) ≡ threshold)
+InRange (header h) = between (Ieee.neg f1) (thresholdOf h) f1 ≡ true
 InRange contour = Unit
 InRange (edge e) = edgeFits e ≡ true
-InRange (distances ds) = Unit
+InRange (distances ds) = distancesValid ds ≡ true
 
 pub record Taken (s : State) (bytes : List ℕ) (r : Record) (rest : List ℕ) : Type 0 where
-  pub may : allowed s (recordMark r) ≡ true
-  pub room : fits s (recordMark r) ≡ true
+  pub may : Allowed s (recordMark r)
+  pub room : fits (s .numbers) (recordMark r) ≡ true
   pub whole : recordSize r ≤ length bytes
   pub beyond : rest ≡ drop (recordSize r) bytes
   pub held : Held r bytes
+  pub is-bytes : AreBytes bytes → bytes ≡ bytesOf r ++ rest
   pub in-range : InRange r
 
 abbrev OfStep : State → List ℕ → Step → Type 0
 OfStep s bytes (next r rest) = Taken s bytes r rest
-OfStep s bytes ends = length bytes ≡ 2
+OfStep s bytes ends = (bytes ≡ marked End []) × Allowed s End
 OfStep s bytes (fails refusal) = Unit
 
 -- a test passes, or there is nothing to show
@@ -78,12 +78,9 @@ required s bytes false refusal step f = tt
 
 -- ---- what the tests of patterns mean of a record's floats
 
-threshold-fits : (b : ℕ) → isThreshold b ≡ true → InRange (header 0 0 (ofBits binary64 b))
+threshold-fits : (h : fields.Header) → isThreshold (h .threshold) ≡ true → InRange (header h)
 unfolding ofBits
-threshold-fits b h = (within, ofBits-toBits binary64 (ofBits binary64 b) (ofBits-fits binary64 b))
-  where
-    within : between (Ieee.neg f1) (ofBits binary64 b) f1 ≡ true
-    within = sym (threshold-means b) ∙ h
+threshold-fits h within = sym (threshold-means (h .threshold)) ∙ within
 
 coordinates-fit : (ps : List ℕ) → all inRange (floats ps) ≡ all isCoordinate ps
 unfolding all floats
@@ -91,6 +88,14 @@ coordinates-fit [] = refl
 coordinates-fit (b ∷ ps) =
     let one : inRange (ofBits binary64 b) ≡ isCoordinate b = rw max-coordinate (sym (coordinate-means b)) in
     rw (one, coordinates-fit ps)
+
+distances-fit : (ps : List ℕ) → all isDistance ps ≡ true → distancesValid (floats ps) ≡ true
+unfolding all floats validDistance ofBits
+distances-fit [] h = refl
+distances-fit (b ∷ ps) h =
+    let here : isDistance b ≡ true = and-left (isDistance b) (all isDistance ps) h in
+    let valid : validDistance (ofBits binary64 b) ≡ true = sym (distance-means b (distance-below b here)) ∙ here in
+    rw valid (distances-fit ps (and-right (isDistance b) (all isDistance ps) h))
 
 edge-fits : (kind : Kind) (body : List ℕ) → all isCoordinate (words (2 * controls kind) body) ≡ true → edgeFits (edgeOf kind (floats (words (2 * controls kind) body))) ≡ true
 unfolding toStored words floats
@@ -100,98 +105,108 @@ edge-fits Cubic body h = coordinates-fit (words 8 body) ∙ h
 
 -- ---- record by record
 
-end-taken : (s : State) (a b : ℕ) (bytes : List ℕ) → OfStep s (a ∷ b ∷ bytes) (readEnd bytes)
+end-taken : (s : State) (a b : ℕ) (bytes : List ℕ) → Lettered a b End → Allowed s End → OfStep s (a ∷ b ∷ bytes) (readEnd bytes)
 unfolding readEnd
-end-taken s a b [] = refl
-end-taken s a b (c ∷ bytes) = tt
+end-taken s a b [] l may = (rw (l .0, l .1), may)
+end-taken s a b (c ∷ bytes) l may = tt
 
 module _ (s : State) (a b : ℕ) (bytes : List ℕ) where
   abbrev all-bytes : List ℕ
   all-bytes = a ∷ b ∷ bytes
 
-  header-taken : allowed s Header ≡ true → fits s Header ≡ true → 17 ≤ length bytes → OfStep s all-bytes (readHeader (take 17 bytes) (drop 17 bytes))
+  -- the bytes after the letters are bytes
+  after-letters : AreBytes all-bytes → AreBytes bytes
+  after-letters h i = h (suc (suc i))
+
+  header-taken : Lettered a b Header → Allowed s Header → fits (s .numbers) Header ≡ true → 17 ≤ length bytes → OfStep s all-bytes (readHeader (take 17 bytes) (drop 17 bytes))
   unfolding readHeader
-  header-taken may room whole =
+  header-taken l may room whole =
       let body = take 17 bytes in
       let threshold = number (take 8 (drop 9 body)) in
-      let found = next (header (getD body 0 0) (number (take 8 (drop 1 body))) (ofBits binary64 threshold)) (drop 17 bytes) in
+      let h : fields.Header = record { strategy = strategyOf (getD body 0 0); seed = number (take 8 (drop 1 body)); threshold = threshold } in
+      let found = next (header h) (drop 17 bytes) in
       required s all-bytes (knownStrategy (getD body 0 0)) UnknownKind (require (isThreshold threshold) BadThreshold found)
       (λ known. required s all-bytes (isThreshold threshold) BadThreshold found
-      (λ within. record { may = may; room = room; whole = omega arith; beyond = refl; held = tt; in-range = threshold-fits threshold within }))
+      (λ within. record { may = may; room = room; whole = omega (arith, size-is (header h)); beyond = rw (size-is (header h)); held = λ are. header-below bytes (after-letters are) whole; is-bytes = λ are. marked-bytes a b bytes _ (header h) l (header-bytes bytes (after-letters are) whole known); in-range = threshold-fits h within }))
 
-  edge-taken : (kind : Kind) → allowed s (Edge kind) ≡ true → fits s (Edge kind) ≡ true → 16 * controls kind ≤ length bytes
+  edge-taken : (kind : Kind) → Lettered a b (Edge kind) → Allowed s (Edge kind) → fits (s .numbers) (Edge kind) ≡ true → 16 * controls kind ≤ length bytes
       → OfStep s all-bytes (readEdge kind (take (16 * controls kind) bytes) (drop (16 * controls kind) bytes))
   unfolding readEdge
-  edge-taken Line may room whole =
+  edge-taken Line l may room whole =
       let ps = words 4 (take 32 bytes) in
-      required s all-bytes (all isCoordinate ps) BadCoordinate (next (edge (edgeOf Line (floats ps))) (drop 32 bytes))
-      (λ within. record { may = may; room = room; whole = omega arith; beyond = refl; held = refl; in-range = edge-fits Line (take 32 bytes) within })
-  edge-taken Quadratic may room whole =
+      let e = edgeOf Line (floats ps) in
+      required s all-bytes (all isCoordinate ps) BadCoordinate (next (edge e) (drop 32 bytes))
+      (λ within. record { may = may; room = room; whole = omega (arith, size-is (edge e)); beyond = rw (size-is (edge e)); held = refl; is-bytes = λ are. marked-bytes a b bytes _ (edge e) l (edge-bytes bytes (after-letters are) Line whole within); in-range = edge-fits Line (take 32 bytes) within })
+  edge-taken Quadratic l may room whole =
       let ps = words 6 (take 48 bytes) in
-      required s all-bytes (all isCoordinate ps) BadCoordinate (next (edge (edgeOf Quadratic (floats ps))) (drop 48 bytes))
-      (λ within. record { may = may; room = room; whole = omega arith; beyond = refl; held = refl; in-range = edge-fits Quadratic (take 48 bytes) within })
-  edge-taken Cubic may room whole =
+      let e = edgeOf Quadratic (floats ps) in
+      required s all-bytes (all isCoordinate ps) BadCoordinate (next (edge e) (drop 48 bytes))
+      (λ within. record { may = may; room = room; whole = omega (arith, size-is (edge e)); beyond = rw (size-is (edge e)); held = refl; is-bytes = λ are. marked-bytes a b bytes _ (edge e) l (edge-bytes bytes (after-letters are) Quadratic whole within); in-range = edge-fits Quadratic (take 48 bytes) within })
+  edge-taken Cubic l may room whole =
       let ps = words 8 (take 64 bytes) in
-      required s all-bytes (all isCoordinate ps) BadCoordinate (next (edge (edgeOf Cubic (floats ps))) (drop 64 bytes))
-      (λ within. record { may = may; room = room; whole = omega arith; beyond = refl; held = refl; in-range = edge-fits Cubic (take 64 bytes) within })
+      let e = edgeOf Cubic (floats ps) in
+      required s all-bytes (all isCoordinate ps) BadCoordinate (next (edge e) (drop 64 bytes))
+      (λ within. record { may = may; room = room; whole = omega (arith, size-is (edge e)); beyond = rw (size-is (edge e)); held = refl; is-bytes = λ are. marked-bytes a b bytes _ (edge e) l (edge-bytes bytes (after-letters are) Cubic whole within); in-range = edge-fits Cubic (take 64 bytes) within })
 
-  distances-taken : allowed s Distances ≡ true → 2 ≤ length bytes → OfStep s all-bytes (readDistances (take 2 bytes) (drop 2 bytes))
+  distances-taken : Lettered a b Distances → Allowed s Distances → 2 ≤ length bytes → OfStep s all-bytes (readDistances (take 2 bytes) (drop 2 bytes))
   unfolding readDistances
-  distances-taken may whole =
+  distances-taken l may whole =
       let count = number (take 2 bytes) in
       let rest = drop 2 bytes in
       let patterns = words count rest in
       let found = next (distances (floats patterns)) (drop (8 * count) rest) in
       let size : length (floats patterns) ≡ count = floats-length count rest in
+      let takes : recordSize (distances (floats patterns)) ≡ 4 + 8 * count = omega (arith, size-is (distances (floats patterns)), size) in
       required s all-bytes (leb count 2016) TooMany (require (leb (8 * count) (length rest)) Truncated (require (all isDistance patterns) BadDistance found))
       (λ few. required s all-bytes (leb (8 * count) (length rest)) Truncated (require (all isDistance patterns) BadDistance found)
       (λ there. required s all-bytes (all isDistance patterns) BadDistance found
       (λ within. record {
         may = may;
         room = refl;
-        whole = omega (arith, size, leb-true (8 * count) (length rest) there, length-drop 2 bytes);
-        beyond = rw size (drop-drop (8 * count) 4 all-bytes);
+        whole = omega (arith, takes, leb-true (8 * count) (length rest) there, length-drop 2 bytes);
+        beyond = rw takes (drop-drop (8 * count) 4 all-bytes);
         held = (omega (arith, size, leb-true count 2016 few), rw size);
-        in-range = tt;
+        is-bytes = λ are. marked-bytes a b bytes _ (distances (floats patterns)) l (distances-bytes bytes (after-letters are) whole (leb-true (8 * count) (length rest) there) within);
+        in-range = distances-fit patterns within;
       })))
 
-  body-taken : (mark : Mark) → allowed s mark ≡ true → fits s mark ≡ true → bodySize mark ≤ length bytes
+  body-taken : (mark : Mark) → Lettered a b mark → Allowed s mark → fits (s .numbers) mark ≡ true → bodySize mark ≤ length bytes
       → OfStep s all-bytes (readBody mark (take (bodySize mark) bytes) (drop (bodySize mark) bytes))
   unfolding readBody
-  body-taken Header may room whole = header-taken may room whole
-  body-taken Contour may room whole = record { may = may; room = room; whole = omega arith; beyond = refl; held = tt; in-range = tt }
-  body-taken (Edge kind) may room whole = edge-taken kind may room whole
-  body-taken Distances may room whole = distances-taken may whole
-  body-taken End may room whole = end-taken s a b bytes
+  body-taken Header l may room whole = header-taken l may room whole
+  body-taken Contour l may room whole = record { may = may; room = room; whole = omega (arith, size-is contour); beyond = rw (size-is contour); held = tt; is-bytes = λ are. marked-bytes a b bytes bytes contour l (contour-bytes bytes (after-letters are)); in-range = tt }
+  body-taken (Edge kind) l may room whole = edge-taken kind l may room whole
+  body-taken Distances l may room whole = distances-taken l may whole
+  body-taken End l may room whole = end-taken s a b bytes l may
 
-  marked-taken : (m : Marked) → OfStep s all-bytes (readMarked s m bytes)
+  marked-taken : (m : Marked) → markOf a b ≡ m → OfStep s all-bytes (readMarked s m bytes)
   unfolding readMarked
-  marked-taken Unknown = tt
-  marked-taken (Known mark) =
+  marked-taken Unknown is = tt
+  marked-taken (Known mark) is =
       let body = readBody mark (take (bodySize mark) bytes) (drop (bodySize mark) bytes) in
       let sized = require (leb (bodySize mark) (length bytes)) Truncated body in
-      required s all-bytes (allowed s mark) MisplacedMark (require (fits s mark) TooMany sized)
-      (λ may. required s all-bytes (fits s mark) TooMany sized
+      required s all-bytes (allowed (s .phase) (s .numbers .header .strategy) mark) MisplacedMark (require (fits (s .numbers) mark) TooMany sized)
+      (λ may. required s all-bytes (fits (s .numbers) mark) TooMany sized
       (λ room. required s all-bytes (leb (bodySize mark) (length bytes)) Truncated body
-      (λ whole. body-taken mark may room (leb-true (bodySize mark) (length bytes) whole))))
+      (λ whole. body-taken mark (letters-of a b mark is) may room (leb-true (bodySize mark) (length bytes) whole))))
 
 of-step : (s : State) (bytes : List ℕ) → OfStep s bytes (readRecord s bytes)
 unfolding readRecord
 of-step s [] = tt
 of-step s (a ∷ []) = tt
-of-step s (a ∷ b ∷ bytes) = marked-taken s a b bytes (markOf a b)
+of-step s (a ∷ b ∷ bytes) = marked-taken s a b bytes (markOf a b) refl
 
 pub taken : (s : State) (bytes : List ℕ) (r : Record) (rest : List ℕ) → readRecord s bytes ≡ next r rest → Taken s bytes r rest
 taken s bytes r rest e = subst (OfStep s bytes) e (of-step s bytes)
 
-pub end-size : (s : State) (bytes : List ℕ) → readRecord s bytes ≡ ends → length bytes ≡ 2
-end-size s bytes e = subst (OfStep s bytes) e (of-step s bytes)
+pub end-is : (s : State) (bytes : List ℕ) → readRecord s bytes ≡ ends → bytes ≡ marked End []
+end-is s bytes e = subst (OfStep s bytes) e (of-step s bytes) .0
 
-pub size-some : (r : Record) → 2 ≤ recordSize r
-size-some (header strategy seed threshold) = omega arith
-size-some contour = omega arith
-size-some (edge e) = omega arith
-size-some (distances ds) = omega arith
+pub end-may : (s : State) (bytes : List ℕ) → readRecord s bytes ≡ ends → Allowed s End
+end-may s bytes e = subst (OfStep s bytes) e (of-step s bytes) .1
+
+pub end-size : (s : State) (bytes : List ℕ) → readRecord s bytes ≡ ends → length bytes ≡ 2
+end-size s bytes e = ap length (end-is s bytes e)
 
 shorter : {s : State} {bytes : List ℕ} {r : Record} {rest : List ℕ} → Taken s bytes r rest → length rest + 2 ≤ length bytes
 shorter {bytes = bytes} {r = r} t = omega (arith, ap length (t .beyond), length-drop (recordSize r) bytes, size-some r, t .whole)
@@ -211,15 +226,15 @@ enough (suc n) (suc m) s bytes h k = go (readRecord s bytes) (of-step s bytes) (
     go : (step : Step) → OfStep s bytes step
         → ((s' : State) (rest : List ℕ) → length rest ≤ n → length rest ≤ m → recordsWithin n s' rest ≡ recordsWithin m s' rest)
         → _≡_ {A = Records}
-        (elim step [ next r rest ↦ r then recordsWithin n (after s r) rest | ends ↦ complete | fails refusal ↦ fault refusal ])
-        (elim step [ next r rest ↦ r then recordsWithin m (after s r) rest | ends ↦ complete | fails refusal ↦ fault refusal ])
-    go (next r rest) t same = ap (λ (x : Records). r then x) (same (after s r) rest (omega (arith, shorter t)) (omega (arith, shorter t)))
+        (elim step [ next r rest ↦ r then recordsWithin n (after s (itemOf r)) rest | ends ↦ complete | fails refusal ↦ fault refusal ])
+        (elim step [ next r rest ↦ r then recordsWithin m (after s (itemOf r)) rest | ends ↦ complete | fails refusal ↦ fault refusal ])
+    go (next r rest) t same = ap (λ (x : Records). r then x) (same (after s (itemOf r)) rest (omega (arith, shorter t)) (omega (arith, shorter t)))
     go ends t same = refl
     go (fails refusal) t same = refl
 
 -- what reading the first record makes of the rest
 abbrev proceed : State → Step → Records
-proceed s (next r rest) = r then recordsFrom (after s r) rest
+proceed s (next r rest) = r then recordsFrom (after s (itemOf r)) rest
 proceed s ends = complete
 proceed s (fails refusal) = fault refusal
 
@@ -229,12 +244,12 @@ records-step s [] = refl
 records-step s (b ∷ bytes) = go (readRecord s (b ∷ bytes)) (of-step s (b ∷ bytes))
   where
     go : (step : Step) → OfStep s (b ∷ bytes) step
-        → elim step [ next r rest ↦ r then recordsWithin (length bytes) (after s r) rest | ends ↦ complete | fails refusal ↦ fault refusal ] ≡ proceed s step
-    go (next r rest) t = ap (λ (x : Records). r then x) (enough (length bytes) (length rest) (after s r) rest (omega (arith, shorter t)) (omega arith))
+        → elim step [ next r rest ↦ r then recordsWithin (length bytes) (after s (itemOf r)) rest | ends ↦ complete | fails refusal ↦ fault refusal ] ≡ proceed s step
+    go (next r rest) t = ap (λ (x : Records). r then x) (enough (length bytes) (length rest) (after s (itemOf r)) rest (omega (arith, shorter t)) (omega arith))
     go ends t = refl
     go (fails refusal) t = refl
 
-pub records-next : (s : State) (bytes : List ℕ) (r : Record) (rest : List ℕ) → readRecord s bytes ≡ next r rest → recordsFrom s bytes ≡ r then recordsFrom (after s r) rest
+pub records-next : (s : State) (bytes : List ℕ) (r : Record) (rest : List ℕ) → readRecord s bytes ≡ next r rest → recordsFrom s bytes ≡ r then recordsFrom (after s (itemOf r)) rest
 records-next s bytes r rest e = records-step s bytes ∙ ap (proceed s) e
 
 pub records-end : (s : State) (bytes : List ℕ) → readRecord s bytes ≡ ends → recordsFrom s bytes ≡ complete
@@ -245,16 +260,17 @@ records-fault s bytes refusal e = records-step s bytes ∙ ap (proceed s) e
 
 -- ---- from what the code finds to what the definition reads
 
-pub record Read-as (step : Step) (item : Item) : Type 0 where
+pub record Read-as (step : Step) (item : Item) (size : ℕ) : Type 0 where
   pub r : Record
   pub rest : List ℕ
   pub is-next : step ≡ next r rest
   pub is-item : itemOf r ≡ item
+  pub is-size : recordSize r ≡ size
 
-pub found-item : (step : Step) (item : Item) → found.Item item ≡ foundOf step → Read-as step item
-found-item (next r rest) item e = record { r = r; rest = rest; is-next = refl; is-item = cc }
-found-item ends item e = let z : _≡_ {A = ℕ} 0 1 = cc in absurd (omega arith)
-found-item (fails refusal) item e = let z : _≡_ {A = ℕ} 0 1 = cc in absurd (omega arith)
+pub found-item : (step : Step) (item : Item) (size : ℕ) → found.Item item size ≡ foundOf step → Read-as step item size
+found-item (next r rest) item size e = record { r = r; rest = rest; is-next = refl; is-item = cc; is-size = cc }
+found-item ends item size e = let z : _≡_ {A = ℕ} 0 1 = cc in absurd (omega arith)
+found-item (fails refusal) item size e = let z : _≡_ {A = ℕ} 0 1 = cc in absurd (omega arith)
 
 pub found-end : (step : Step) → found.End ≡ foundOf step → step ≡ ends
 found-end (next r rest) e = cc

@@ -9,6 +9,8 @@ use oracle::jobs::{FAULTS, Fault, Job, JobBuffers, Outcome, Stop};
 use oracle::jobs::{outcome, records, splines, stop, stored, write};
 use oracle::numbers::Random;
 use oracle::shapes::{Answer, Buffers, buffers, deliver, encode, noise, some};
+use std::io::Write;
+use std::process::{Command, Stdio};
 
 #[link(name = "capi", kind = "static")]
 unsafe extern "C" {
@@ -197,8 +199,15 @@ impl Comparison {
         let what =
             || format!("reading {} into {n:?}: {expected:#x}, proved {code:#x}", shown(file));
         self.read.note(agree, what);
-        if let Ok(job) = job {
-            size_classes(&mut self.classes, &READING, job_sizes(job), n);
+        match job {
+            Ok(job) => size_classes(&mut self.classes, &READING, job_sizes(job), n),
+            Err(fault) => {
+                let empty = n == [0; 4];
+                let splines = fault == Fault::Splines && empty;
+                self.classes.note("reading, 4 by splines before 11", splines);
+                let distances = fault == Fault::DistanceCount && empty;
+                self.classes.note("reading, 8 before 11", distances);
+            }
         }
     }
 
@@ -266,8 +275,8 @@ impl Comparison {
     fn entries(&mut self, r: &mut Random, padded: &[u8], len: usize) -> Outcome {
         let (before, file) = (padded.to_vec(), &padded[..len]);
         let outcome = outcome(file);
-        let job = outcome.reading.as_ref().map(|reading| stored(&reading.job));
-        let job = job.as_ref().map_err(|fault| **fault);
+        let job = outcome.accepted().map(|reading| stored(&reading.job));
+        let job = job.as_ref().map_err(|fault| *fault);
         let result = outcome.colored.as_ref().map(encode);
         let result = result.as_ref().map_err(|fault| **fault);
         let costly = job.is_ok_and(|job| job.kinds.len() > 64 || job.distances.len() > 300);
@@ -289,7 +298,7 @@ impl Comparison {
         let what = || format!("checking {}: {expected:#x}, proved {code:#x}", shown(file));
         self.check.note(code == expected, what);
 
-        let contours = job.map_or(0, |job| job.lengths.len() as u64);
+        let contours = outcome.reading.as_ref().map_or(0, |r| r.job.contours.len() as u64);
         let any = r.next();
         let huge = r.pick(&[64, 65, 1 << 16, 1 << 32, (1 << 32) + 1, 1 << 63, u64::MAX, any]);
         let far = [contours, contours + 1 + r.below(3), huge];
@@ -621,6 +630,55 @@ fn damaged(c: &mut Comparison, all: &mut Tally) {
     }
 }
 
+// ---- the program
+
+/// What the built `channels` prints of a file.
+fn channels(file: &[u8]) -> Vec<u8> {
+    let mut child = Command::new("../target/bin/channels")
+        .stdin(Stdio::piped())
+        .stdout(Stdio::piped())
+        .spawn()
+        .expect("rt check channels builds it");
+    // a file above 34,000 bytes may be left unread
+    let _ = child.stdin.take().unwrap().write_all(file);
+    child.wait_with_output().unwrap().stdout
+}
+
+/// The program on every file of examples/, which has its text beside it, and on damaged ones.
+fn program(all: &mut Tally) {
+    let mut part = Tally::default();
+    let mut compare = |file: &[u8], text: &[u8]| {
+        let found = channels(file);
+        let shown = || format!("{}: {}", shown(file), String::from_utf8_lossy(&found));
+        part.note(found == text, shown);
+    };
+    let mut examples = 0;
+    for entry in std::fs::read_dir("../examples").unwrap() {
+        let path = entry.unwrap().path();
+        if path.extension().is_some_and(|e| e == "job") {
+            let file = std::fs::read(&path).unwrap();
+            compare(&file, &std::fs::read(path.with_extension("txt")).unwrap());
+            compare(&file, outcome(&file).text().as_bytes());
+            examples += 1;
+        }
+    }
+    let r = &mut Random(707);
+    for number in 0..400 {
+        let mut f = records(&if r.coin() { job(r) } else { small(r, 1 + (number % 3) as u8) });
+        if number % 4 > 0 {
+            damage(r, &mut f, number % DAMAGES.len());
+        }
+        let file = f.concat();
+        compare(&file, outcome(&file).text().as_bytes());
+    }
+    for way in 0..LONG.len() {
+        let file = long(r, way);
+        compare(&file, outcome(&file).text().as_bytes());
+    }
+    all.met(examples, || "a file of examples/".to_string());
+    all.close("the program channels", part);
+}
+
 fn accepted(c: &mut Comparison) {
     let r = &mut Random(702);
     for _ in 0..60_000 {
@@ -638,5 +696,6 @@ pub fn compare(all: &mut Tally) {
     each_place(&mut c);
     damaged(&mut c, all);
     accepted(&mut c);
+    program(all);
     c.close(all);
 }

@@ -17,8 +17,8 @@ use Rattle.job.proofs.buffers.write_item.Tie as tie
 -- there is room for the record
 module _ (c : tie.Start) where
   room : (item : Item) → c .args .item ≡ item
-      → Room item (c .args .s) (c .args .bytes .now) (buffers (c .args .lengths .now) (c .args .kinds .now) (c .args .points .now) (c .args .distances .now))
-  room item e = subst (λ (i : Item). Room i (c .args .s) (c .args .bytes .now) (buffers (c .args .lengths .now) (c .args .kinds .now) (c .args .points .now) (c .args .distances .now))) e (c .pre)
+      → Room item (c .args .n) (c .args .bytes .now) (buffers (c .args .lengths .now) (c .args .kinds .now) (c .args .points .now) (c .args .distances .now))
+  room item e = subst (λ (i : Item). Room i (c .args .n) (c .args .bytes .now) (buffers (c .args .lengths .now) (c .args .kinds .now) (c .args .points .now) (c .args .distances .now))) e (c .pre)
 
 module _ (c : tie.After-item) where
   abbrev entry : tie.Start
@@ -27,11 +27,11 @@ module _ (c : tie.After-item) where
   abbrev kind : Kind
   kind = c .item .given .0 .0
 
-  edge-room : Room (Edge kind) (entry .args .s) (entry .args .bytes .now) (buffers (entry .args .lengths .now) (entry .args .kinds .now) (entry .args .points .now) (entry .args .distances .now))
+  edge-room : Room (Edge kind) (entry .args .n) (entry .args .bytes .now) (buffers (entry .args .lengths .now) (entry .args .kinds .now) (entry .args .points .now) (entry .args .distances .now))
   edge-room = room entry (Edge kind) (c .item .given .1)
 
   -- the place of the last contour
-  last-room : (1 ≤ entry .args .s .contours) × (entry .args .s .contours - 1 < length (entry .args .lengths .now))
+  last-room : (1 ≤ entry .args .n .contours) × (entry .args .n .contours - 1 < length (entry .args .lengths .now))
   last-room = (omega (arith, edge-room .0), omega (arith, edge-room .0, edge-room .1))
 
 module _ (c : tie.After-controls) where
@@ -45,7 +45,7 @@ module _ (c : tie.After-item2) where
   abbrev entry2 : tie.Start
   entry2 = c .before .before .before .before .before .before .before
 
-  distances-room : Room (Distances (c .item2 .given .0 .0)) (entry2 .args .s) (entry2 .args .bytes .now) (buffers (entry2 .args .lengths .now) (entry2 .args .kinds .now) (entry2 .args .points .now) (entry2 .args .distances .now))
+  distances-room : Room (Distances (c .item2 .given .0 .0)) (entry2 .args .n) (entry2 .args .bytes .now) (buffers (entry2 .args .lengths .now) (entry2 .args .kinds .now) (entry2 .args .points .now) (entry2 .args .distances .now))
   distances-room = room entry2 (Distances (c .item2 .given .0 .0)) (c .item2 .given .1)
 
 enum-told : tie.Need-enum-told
@@ -169,7 +169,7 @@ returns-3 : tie.Need-returns-3
 unfolding written
 returns-3 c =
     let made = c .before .before .before .before .before in
-    let i = entry (chosen made) .args .s .edges in
+    let i = entry (chosen made) .args .n .edges in
     let eight : 8 * i + 8 - 8 * i ≡ 8 = omega arith in
     let size : 2 + 16 * made .controls .result - 2 ≡ 16 * controls (kind (chosen made)) = omega (arith, end-is made) in
     rw (chosen made .item .given .1)

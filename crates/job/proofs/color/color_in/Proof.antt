@@ -1,18 +1,20 @@
 -- `job::color::color_in` meets its contract: the refusal of reading, or the colouring of what was read.
-use mathlib.Core.Path.{sym, _∙_}
+use mathlib.Core.Path.{_≡_, sym, _∙_}
 use mathlib.Core.List.{List}
 use Prim.Native.Nat.{ℕ}
 use native.Mathlib.Omega.{arith}
 use lib.Seq.{length-take-le}
 use Rattle.coloring.specs.Outline.{Result, result}
-use Rattle.job.specs.declared.progress.Numbers.{Numbers}
+use Rattle.job.specs.declared.progress.Read.the-variants as read
+use Rattle.job.specs.Job.{readJob}
+use Rattle.job.specs.Progress.{answerOf}
 use Rattle.job.specs.Buffers.{Buffers, buffers}
-use Rattle.job.proofs.color.ColorLaws.{Holding, read-job, read-refused, held-colored, edges-most, contours-within, kinds-within, places-within, distances-within}
+use Rattle.job.proofs.color.ColorLaws.{Holding, fits-jobs, holding-of, color-refused, held-colored, edges-most, contours-within, kinds-within, places-within, distances-within}
 use borrow.Author.Needs.{needs}
 use Rattle.job.proofs.color.color_in.Statement.{statement}
 use Rattle.job.proofs.color.color_in.Tie as tie
 
--- the file, the places for its job, and the result buffers as they came
+-- the file, the places for its job, and those for the result
 module _ (c : tie.Start) where
   abbrev file : List ℕ
   file = c .args .file .now
@@ -23,69 +25,76 @@ module _ (c : tie.Start) where
   abbrev out : Result
   out = result (c .args .out-lengths .now) (c .args .out-kinds .now) (c .args .out-points .now) (c .args .out-colors .now)
 
--- from what the match looks at back to the reading, and from there to the start
-abbrev read-here : tie.After-slice-known12 → tie.After-read
-read-here c =
-    let place = c .before .before .before .before .before .before .before .before in
-    place
-
-abbrev began : tie.After-read → tie.Start
+abbrev began : tie.After-scan → tie.Start
 began c =
-    let place = c .before .before .before .before .before .before .before .before .before .before .before .before .before .before in
+    let place = c .before .before .before .before .before .before .before .before .before .before in
     place
 
 -- a file that was read
 module _ (c : tie.After-n) where
-  abbrev reading : tie.After-read
-  reading = read-here (c .before .before)
+  abbrev begun : tie.Start
+  begun = began (c .before .before)
+
+  told : read.Job (c .n .given .0 .0) ≡ answerOf (readJob (file begun))
+  told = sym (c .n .given .1) ∙ c .before .before .scan .ensures
+
+-- its job, written into the places
+module _ (c : tie.After-slice-known12) where
+  abbrev wrote : tie.After-fill
+  wrote = c .before .before .before .before .before .before .before .before
+
+  abbrev chosen : tie.After-n
+  chosen = wrote .before .before .before .before .before .before
 
   abbrev start : tie.Start
-  start = began reading
+  start = begun chosen
 
-  abbrev numbers : Numbers
-  numbers = c .n .given .0 .0
+  holding : Holding (file start) (chosen .n .given .0 .0) (old start) (wrote .fill .last .1 .0) (wrote .fill .last .1 .1 .0) (wrote .fill .last .1 .1 .1 .0) (wrote .fill .last .1 .1 .1 .1 .0)
+  holding = holding-of _ _ _ (told chosen) _ _ _ _ (wrote .fill .ensures)
 
-  holding : Holding (file start) numbers (old start) (reading .read .last .1 .0) (reading .read .last .1 .1 .0) (reading .read .last .1 .1 .1 .0) (reading .read .last .1 .1 .1 .1 .0)
-  holding =
-      read-job (file start) (old start) (start .pre) _ _ _ _ (reading .read .result) numbers (c .n .given .1) (reading .read .ensures)
+abbrev stored-at : tie.After-float → tie.After-slice-known12
+stored-at c = c .before .before
 
-read-requires : tie.Need-read-requires
-read-requires c κs = search needs
+scan-requires : tie.Need-scan-requires
+scan-requires c κs = search needs
 
 enum-known-n : tie.Need-enum-known-n
 enum-known-n c = search needs
 
+fill-requires : tie.Need-fill-requires
+fill-requires c κs =
+    let n = c .before .before .before .before .before in
+    fits-jobs _ _ _ (told n) (begun n .pre)
+
 mul-places : tie.Need-mul-places
-mul-places c = omega (arith, edges-most (holding (c .before)))
+mul-places c = omega (arith, edges-most (holding c))
 
 float-requires : tie.Need-float-requires
 float-requires c κs = search needs
 
 slice-reshare-prefix-color-stored : tie.Need-slice-reshare-prefix-color-stored
-slice-reshare-prefix-color-stored c = contours-within (holding (c .before .before))
+slice-reshare-prefix-color-stored c = contours-within (holding (stored-at c))
 
 slice-aggregate-color-stored : tie.Need-slice-aggregate-color-stored
-slice-aggregate-color-stored c = sym (length-take-le _ _ (contours-within (holding (c .before .before .before))))
+slice-aggregate-color-stored c = sym (length-take-le _ _ (contours-within (holding (stored-at (c .before)))))
 
 slice-reshare-prefix-color-stored-2 : tie.Need-slice-reshare-prefix-color-stored-2
-slice-reshare-prefix-color-stored-2 c = kinds-within (holding (c .before .before .before))
+slice-reshare-prefix-color-stored-2 c = kinds-within (holding (stored-at (c .before)))
 
 slice-aggregate-color-stored-2 : tie.Need-slice-aggregate-color-stored-2
-slice-aggregate-color-stored-2 c = sym (length-take-le _ _ (kinds-within (holding (c .before .before .before .before))))
+slice-aggregate-color-stored-2 c = sym (length-take-le _ _ (kinds-within (holding (stored-at (c .before .before)))))
 
 slice-reshare-prefix-color-stored-3 : tie.Need-slice-reshare-prefix-color-stored-3
-slice-reshare-prefix-color-stored-3 c = places-within (holding (c .before .before .before .before))
+slice-reshare-prefix-color-stored-3 c = places-within (holding (stored-at (c .before .before)))
 
 slice-aggregate-color-stored-3 : tie.Need-slice-aggregate-color-stored-3
-slice-aggregate-color-stored-3 c = sym (length-take-le _ _ (places-within (holding (c .before .before .before .before .before))))
+slice-aggregate-color-stored-3 c = sym (length-take-le _ _ (places-within (holding (stored-at (c .before .before .before)))))
 
 slice-reshare-prefix-color-stored-4 : tie.Need-slice-reshare-prefix-color-stored-4
-slice-reshare-prefix-color-stored-4 c = distances-within (holding (c .before .before .before .before .before))
+slice-reshare-prefix-color-stored-4 c = distances-within (holding (stored-at (c .before .before .before)))
 
 slice-aggregate-color-stored-4 : tie.Need-slice-aggregate-color-stored-4
-slice-aggregate-color-stored-4 c =
-    let read = c .before .before .before .before .before in
-    sym (length-take-le _ _ (distances-within (holding (read .before))))
+slice-aggregate-color-stored-4 c = sym (length-take-le _ _ (distances-within (holding (stored-at (c .before .before .before .before)))))
 
 color-stored-requires : tie.Need-color-stored-requires
 color-stored-requires c κs = search needs
@@ -121,33 +130,18 @@ returns : tie.Need-returns
 returns c =
     let colored = c .before .before .before .before .before .before .before .before in
     let float = colored .before .before .before .before .before .before .before .before .before in
-    let read = float .before .before in
-    colored .color-stored .ensures ∙ held-colored (holding read) (float .float .result) (out (start read)) (float .float .ensures)
-
-same-length-9 : tie.Need-same-length-9
-same-length-9 c = search needs
-
-same-length-10 : tie.Need-same-length-10
-same-length-10 c = search needs
-
-same-length-11 : tie.Need-same-length-11
-same-length-11 c = search needs
-
-same-length-12 : tie.Need-same-length-12
-same-length-12 c = search needs
+    colored .color-stored .ensures ∙ held-colored (holding (stored-at float)) (float .float .result) (out (start (stored-at float))) (float .float .ensures)
 
 returns-2 : tie.Need-returns-2
-returns-2 c =
-    let s = began (read-here (c .before .before .before)) in
-    let reading = read-here (c .before .before .before) in
-    read-refused (file s) (old s) (s .pre) _ _ _ _ (reading .read .result) (c .before .refusal .given .0 .0) (out s) (c .before .refusal .given .1) (reading .read .ensures)
+returns-2 c = color-refused _ _ _ (sym (c .before .refusal .given .1) ∙ c .before .before .before .scan .ensures)
 
 pub color-in-spec : {M : Type 1} → statement M
 color-in-spec =
     tie.close
     (tie.spec
-    read-requires
+    scan-requires
     enum-known-n
+    fill-requires
     mul-places
     float-requires
     slice-reshare-prefix-color-stored
@@ -169,8 +163,4 @@ color-in-spec =
     same-length-7
     same-length-8
     returns
-    same-length-9
-    same-length-10
-    same-length-11
-    same-length-12
     returns-2)

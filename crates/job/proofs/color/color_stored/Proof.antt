@@ -1,12 +1,26 @@
 -- `job::color::color_stored` meets its contract, strategy by strategy.
-use borrow.Author.Tests.{eq-eqb, ne-eqb}
 use Rattle.job.specs.Color.{colorStored}
 use borrow.Author.Needs.{needs}
 use Rattle.job.proofs.color.color_stored.Statement.{statement}
 use Rattle.job.proofs.color.color_stored.Tie as tie
 
+enum-told : tie.Need-enum-told
+enum-told c = search needs
+
 edge-coloring-simple-requires : tie.Need-edge-coloring-simple-requires
 edge-coloring-simple-requires c κs = search needs
+
+enum-told-2 : tie.Need-enum-told-2
+enum-told-2 c = search needs
+
+edge-coloring-ink-trap-requires : tie.Need-edge-coloring-ink-trap-requires
+edge-coloring-ink-trap-requires c κs = search needs
+
+enum-told-3 : tie.Need-enum-told-3
+enum-told-3 c = search needs
+
+edge-coloring-by-distance-requires : tie.Need-edge-coloring-by-distance-requires
+edge-coloring-by-distance-requires c κs = search needs
 
 same-length : tie.Need-same-length
 same-length c = search needs
@@ -24,11 +38,8 @@ returns : tie.Need-returns
 unfolding colorStored
 returns c =
     let colored = c .before .before .before .before .before .before .before .before in
-    let first = colored .before .before .before .before .before in
-    rw (eq-eqb _ 1 (first .if1 .taken)) (colored .edge-coloring-simple .ensures)
-
-edge-coloring-ink-trap-requires : tie.Need-edge-coloring-ink-trap-requires
-edge-coloring-ink-trap-requires c κs = search needs
+    let arm = colored .before .before .before .before .before in
+    rw (arm .enum-told .given .1) (colored .edge-coloring-simple .ensures)
 
 same-length-5 : tie.Need-same-length-5
 same-length-5 c = search needs
@@ -46,11 +57,8 @@ returns-2 : tie.Need-returns-2
 unfolding colorStored
 returns-2 c =
     let colored = c .before .before .before .before .before .before .before .before in
-    let second = colored .before .before .before .before .before in
-    rw (ne-eqb _ 1 (second .before .if1 .left), eq-eqb _ 2 (second .if2 .taken)) (colored .edge-coloring-ink-trap .ensures)
-
-edge-coloring-by-distance-requires : tie.Need-edge-coloring-by-distance-requires
-edge-coloring-by-distance-requires c κs = search needs
+    let arm = colored .before .before .before .before .before in
+    rw (arm .enum-told2 .given .1) (colored .edge-coloring-ink-trap .ensures)
 
 same-length-9 : tie.Need-same-length-9
 same-length-9 c = search needs
@@ -68,26 +76,29 @@ returns-3 : tie.Need-returns-3
 unfolding colorStored
 returns-3 c =
     let colored = c .before .before .before .before .before .before .before .before in
-    let third = colored .before .before .before .before .before in
-    rw (ne-eqb _ 1 (third .before .if1 .left), ne-eqb _ 2 (third .if2 .left)) (colored .edge-coloring-by-distance .ensures)
+    let arm = colored .before .before .before .before .before in
+    rw (arm .enum-told3 .given .1) (colored .edge-coloring-by-distance .ensures)
 
 pub color-stored-spec : {M : Type 1} → statement M
 color-stored-spec =
     tie.close
     (tie.spec
+    enum-told
     edge-coloring-simple-requires
+    enum-told-2
+    edge-coloring-ink-trap-requires
+    enum-told-3
+    edge-coloring-by-distance-requires
     same-length
     same-length-2
     same-length-3
     same-length-4
     returns
-    edge-coloring-ink-trap-requires
     same-length-5
     same-length-6
     same-length-7
     same-length-8
     returns-2
-    edge-coloring-by-distance-requires
     same-length-9
     same-length-10
     same-length-11

@@ -7,14 +7,14 @@ use lib.ListN.{length}
 use lib.Seq.{length-take-le}
 use Rattle.graph.specs.Lists.{over}
 use Rattle.job.specs.Listing.{fileText}
-use Rattle.job.proofs.listing.PasteLaws.{pasted-front, pasted-over}
-use Rattle.job.proofs.AnswerLaws.{text-few, list-short, list-fits}
+use Rattle.job.proofs.listing.PasteLaws.{pasted-over}
+use Rattle.job.proofs.AnswerLaws.{take-over, list-short, list-fits}
 use borrow.Author.Needs.{needs}
 use Rattle.job.proofs.listing.listing.Statement.{statement}
 use Rattle.job.proofs.listing.listing.Tie as tie
 
 -- the text, as long as its place says
-module _ (c : tie.After-write-text) where
+module _ (c : tie.After-text) where
   abbrev start : tie.Start
   start = c .before .before .before .before
 
@@ -24,33 +24,30 @@ module _ (c : tie.After-write-text) where
   abbrev out : List ℕ
   out = start .args .out .now
 
-  counted : c .write-text .result ≡ length (fileText file)
-  counted = omega (arith, c .write-text .ensures .place)
+  counted : c .text .result ≡ length (fileText file)
+  counted = c .text .ensures .counts
 
-  short : c .write-text .result ≤ length (c .write-text .last .1 .0)
-  short = omega (arith, counted, text-few file, c .write-text .kept .1 .0)
+  short : c .text .result ≤ length (c .text .last .1 .0)
+  short = c .text .ensures .within
 
-slice-aggregate-write-text : tie.Need-slice-aggregate-write-text
-slice-aggregate-write-text c = search needs
-
-write-text-requires : tie.Need-write-text-requires
-write-text-requires c κs = search needs
+text-requires : tie.Need-text-requires
+text-requires c κs = search needs
 
 returns : tie.Need-returns
 returns c =
-    let written = c .before .before in
-    list-short (file written) (out written) (written .write-text .result) (counted written) (c .if1 .taken)
+    let written = c .before in
+    list-short (file written) (out written) (written .text .result) (counted written) (c .if1 .taken)
 
-array-share-prefix-text : tie.Need-array-share-prefix-text
-array-share-prefix-text c = short (c .before .before .before)
+array-share-prefix-whole : tie.Need-array-share-prefix-whole
+array-share-prefix-whole c = short (c .before .before)
 
 slice-aggregate-put-word : tie.Need-slice-aggregate-put-word
-slice-aggregate-put-word c = sym (length-take-le _ _ (short (c .before .before .before .before)))
+slice-aggregate-put-word c = sym (length-take-le _ _ (short (c .before .before .before)))
 
 put-word-requires : tie.Need-put-word-requires
 put-word-requires c κs =
-    let written = c .before .before .before .before in
-    omega (arith, length-take-le (written .write-text .result) (written .write-text .last .1 .0) (short written), c .before .before .if1 .left)
+    let written = c .before .before .before in
+    omega (arith, length-take-le (written .text .result) (written .text .last .1 .0) (short written), c .before .before .if1 .left)
 
 same-length : tie.Need-same-length
 same-length c = search needs
@@ -58,19 +55,18 @@ same-length c = search needs
 returns-2 : tie.Need-returns-2
 returns-2 c =
     let put = c .before .before in
-    let written = put .before .before .before .before .before in
+    let written = put .before .before .before .before in
     let fits = put .before .before .before .if1 .left in
-    list-fits (file written) (out written) (written .write-text .result) (counted written) (put .put-word .last .0) (omega arith)
-    (pasted-over (put .put-word .ensures) ∙ ap (λ (text : List ℕ). over text (out written)) (pasted-front (written .write-text .ensures)))
+    list-fits (file written) (out written) (written .text .result) (counted written) (put .put-word .last .0) (omega arith)
+    (pasted-over (put .put-word .ensures) ∙ ap (λ (text : List ℕ). over text (out written)) (take-over (fileText (file written)) _ (written .text .ensures .holds) (counted written)))
 
 pub listing-spec : {M : Type 1} → statement M
 listing-spec =
     tie.close
     (tie.spec
-    slice-aggregate-write-text
-    write-text-requires
+    text-requires
     returns
-    array-share-prefix-text
+    array-share-prefix-whole
     slice-aggregate-put-word
     put-word-requires
     same-length

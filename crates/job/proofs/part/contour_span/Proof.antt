@@ -6,11 +6,10 @@ use native.Mathlib.Omega.{arith}
 use lib.ListN.{length, drop}
 use borrow.Author.Needs.{needs}
 use Rattle.job.specs.declared.progress.Progress.{Progress}
-use Rattle.job.specs.Records.{itemOf, foundOf, readRecord}
-use Rattle.job.specs.Progress.{advanced}
+use Rattle.job.specs.Records.{foundOf, readRecord}
 use Rattle.job.proofs.records.RecordLaws.{part-after}
 use Rattle.job.proofs.records.ReadingLaws.{Read-as, found-item, found-end, found-fails}
-use Rattle.job.proofs.progress.ProgressLaws.{counts, further, reached-next}
+use Rattle.job.proofs.progress.ProgressLaws.{counts-on, less-on}
 use Rattle.job.proofs.part.PartLaws.{Seeking, seeking-begin, seeking-next, seeking-end, seeking-fault, seeking-inside}
 use Rattle.job.proofs.part.contour_span.Statement.{statement}
 use Rattle.job.proofs.part.contour_span.Tie as tie
@@ -43,8 +42,8 @@ module _ (c : tie.After-item Inv-loop μ-loop) where
   abbrev found : tie.After-read-record Inv-loop μ-loop
   found = c .before .before
 
-  as-read : Read-as (readRecord (p found .state) (drop (p found .at) (file found))) (c .item .given .0 .0)
-  as-read = found-item _ _ (sym (c .item .given .1) ∙ read found)
+  as-read : Read-as (readRecord (p found .state) (drop (p found .at) (file found))) (c .item .given .0 .0) (c .item .given .0 .1 .0)
+  as-read = found-item _ _ _ (sym (c .item .given .1) ∙ read found)
 
 begin-requires : tie.Need-begin-requires Inv-loop μ-loop
 begin-requires c κs = search needs
@@ -71,27 +70,16 @@ sought-requires : tie.Need-sought-requires Inv-loop μ-loop
 sought-requires c κs = search needs
 
 advance-requires : tie.Need-advance-requires Inv-loop μ-loop
-advance-requires c κs =
-    let i = c .before .before in
-    let a = as-read i in
-    let f = found i in
-    rw (← a .is-item) (counts (file f) (p f) (at f .loop .inv .at) (a .r) (a .rest) (a .is-next) (omega arith))
+advance-requires c κs = let i = c .before .before in counts-on _ _ (at (found i) .loop .inv .at) (as-read i) (omega arith)
 
 loop-less : tie.Need-loop-less Inv-loop μ-loop
-loop-less c =
-    let i = c .before .before .before in
-    let a = as-read i in
-    let f = found i in
-    let moved : c .advance .result ≡ advanced (p f) (itemOf (a .r)) = c .advance .ensures ∙ ap (advanced (p f)) (sym (a .is-item)) in
-    let more = further (file f) (p f) (at f .loop .inv .at) (a .r) (a .rest) (a .is-next) in
-    let still = reached-next (file f) (p f) (at f .loop .inv .at) (a .r) (a .rest) (a .is-next) in
-    rw moved (omega (arith, more, still .within))
+loop-less c = let i = c .before .before .before in rw (c .advance .ensures) (less-on _ _ (at (found i) .loop .inv .at) (as-read i))
 
 loop-again : tie.Need-loop-again Inv-loop μ-loop
 loop-again c =
     let i = c .before .before .before in
     let f = found i in
-    rw (c .advance .ensures, c .before .sought .ensures) (seeking-next (file f) (number f) (p f) (at f .loop .q) (at f .loop .inv) (i .item .given .0 .0) (as-read i))
+    rw (c .advance .ensures, c .before .sought .ensures) (seeking-next (file f) (number f) (p f) (at f .loop .q) (at f .loop .inv) _ _ (as-read i))
 
 enum-told : tie.Need-enum-told Inv-loop μ-loop
 enum-told c = search needs

@@ -6,12 +6,12 @@ use mathlib.Core.List.{List}
 use lib.ListN.{length, drop}
 use borrow.Author.Needs.{needs}
 use Rattle.job.specs.declared.progress.Progress.{Progress}
-use Rattle.job.specs.Records.{itemOf, foundOf, readRecord}
+use Rattle.job.specs.Records.{foundOf, readRecord}
 use Rattle.job.specs.declared.progress.Read.the-variants.{Job}
-use Rattle.job.specs.Progress.{advanced, answerOf}
+use Rattle.job.specs.Progress.{answerOf}
 use Rattle.job.proofs.records.RecordLaws.{part-after}
 use Rattle.job.proofs.records.ReadingLaws.{Read-as, found-item, found-end, found-fails}
-use Rattle.job.proofs.progress.ProgressLaws.{Reached, reached-begin, counts, further, reached-next, reached-end, reached-fault, numbers-are}
+use Rattle.job.proofs.progress.ProgressLaws.{Reached, reached-begin, counts-on, less-on, reached-on, reached-end, reached-fault}
 use Rattle.job.proofs.progress.scan.Statement.{statement}
 use Rattle.job.proofs.progress.scan.Tie as tie
 
@@ -40,8 +40,8 @@ module _ (c : tie.After-item Inv-loop μ-loop) where
   abbrev found : tie.After-read-record Inv-loop μ-loop
   found = c .before .before
 
-  as-read : Read-as (readRecord (p found .state) (drop (p found .at) (file found))) (c .item .given .0 .0)
-  as-read = found-item _ _ (sym (c .item .given .1) ∙ read found)
+  as-read : Read-as (readRecord (p found .state) (drop (p found .at) (file found))) (c .item .given .0 .0) (c .item .given .0 .1 .0)
+  as-read = found-item _ _ _ (sym (c .item .given .1) ∙ read found)
 
 begin-requires : tie.Need-begin-requires Inv-loop μ-loop
 begin-requires c κs = search needs
@@ -65,37 +65,22 @@ enum-known-item : tie.Need-enum-known-item Inv-loop μ-loop
 enum-known-item c = search needs
 
 advance-requires : tie.Need-advance-requires Inv-loop μ-loop
-advance-requires c κs =
-    let a = as-read (c .before) in
-    let f = found (c .before) in
-    rw (← a .is-item) (counts (file f) (p f) (at f .loop .inv) (a .r) (a .rest) (a .is-next) (omega arith))
+advance-requires c κs = counts-on _ _ (at (found (c .before)) .loop .inv) (as-read (c .before)) (omega arith)
 
 loop-less : tie.Need-loop-less Inv-loop μ-loop
-loop-less c =
-    let a = as-read (c .before .before) in
-    let f = found (c .before .before) in
-    let next : c .advance .result ≡ advanced (p f) (itemOf (a .r)) = c .advance .ensures ∙ ap (advanced (p f)) (sym (a .is-item)) in
-    let more = further (file f) (p f) (at f .loop .inv) (a .r) (a .rest) (a .is-next) in
-    let still = reached-next (file f) (p f) (at f .loop .inv) (a .r) (a .rest) (a .is-next) in
-    rw next (omega (arith, more, still .within))
+loop-less c = rw (c .advance .ensures) (less-on _ _ (at (found (c .before .before)) .loop .inv) (as-read (c .before .before)))
 
 loop-again : tie.Need-loop-again Inv-loop μ-loop
-loop-again c =
-    let a = as-read (c .before .before) in
-    let f = found (c .before .before) in
-    rw (c .advance .ensures, ← a .is-item) (reached-next (file f) (p f) (at f .loop .inv) (a .r) (a .rest) (a .is-next))
+loop-again c = rw (c .advance .ensures) (reached-on _ _ (at (found (c .before .before)) .loop .inv) (as-read (c .before .before)))
 
 enum-told : tie.Need-enum-told Inv-loop μ-loop
 enum-told c = search needs
-
-numbers-at-requires : tie.Need-numbers-at-requires Inv-loop μ-loop
-numbers-at-requires c κs = search needs
 
 returns : tie.Need-returns Inv-loop μ-loop
 returns c =
     let f = c .before .before .before in
     let at-end = found-end _ (sym (c .before .enum-told .given .1) ∙ read f) in
-    ap Job (c .numbers-at .ensures ∙ numbers-are (file f) (p f) (at f .loop .inv)) ∙ ap answerOf (reached-end (file f) (p f) (at f .loop .inv) at-end)
+    ap Job (at f .loop .inv .numbers-are) ∙ ap answerOf (reached-end (file f) (p f) (at f .loop .inv) at-end)
 
 enum-known-refusal : tie.Need-enum-known-refusal Inv-loop μ-loop
 enum-known-refusal c = search needs
@@ -123,7 +108,6 @@ scan-spec =
     loop-less
     loop-again
     enum-told
-    numbers-at-requires
     returns
     enum-known-refusal
     returns-2)

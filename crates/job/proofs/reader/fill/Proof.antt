@@ -6,12 +6,12 @@ use native.Mathlib.Omega.{arith}
 use lib.ListN.{length, drop}
 use borrow.Author.Needs.{needs}
 use Rattle.job.specs.declared.progress.Progress.{Progress}
-use Rattle.job.specs.Records.{itemOf, foundOf, readRecord}
+use Rattle.job.specs.Records.{foundOf, readRecord}
 use Rattle.job.specs.Buffers.{Buffers, buffers, written, Hold, Room}
 use Rattle.job.specs.Progress.{advanced}
 use Rattle.job.proofs.records.RecordLaws.{part-after}
 use Rattle.job.proofs.records.ReadingLaws.{Read-as, found-item, found-end, found-fails}
-use Rattle.job.proofs.progress.ProgressLaws.{counts, further, reached-next}
+use Rattle.job.proofs.progress.ProgressLaws.{counts-on, less-on}
 use Rattle.job.proofs.reader.FillLaws.{Filling, filling-begin, filling-room, filling-next, filling-end, filling-fault}
 use Rattle.job.proofs.reader.fill.Statement.{statement}
 use Rattle.job.proofs.reader.fill.Tie as tie
@@ -47,30 +47,30 @@ module _ (c : tie.After-item Inv-loop μ-loop) where
   abbrev found : tie.After-read-record Inv-loop μ-loop
   found = c .before .before
 
-  as-read : Read-as (readRecord (p found .state) (drop (p found .at) (file found))) (c .item .given .0 .0)
-  as-read = found-item _ _ (sym (c .item .given .1) ∙ read found)
+  as-read : Read-as (readRecord (p found .state) (drop (p found .at) (file found))) (c .item .given .0 .0) (c .item .given .0 .1 .0)
+  as-read = found-item _ _ _ (sym (c .item .given .1) ∙ read found)
 
-  has-room : Room (c .item .given .0 .0) (p found .state) (drop (p found .at) (file found)) (buffers (at found .loop .lengths) (at found .loop .kinds) (at found .loop .points) (at found .loop .distances))
+  has-room : Room (c .item .given .0 .0) (p found .state .numbers) (drop (p found .at) (file found)) (buffers (at found .loop .lengths) (at found .loop .kinds) (at found .loop .points) (at found .loop .distances))
   has-room =
       filling-room (file found) (old found) (start found .pre) (p found) (at found .loop .lengths) (at found .loop .kinds) (at found .loop .points) (at found .loop .distances)
-      (at found .loop .inv) (c .item .given .0 .0) as-read
+      (at found .loop .inv) _ _ as-read
 
 -- the record, written
 module _ (c : tie.After-write-item Inv-loop μ-loop) where
   abbrev chosen : tie.After-item Inv-loop μ-loop
-  chosen = c .before .before .before .before .before .before .before
+  chosen = c .before .before .before .before .before .before .before .before
 
   abbrev turn : tie.At-loop Inv-loop μ-loop
   turn = at (found chosen)
 
-  next : Filling (file (found chosen)) (old (found chosen)) (advanced (p (found chosen)) (chosen .item .given .0 .0))
+  next : Filling (file (found chosen)) (old (found chosen)) (advanced (p (found chosen)) (chosen .item .given .0 .0) (chosen .item .given .0 .1 .0))
       (c .write-item .last .1 .1 .1 .0) (c .write-item .last .1 .1 .1 .1 .0) (c .write-item .last .1 .1 .1 .1 .1 .0) (c .write-item .last .1 .1 .1 .1 .1 .1 .0)
   next =
       let f = found chosen in
       let item = chosen .item .given .0 .0 in
-      filling-next (file f) (old f) (start f .pre) (p f) (turn .loop .lengths) (turn .loop .kinds) (turn .loop .points) (turn .loop .distances) (turn .loop .inv) item (as-read chosen)
+      filling-next (file f) (old f) (start f .pre) (p f) (turn .loop .lengths) (turn .loop .kinds) (turn .loop .points) (turn .loop .distances) (turn .loop .inv) item _ (as-read chosen)
       (c .write-item .last .1 .1 .1 .0) (c .write-item .last .1 .1 .1 .1 .0) (c .write-item .last .1 .1 .1 .1 .1 .0) (c .write-item .last .1 .1 .1 .1 .1 .1 .0)
-      (subst (λ (x : List ℕ). Hold (written item (p f .state) x (buffers (turn .loop .lengths) (turn .loop .kinds) (turn .loop .points) (turn .loop .distances))) (c .write-item .last .1 .1 .1 .0) (c .write-item .last .1 .1 .1 .1 .0) (c .write-item .last .1 .1 .1 .1 .1 .0) (c .write-item .last .1 .1 .1 .1 .1 .1 .0))
+      (subst (λ (x : List ℕ). Hold (written item (p f .state .numbers) x (buffers (turn .loop .lengths) (turn .loop .kinds) (turn .loop .points) (turn .loop .distances))) (c .write-item .last .1 .1 .1 .0) (c .write-item .last .1 .1 .1 .1 .0) (c .write-item .last .1 .1 .1 .1 .1 .0) (c .write-item .last .1 .1 .1 .1 .1 .1 .0))
       (part-after (p f .at) (file f)) (c .write-item .ensures))
       (c .write-item .kept .1 .1 .1 .0) (c .write-item .kept .1 .1 .1 .1 .0) (c .write-item .kept .1 .1 .1 .1 .1 .0) (c .write-item .kept .1 .1 .1 .1 .1 .1 .0)
 
@@ -96,39 +96,32 @@ enum-known-item : tie.Need-enum-known-item Inv-loop μ-loop
 enum-known-item c = search needs
 
 sub-write-item : tie.Need-sub-write-item Inv-loop μ-loop
-sub-write-item c = at (found (c .before)) .loop .inv .at .within
+sub-write-item c = at (found (c .before .before)) .loop .inv .at .within
 
 part-write-item-start : tie.Need-part-write-item-start Inv-loop μ-loop
-part-write-item-start c = at (found (c .before)) .loop .inv .at .within
+part-write-item-start c = at (found (c .before .before)) .loop .inv .at .within
 
 part-write-item-end : tie.Need-part-write-item-end Inv-loop μ-loop
 part-write-item-end c = omega arith
 
 write-item-requires : tie.Need-write-item-requires Inv-loop μ-loop
 write-item-requires c κs =
-    let i = c .before .before .before .before .before .before in
+    let i = c .before .before .before .before .before .before .before in
     let f = found i in
-    subst (λ (x : List ℕ). Room (i .item .given .0 .0) (p f .state) x (buffers (at f .loop .lengths) (at f .loop .kinds) (at f .loop .points) (at f .loop .distances)))
+    subst (λ (x : List ℕ). Room (i .item .given .0 .0) (p f .state .numbers) x (buffers (at f .loop .lengths) (at f .loop .kinds) (at f .loop .points) (at f .loop .distances)))
     (sym (part-after (p f .at) (file f))) (has-room i)
 
 advance-requires : tie.Need-advance-requires Inv-loop μ-loop
 advance-requires c κs =
     let place = c .before .before .before .before .before .before .before .before in
     let i = chosen place in
-    let a = as-read i in
-    let f = found i in
-    rw (← a .is-item) (counts (file f) (p f) (at f .loop .inv .at) (a .r) (a .rest) (a .is-next) (omega (arith, start f .good)))
+    counts-on _ _ (at (found i) .loop .inv .at) (as-read i) (omega (arith, start (found i) .good))
 
 loop-less : tie.Need-loop-less Inv-loop μ-loop
 loop-less c =
     let place = c .before .before .before .before .before .before .before .before .before in
     let i = chosen place in
-    let a = as-read i in
-    let f = found i in
-    let moved : c .advance .result ≡ advanced (p f) (itemOf (a .r)) = c .advance .ensures ∙ ap (advanced (p f)) (sym (a .is-item)) in
-    let more = further (file f) (p f) (at f .loop .inv .at) (a .r) (a .rest) (a .is-next) in
-    let still = reached-next (file f) (p f) (at f .loop .inv .at) (a .r) (a .rest) (a .is-next) in
-    rw moved (omega (arith, more, still .within))
+    rw (c .advance .ensures) (less-on _ _ (at (found i) .loop .inv .at) (as-read i))
 
 loop-again : tie.Need-loop-again Inv-loop μ-loop
 loop-again c =

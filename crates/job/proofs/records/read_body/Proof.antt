@@ -1,7 +1,9 @@
 -- `job::records::read_body` meets its contract, mark by mark.
-use mathlib.Core.Path.{sym, ap, _∙_}
+use mathlib.Core.Path.{_≡_, sym, ap, _∙_}
+use native.Mathlib.Omega.{arith}
+use lib.ListN.{length}
 use Rattle.job.specs.Records.{readBody, bodySize}
-use Rattle.job.proofs.records.RecordLaws.{header-rest, edge-rest}
+use Rattle.job.proofs.records.RecordLaws.{header-rest, edge-rest, size-is}
 use borrow.Author.Needs.{needs}
 use Rattle.job.proofs.records.read_body.Statement.{statement}
 use Rattle.job.proofs.records.read_body.Tie as tie
@@ -14,6 +16,13 @@ read-header-requires c κs = c .before .before .before .before .pre ∙ ap bodyS
 
 enum-told-2 : tie.Need-enum-told-2
 enum-told-2 c = search needs
+
+-- nothing follows CT
+contour-body : (c : tie.After-enum-told2) → length (c .before .before .before .before .args .body .now) ≡ 0
+contour-body c = c .before .before .before .before .pre ∙ ap bodySize (c .enum-told2 .given .1)
+
+add-t8 : tie.Need-add-t8
+add-t8 c = omega (arith, contour-body c)
 
 enum-known-mark : tie.Need-enum-known-mark
 enum-known-mark c = search needs
@@ -39,7 +48,7 @@ returns c = rw (c .before .enum-told .given .1) (c .read-header .ensures ∙ sym
 
 returns-2 : tie.Need-returns-2
 unfolding readBody
-returns-2 c = rw (c .enum-told2 .given .1)
+returns-2 c = rw (c .enum-told2 .given .1, size-is, contour-body c)
 
 returns-3 : tie.Need-returns-3
 unfolding readBody
@@ -62,6 +71,7 @@ read-body-spec =
     enum-told
     read-header-requires
     enum-told-2
+    add-t8
     enum-known-mark
     read-edge-requires
     enum-told-3

@@ -1,7 +1,9 @@
 -- `job::records::read_distances` meets its contract: the count, the bytes that it asks for, then the distances.
+use mathlib.Core.Path.{sym, _∙_}
+use native.Mathlib.Omega.{arith}
 use Rattle.job.specs.Records.{readDistances}
 use borrow.Author.Tests.{le-leb, lt-leb}
-use Rattle.job.proofs.patterns.PatternLaws.{floats-length}
+use Rattle.job.proofs.records.RecordLaws.{distances-found}
 use borrow.Author.Needs.{needs}
 use Rattle.job.proofs.records.read_distances.Statement.{statement}
 use Rattle.job.proofs.records.read_distances.Tie as tie
@@ -23,11 +25,20 @@ returns-2 c = rw (← c .before .before .number .ensures, le-leb _ 2016 (c .befo
 words-within-requires : tie.Need-words-within-requires
 words-within-requires c κs = search needs
 
+add-t14 : tie.Need-add-t14
+add-t14 c = search needs
+
+mul-t15 : tie.Need-mul-t15
+mul-t15 c = search needs
+
+add-t16 : tie.Need-add-t16
+add-t16 c = search needs
+
 returns-3 : tie.Need-returns-3
-unfolding readDistances
 returns-3 c =
-    let start = c .before .before .before .before .before .before .before in
-    rw (← c .before .before .before .before .number .ensures, le-leb _ 2016 (c .before .before .before .if1 .left), le-leb _ _ (c .before .before .if2 .left), ← c .before .words-within .ensures, c .if3 .taken, floats-length (c .before .before .before .before .number .result) (start .args .rest .now))
+    let counted = c .before .before .before .before in
+    distances-found _ _ _ _ (counted .number .ensures) (le-leb _ 2016 (c .before .before .before .if1 .left)) (le-leb _ _ (c .before .before .if2 .left))
+    (sym (c .before .words-within .ensures) ∙ c .if3 .taken) (omega (arith, counted .before .before .before .pre))
 
 returns-4 : tie.Need-returns-4
 unfolding readDistances
@@ -36,4 +47,4 @@ returns-4 c = rw (← c .before .before .before .before .number .ensures, le-leb
 pub read-distances-spec : {M : Type 1} → statement M
 read-distances-spec =
     tie.close
-    (tie.spec number-requires returns mul-if2 returns-2 words-within-requires returns-3 returns-4)
+    (tie.spec number-requires returns mul-if2 returns-2 words-within-requires add-t14 mul-t15 add-t16 returns-3 returns-4)

@@ -14,8 +14,8 @@ use borrow.Author.Needs.{needs}
 use Rattle.job.proofs.records.read_header.Statement.{statement}
 use Rattle.job.proofs.records.read_header.Tie as tie
 
-shared-slice-read-strategy : tie.Need-shared-slice-read-strategy
-shared-slice-read-strategy c = search needs
+shared-slice-read-number : tie.Need-shared-slice-read-number
+shared-slice-read-number c = search needs
 
 -- the threshold, tested
 module _ (c : tie.After-is-threshold) where
@@ -73,16 +73,24 @@ returns-3 : tie.Need-returns-3
 unfolding readHeader
 returns-3 c = rw (low (c .before), high (c .before), ← tested (c .before), not-true (c .before .is-threshold .result) (c .if3 .taken))
 
+strategy-of-requires : tie.Need-strategy-of-requires
+strategy-of-requires c κs = search needs
+
+add-t22 : tie.Need-add-t22
+add-t22 c = search needs
+
 returns-4 : tie.Need-returns-4
 returns-4 c =
-    let t = sym (c .before .is-threshold .ensures) ∙ not-false (c .before .is-threshold .result) (c .if3 .left) in
-    header-found (body (c .before)) (c .before .before .before .before .number .result) (c .before .before .number2 .result) (low (c .before)) (high (c .before)) (c .before .before .before .before .number .ensures) (c .before .before .number2 .ensures) t (omega (arith, c .before .before .number2 .ok))
+    let t = c .before .before in
+    let within = sym (t .is-threshold .ensures) ∙ not-false (t .is-threshold .result) (c .before .if3 .left) in
+    rw (c .strategy-of .ensures)
+    (header-found (body t) _ (t .before .before .before .number .result) (t .before .number2 .result) (low t) (high t) (omega arith) (t .before .before .before .number .ensures) (t .before .number2 .ensures) within)
 
 pub read-header-spec : {M : Type 1} → statement M
 read-header-spec =
     tie.close
     (tie.spec
-    shared-slice-read-strategy
+    shared-slice-read-number
     returns
     returns-2
     sub-number
@@ -95,4 +103,6 @@ read-header-spec =
     number-requires-2
     is-threshold-requires
     returns-3
+    strategy-of-requires
+    add-t22
     returns-4)

@@ -4,17 +4,20 @@ use mathlib.Core.Bool.{true}
 use native.Mathlib.Omega.{arith}
 use lib.ListN.{take, length-take}
 use borrow.Author.Tests.{lt-leb, not-true, not-false}
-use Rattle.job.specs.Records.{allowed, fits, foundOf, readBody, readMarked}
-use Rattle.job.proofs.records.RecordLaws.{marked-body, part-after}
+use Rattle.job.specs.Records.{fits, foundOf, readBody, readMarked}
+use Rattle.job.proofs.records.RecordLaws.{Allowed, marked-body, part-after}
 use borrow.Author.Needs.{needs}
 use Rattle.job.proofs.records.read_marked.Statement.{statement}
 use Rattle.job.proofs.records.read_marked.Tie as tie
 
+abbrev began : tie.Else1 → tie.Start
+began c = c .before .before .before .before .before
+
 -- the mark may stand there, and one more is within the maximum
-may : (c : tie.Else1) → allowed (c .before .before .before .args .s) (c .before .before .before .args .mark) ≡ true
+may : (c : tie.Else1) → Allowed (began c .args .s) (began c .args .mark)
 may c = sym (c .before .allowed .ensures) ∙ not-false (c .before .allowed .result) (c .if1 .left)
 
-room : (c : tie.Else2) → fits (c .before .before .before .before .before .args .s) (c .before .before .before .before .before .args .mark) ≡ true
+room : (c : tie.Else2) → fits (began (c .before .before) .args .s .numbers) (began (c .before .before) .args .mark) ≡ true
 room c = sym (c .before .fits2 .ensures) ∙ not-false (c .before .fits2 .result) (c .if2 .left)
 
 allowed-requires : tie.Need-allowed-requires
@@ -56,7 +59,7 @@ read-body-requires c κs = rw length-take (omega (arith, c .before .before .befo
 returns-4 : tie.Need-returns-4
 returns-4 c =
     let sized = c .before .before .before .before in
-    let start = sized .before .before .before .before .before .before in
+    let start = began (sized .before .before .before) in
     let size = sized .body-size .result in
     c .read-body .ensures
     ∙ ap foundOf

@@ -1,0 +1,83 @@
+-- `job::color::accept` meets its contract: the answer of reading, then that of the checks.
+use mathlib.Core.Path.{_≡_, sym, _∙_}
+use mathlib.Core.List.{List}
+use Prim.Native.Nat.{ℕ}
+use borrow.Author.Tests.{not-true}
+use Rattle.job.specs.declared.progress.Read.the-variants as read
+use Rattle.job.specs.Job.{readJob}
+use Rattle.job.specs.Progress.{answerOf}
+use Rattle.job.specs.Color.{checkFile, acceptJob}
+use Rattle.job.proofs.color.AcceptLaws.{accept-plain, accept-edges, accept-refused, accept-unread}
+use borrow.Author.Needs.{needs}
+use Rattle.job.proofs.color.accept.Statement.{statement}
+use Rattle.job.proofs.color.accept.Tie as tie
+
+-- a file that was read
+abbrev file : tie.After-scan → List ℕ
+file c = c .before .before .args .file .now
+
+abbrev read-at : tie.After-by-distance → tie.After-n
+read-at c = c .before .before .before
+
+abbrev scanned : tie.After-by-distance → tie.After-scan
+scanned c = read-at c .before .before
+
+told : (c : tie.After-n) → read.Job (c .n .given .0 .0) ≡ answerOf (readJob (file (c .before .before)))
+told c = sym (c .n .given .1) ∙ c .before .before .scan .ensures
+
+scan-requires : tie.Need-scan-requires
+scan-requires c κs = search needs
+
+enum-known-n : tie.Need-enum-known-n
+enum-known-n c = search needs
+
+by-distance-requires : tie.Need-by-distance-requires
+by-distance-requires c κs = search needs
+
+returns : tie.Need-returns
+unfolding acceptJob
+returns c = accept-plain (readJob (file (scanned (c .before)))) _ (told (read-at (c .before))) (sym (c .before .by-distance .ensures) ∙ not-true (c .before .by-distance .result) (c .if1 .taken))
+
+check-requires : tie.Need-check-requires
+check-requires c κs = search needs
+
+enum-told : tie.Need-enum-told
+enum-told c = search needs
+
+enum-known-refusal : tie.Need-enum-known-refusal
+enum-known-refusal c = search needs
+
+enum-known-refusal-2 : tie.Need-enum-known-refusal-2
+enum-known-refusal-2 c = search needs
+
+returns-2 : tie.Need-returns-2
+unfolding acceptJob checkFile
+returns-2 c =
+    let checked = c .before .before in
+    accept-edges (readJob (file (scanned (checked .before .before)))) _ _ (told (read-at (checked .before .before))) (sym (c .enum-told .given .1) ∙ checked .check .ensures)
+
+returns-3 : tie.Need-returns-3
+unfolding acceptJob checkFile
+returns-3 c =
+    let checked = c .before .before .before in
+    accept-refused (readJob (file (scanned (checked .before .before)))) _ (sym (c .before .refusal .given .1) ∙ checked .check .ensures)
+
+returns-4 : tie.Need-returns-4
+unfolding acceptJob
+returns-4 c = accept-unread (readJob (file (c .before .before .before))) _ (sym (c .before .refusal2 .given .1) ∙ c .before .before .before .scan .ensures)
+
+pub accept-spec : {M : Type 1} → statement M
+accept-spec =
+    tie.close
+    (tie.spec
+    scan-requires
+    enum-known-n
+    by-distance-requires
+    returns
+    check-requires
+    enum-told
+    enum-known-refusal
+    enum-known-refusal-2
+    returns-2
+    returns-3
+    returns-4)
