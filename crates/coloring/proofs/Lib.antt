@@ -4,3 +4,4 @@ pub mod Places
 pub mod ChannelLaws
 pub mod TrichotomyExact
 pub mod AnswerLaws
+pub mod SourceLoops
