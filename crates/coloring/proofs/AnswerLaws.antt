@@ -1,5 +1,5 @@
--- What the contracts of the entries say of their answers in document 01's numbers ("What the desk says back"): the refusals in their order, then
--- the values.
+-- What the contracts of the entries say of their answers in document 01's numbers ("What the desk says back"): the
+-- refusals in their order, then the values.
 use Prim.Native.Nat.{ℕ, _*_}
 use mathlib.Core.Path.{_≡_, refl}
 use mathlib.Core.Bool.{_&&_}
@@ -22,7 +22,7 @@ use Rattle.coloring.specs.declared.settings.Marking.{Marking}
 use Rattle.coloring.specs.declared.settings.Marking.the-variants.{Colors, Numbers, Distances}
 use Rattle.coloring.specs.Answers.{coloredAnswer, told-after, told-refused, told-passed}
 use Rattle.coloring.specs.Places.{total}
-use Rattle.coloring.specs.Outline.{Outline, Result, contours, knownKind, between, coordinatesFit, check, fits}
+use Rattle.coloring.specs.Outline.{Outline, Result, contours, knownKind, between, coordinatesFit, check, resultFits}
 use Rattle.coloring.specs.Shape.{painted, countsOf}
 use Rattle.coloring.specs.Corners.{Cornered, searchCorners}
 use Rattle.coloring.specs.Splines.{splineTotal}
@@ -85,36 +85,36 @@ module _ (o : Outline) (threshold : Float) (old : Result) where
 
     -- 4 for the distances and the outline's, then the splines' checks, then 11
     in-numbers : (checks : List Check)
-        → told (checkMarking marking splines distances) ≡ firstOf (checks ++ (unless 11 (fits written old) ∷ [])) (countedAnswer laid)
+        → told (checkMarking marking splines distances) ≡ firstOf (checks ++ (unless 11 (resultFits written old) ∷ [])) (countedAnswer laid)
         → coloredAnswer (edgeColoring (record { marking = marking; threshold = threshold }) o distances old .answer)
-        ≡ firstOf (unless 4 (leb (length distances) 2016) ∷ outlineChecks o threshold ++ (checks ++ (unless 11 (fits written old) ∷ []))) (countedAnswer laid)
+        ≡ firstOf (unless 4 (leb (length distances) 2016) ∷ outlineChecks o threshold ++ (checks ++ (unless 11 (resultFits written old) ∷ []))) (countedAnswer laid)
     unfolding edgeColoring
     in-numbers checks e = told-require marked fails (leb (length distances) 2016) TooMany _ _ _ (told-check marked fails o threshold _ _ e)
 
-    abbrev passed : told Passed ≡ firstOf (unless 11 (fits written old) ∷ []) (countedAnswer laid)
+    abbrev passed : told Passed ≡ firstOf (unless 11 (resultFits written old) ∷ []) (countedAnswer laid)
     passed = told-passed (countsOf laid) written old
 
   -- simple and ink-trap colouring
   pub coloring-in-numbers : (strategy : Strategy) (seed : ℕ) → let marking = Colors strategy seed in
       coloredAnswer (edgeColoring (record { marking = marking; threshold = threshold }) o [] old .answer)
-      ≡ firstOf (outlineChecks o threshold ++ (unless 11 (fits (written marking []) old) ∷ [])) (countedAnswer laid)
+      ≡ firstOf (outlineChecks o threshold ++ (unless 11 (resultFits (written marking []) old) ∷ [])) (countedAnswer laid)
   unfolding firstOf
   coloring-in-numbers strategy seed = let marking = Colors strategy seed in in-numbers marking [] [] (passed marking [])
 
   -- the collecting pass
   pub collecting-in-numbers :
       coloredAnswer (collectSplines o threshold old .answer)
-      ≡ firstOf (outlineChecks o threshold ++ (unless 4 (leb splines 64) ∷ unless 11 (fits (written Numbers []) old) ∷ [])) (countedAnswer laid)
+      ≡ firstOf (outlineChecks o threshold ++ (unless 4 (leb splines 64) ∷ unless 11 (resultFits (written Numbers []) old) ∷ [])) (countedAnswer laid)
   unfolding firstOf
   collecting-in-numbers =
       in-numbers Numbers [] (unless 4 (leb splines 64) ∷ [])
-      (told-require (told Numbers []) (fails Numbers []) (leb splines 64) TooMany Passed (unless 11 (fits (written Numbers []) old) ∷ []) (countedAnswer laid) (passed Numbers []))
+      (told-require (told Numbers []) (fails Numbers []) (leb splines 64) TooMany Passed (unless 11 (resultFits (written Numbers []) old) ∷ []) (countedAnswer laid) (passed Numbers []))
 
   -- by-distance colouring
   pub by-distance-in-numbers : (seed : ℕ) (distances : List Float) → let marking = Distances seed in
       coloredAnswer (edgeColoringByDistance o threshold seed distances old .answer)
       ≡ firstOf
-      (unless 4 (leb (length distances) 2016) ∷ outlineChecks o threshold ++ (distanceChecks splines distances ++ (unless 11 (fits (written marking distances) old) ∷ [])))
+      (unless 4 (leb (length distances) 2016) ∷ outlineChecks o threshold ++ (distanceChecks splines distances ++ (unless 11 (resultFits (written marking distances) old) ∷ [])))
       (countedAnswer laid)
   by-distance-in-numbers seed distances = let marking = Distances seed in
       in-numbers marking distances (distanceChecks splines distances)

@@ -1,5 +1,5 @@
--- The eight colours by their bits: a test that passes at each of them passes at any; what two colours share is the and of their bits,
--- and the channels outside a set are the exclusive or with 7.
+-- The eight colours by their bits: a test that passes at each of them passes at any; what two colours share is the and
+-- of their bits, and the channels outside a set are the exclusive or with 7.
 use Prim.Native.Nat.{ℕ, _-_, _<_}
 use mathlib.Core.Bool.{Bool, _&&_}
 use mathlib.Core.Path.{_≡_}

@@ -1,4 +1,5 @@
--- Places of a contour in walking order, from a start and around: rotated lists, and a list that is written place by place in that order.
+-- Places of a contour in walking order, from a start and around: rotated lists, and a list that is written place by
+-- place in that order.
 use Prim.Native.Nat.{ℕ, _+_, _-_, _%_, _≤_, _<_}
 use mathlib.Core.Path.{_≡_, sym, ap, _∙_}
 use mathlib.Core.Logic.{_⊎_, inl, inr, ⊎-elim}

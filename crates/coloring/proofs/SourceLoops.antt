@@ -1,6 +1,6 @@
--- The source's own loops, written down literally, give what the definitions give: `source-loop` for the loop around a contour with two corners or more
--- (`(start + i) % m`, on to the next spline at its corner; coloring/mod.rs and by_distance.rs), and `break-splits` for the collecting pass of a
--- teardrop, whose second spline begins at m / 2.
+-- The source's own loops, written down literally, give what the definitions give: `source-loop` for the loop around a
+-- contour with two corners or more (`(start + i) % m`, on to the next spline at its corner; coloring/mod.rs and
+-- by_distance.rs), and `break-splits` for the collecting pass of a teardrop, whose second spline begins at m / 2.
 use Prim.Native.Nat.{ℕ, zero, suc, _+_, _-_, _*_, _/_, _%_, _≤_, _<_}
 use mathlib.Core.Bool.{Bool, true, false, cond, _&&_}
 use mathlib.Core.Path.{_≡_, refl, sym, ap, _∙_}
@@ -225,7 +225,8 @@ source-loop middle values out flags two v o =
 
 -- ---- the break of a teardrop
 
--- the collecting pass over the m edges of a teardrop from its corner on: a White edge has no spline; the second spline begins at m / 2
+-- the collecting pass over the m edges of a teardrop from its corner on: a White edge has no spline; the second spline
+-- begins at m / 2
 unfoldable pub collectRuns : ℕ → ℕ → List ℕ
 collectRuns first m =
     map (λ i. let spline = cond (ltb i (m / 2)) first (suc first) in thirdOf spline noSpline spline (symmetricalTrichotomy i m)) (range 0 m)

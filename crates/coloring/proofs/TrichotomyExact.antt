@@ -1,8 +1,8 @@
 -- The whole-number rule of `symmetrical_trichotomy` is the source's expression
 --     (3.0 + 2.875 * position / (n - 1) - 1.4375 + 0.5) rounded down, less 3
--- taken in exact fractions, for every n from 3 on and every place below n. Over the one denominator 16 (n - 1) its terms are 48 (n - 1), 46 p, 23 (n - 1)
--- and 8 (n - 1), so the whole is (46 p + 33 (n - 1)) / (16 (n - 1)).
--- Where n - 1 is a multiple of 46 the rule has one more place of 1 than of -1: 16 and 15 at n = 47.
+-- taken in exact fractions, for every n from 3 on and every place below n. Over the one denominator 16 (n - 1) its
+-- terms are 48 (n - 1), 46 p, 23 (n - 1) and 8 (n - 1), so the whole is (46 p + 33 (n - 1)) / (16 (n - 1)). Where n - 1
+-- is a multiple of 46 the rule has one more place of 1 than of -1: 16 and 15 at n = 47.
 use Prim.Native.Nat.{ℕ, _+_, _-_, _*_, _/_, _≤_, _<_}
 use mathlib.Core.Bool.{Bool, true, false}
 use mathlib.Core.Path.{_≡_, refl, ap, _∙_}
@@ -39,7 +39,8 @@ trichotomy-exact n p h l = by-tests (ltb (46 * p) (15 * (n - 1))) refl (ltb (46 
         let above : 31 * (n - 1) ≤ 46 * p = ltb-false (46 * p) (31 * (n - 1)) f in
         rw (e, f, quotient 4 (46 * p + 33 * (n - 1)) (n - 1) (omega arith) (omega arith))
 
--- The source's collecting pass begins a teardrop's second spline at m / 2. That place is in the middle run, so that the outer runs are the two splines.
+-- The source's collecting pass begins a teardrop's second spline at m / 2. That place is in the middle run, so that the
+-- outer runs are the two splines.
 pub break-in-the-middle : (m : ℕ) → 3 ≤ m → symmetricalTrichotomy (m / 2) m ≡ pos 0
 unfolding symmetricalTrichotomy
 break-in-the-middle m h =

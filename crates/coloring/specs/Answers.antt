@@ -11,7 +11,7 @@ use Rattle.graph.specs.Answers.{Answer, values, refusal, firstOf}
 use Rattle.coloring.specs.declared.outline.Colored.{Colored}
 use Rattle.coloring.specs.declared.outline.Colored.the-variants.{Edges, Refused}
 use Rattle.coloring.specs.declared.outline.Counts.{Counts}
-use Rattle.coloring.specs.Outline.{Result, fits, deliver}
+use Rattle.coloring.specs.Outline.{Result, resultFits, deliver}
 
 -- the edges of the result and their splines
 abbrev pub coloredAnswer : Colored → Answer
@@ -27,10 +27,10 @@ module _ (counts : Counts) (written old : Result) where
   unfolding deliver
   told-refused r = refl
 
-  pub told-passed : told-after Passed ≡ firstOf (unless 11 (fits written old) ∷ []) (values (counts .edges ∷ counts .splines ∷ []))
+  pub told-passed : told-after Passed ≡ firstOf (unless 11 (resultFits written old) ∷ []) (values (counts .edges ∷ counts .splines ∷ []))
   unfolding deliver firstOf
-  told-passed = go (fits written old) refl
+  told-passed = go (resultFits written old) refl
     where
-      go : (b : Bool) → fits written old ≡ b → told-after Passed ≡ firstOf (unless 11 (fits written old) ∷ []) (values (counts .edges ∷ counts .splines ∷ []))
+      go : (b : Bool) → resultFits written old ≡ b → told-after Passed ≡ firstOf (unless 11 (resultFits written old) ∷ []) (values (counts .edges ∷ counts .splines ∷ []))
       go true e = rw e
       go false e = rw e

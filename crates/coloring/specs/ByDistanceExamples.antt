@@ -1,4 +1,5 @@
--- Worked examples of by-distance colouring of outlines, computed from the definitions: P7 whole, and some that refute wrong programs.
+-- Worked examples of by-distance colouring of outlines, computed from the definitions: P7 whole, and some that refute
+-- wrong programs.
 use Prim.Native.Nat.{ℕ}
 use mathlib.Core.Path.{_≡_, refl}
 use mathlib.Core.Bool.{Bool, true, false}

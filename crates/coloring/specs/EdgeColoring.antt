@@ -1,6 +1,6 @@
--- The colourings of an outline, after `edge_coloring_simple` and `edge_coloring_ink_trap` of coloring/mod.rs and `edge_coloring_by_distance` of
--- by_distance.rs, their first line replaced by the given threshold and the matrix by the given distances; and the collecting pass of the last. One
--- definition stands behind all four.
+-- The colourings of an outline, after `edge_coloring_simple` and `edge_coloring_ink_trap` of coloring/mod.rs and
+-- `edge_coloring_by_distance` of by_distance.rs, their first line replaced by the given threshold and the matrix by the
+-- given distances; and the collecting pass of the last. One definition stands behind all four.
 use Prim.Native.Nat.{ℕ}
 use mathlib.Core.List.{List, [], map}
 use lib.Dec.{leb}
@@ -20,8 +20,8 @@ use Rattle.coloring.specs.Values.{splineValues}
 use Rattle.coloring.specs.Outline.{Outline, Result, Outcome, contours, check, deliver}
 use Rattle.coloring.specs.Shape.{painted, countsOf, deliverFound}
 
--- The outcome of an entry, answer and buffers: the checks, too many distances counted with too many contours and edges; the corners of each contour;
--- then the edges of the result and the byte of each.
+-- The outcome of an entry, answer and buffers: the checks, too many distances counted with too many contours and edges;
+-- the corners of each contour; then the edges of the result and the byte of each.
 unfoldable pub edgeColoring : Settings → Outline → List Float → Result → Outcome
 unfolding searchCorners contours check layout deliver painted countsOf splineValues splineTotal
 edgeColoring settings o distances =

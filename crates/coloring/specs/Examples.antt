@@ -1,4 +1,5 @@
--- Worked examples of document 01, P1 to P3, P5 and P6, and others that refute wrong colourings; all computed from the definitions.
+-- Worked examples of document 01, P1 to P3, P5 and P6, and others that refute wrong colourings; all computed from the
+-- definitions.
 use Prim.Native.Nat.{ℕ, _*_}
 use mathlib.Core.Path.{_≡_, refl}
 use mathlib.Core.Bool.{Bool, true, false}
@@ -53,7 +54,8 @@ pub switches-of-cyan : (afterCyan 0 ≡ Magenta) × (afterCyan 1 ≡ Yellow)
 unfolding switchColor
 switches-of-cyan = (refl, refl)
 
--- refutes a switch that draws where the banned rule fires: Yellow and Magenta share red, so Cyan follows, and the seed stays
+-- refutes a switch that draws where the banned rule fires: Yellow and Magenta share red, so Cyan follows, and the seed
+-- stays
 pub banned-without-draw : switchColorBanned Magenta (record { color = Yellow; seed = 5 }) ≡ record { color = Cyan; seed = 5 }
 unfolding switchColorBanned
 banned-without-draw = refl
@@ -100,7 +102,7 @@ two-squares = refl
 abbrev into : List ℕ → Outcome
 into colors = edgeColoringSimple square eighth 0 (room 1 colors)
 
--- refutes one that refuses a result that fits exactly, or writes beyond it
+-- refutes one that refuses a result that resultFits exactly, or writes beyond it
 pub exactly-fits :
     (into (9 ∷ 9 ∷ 9 ∷ 9 ∷ 8 ∷ []) .answer ≡ Edges (record { contours = 1; edges = 4; splines = 4 }))
     × (into (9 ∷ 9 ∷ 9 ∷ 9 ∷ 8 ∷ []) .buffers .colors ≡ (5 ∷ 3 ∷ 6 ∷ 3 ∷ 8 ∷ []))

@@ -1,4 +1,5 @@
--- The colours of a contour's splines in ink-trap colouring, after `edge_coloring_ink_trap` of coloring/mod.rs. A corner's record is `InkTrapCorner`.
+-- The colours of a contour's splines in ink-trap colouring, after `edge_coloring_ink_trap` of coloring/mod.rs. A
+-- corner's record is `InkTrapCorner`.
 use Prim.Native.Nat.{ℕ, zero, suc, _+_, _-_, _%_}
 use mathlib.Core.Bool.{Bool, true, false, _&&_, cond}
 use mathlib.Core.List.{List, [], _∷_, map}
@@ -119,8 +120,8 @@ colorMajors initial left pen (k ∷ corners) =
           record { corners = withColor (next .color) k ∷ rest .corners; pen = rest .pen }
     ]
 
--- For k corners from place i on, in order, with the colour of the major corner before: a minor one takes the channels that that
--- colour and the next corner's do not share.
+-- For k corners from place i on, in order, with the colour of the major corner before: a minor one takes the channels
+-- that that colour and the next corner's do not share.
 unfoldable pub colorMinors : ℕ → ℕ → EdgeColor → List InkTrapCorner → List InkTrapCorner
 unfolding around shared
 colorMinors i zero color corners = corners

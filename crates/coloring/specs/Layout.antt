@@ -1,5 +1,6 @@
--- The edges of the result with their flags: a contour of one edge or two with one corner is split in thirds, any other stays as it is. After the split in
--- `color_teardrop` of coloring/mod.rs and of by_distance.rs. What comes after reads the result alone.
+-- The edges of the result with their flags: a contour of one edge or two with one corner is split in thirds, any other
+-- stays as it is. After the split in `color_teardrop` of coloring/mod.rs and of by_distance.rs. What comes after reads
+-- the result alone.
 use Prim.Native.Nat.{ℕ, _*_}
 use mathlib.Core.Bool.{Bool, true, false, _&&_, cond}
 use mathlib.Core.List.{List, [], _∷_, map, flatten}

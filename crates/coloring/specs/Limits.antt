@@ -1,4 +1,5 @@
--- The limits of document 01, "Trays and the job file", and what follows from them. Those of splines and distances are in graph's SplineColors.
+-- The limits of document 01, "Trays and the job file", and what follows from them. Those of splines and distances are
+-- in graph's SplineColors.
 use Prim.Native.Nat.{ℕ, _+_}
 
 abbrev pub maxContours : ℕ

@@ -1,4 +1,5 @@
--- Outline buffers and the contours that they stand for, both ways, and the checks of an outline (document 01, "Trays and the job file").
+-- Outline buffers and the contours that they stand for, both ways, and the checks of an outline (document 01, "Trays
+-- and the job file").
 use Prim.Native.Nat.{ℕ, suc, _-_, _*_, _≤_}
 use mathlib.Core.Path.{_≡_, refl}
 use mathlib.Core.Bool.{Bool, true, false, _&&_, cond}
@@ -50,14 +51,14 @@ decoded (Edge e) = e
 decoded NoKind = anyEdge
 
 -- the edge of a kind and its eight places; the checks leave only known kinds
-unfoldable pub edgeOf : ℕ → List Float → EdgeSegment
-edgeOf kind places = decoded (fromStored kind places)
+unfoldable pub edgeStored : ℕ → List Float → EdgeSegment
+edgeStored kind places = decoded (fromStored kind places)
 
 -- the edges of the kinds, each from its eight places
 unfoldable pub edgesOf : List ℕ → List Float → List EdgeSegment
-unfolding edgeOf
+unfolding edgeStored
 edgesOf [] points = []
-edgesOf (kind ∷ kinds) points = edgeOf kind (take 8 points) ∷ edgesOf kinds (drop 8 points)
+edgesOf (kind ∷ kinds) points = edgeStored kind (take 8 points) ∷ edgesOf kinds (drop 8 points)
 
 unfoldable pub contours : Outline → List (List EdgeSegment)
 unfolding cut edgesOf
@@ -66,11 +67,11 @@ contours o = cut (o .lengths) (edgesOf (o .kinds) (o .points))
 -- ---- from coloured contours to the four result buffers
 
 -- an edge's kind and its eight places, unused ones +0
-abbrev pub kindOf : EdgeSegment → ℕ
-kindOf e = toStored e .kind
+abbrev pub kindStored : EdgeSegment → ℕ
+kindStored e = toStored e .kind
 
-abbrev pub placesOf : EdgeSegment → List Float
-placesOf e = toStored e .points
+abbrev pub placesStored : EdgeSegment → List Float
+placesStored e = toStored e .points
 
 -- the four buffers that a result goes to
 pub record Result : Type 0 where
@@ -85,8 +86,8 @@ unfolding flatten
 encode edges bytes =
     record {
       lengths = map (λ (contour : List EdgeSegment). length contour) edges;
-      kinds = map kindOf (flatten edges);
-      points = flatten (map placesOf (flatten edges));
+      kinds = map kindStored (flatten edges);
+      points = flatten (map placesStored (flatten edges));
       colors = flatten bytes;
     }
 
@@ -142,8 +143,8 @@ pub record Outcome : Type 0 where
   pub buffers : Result
 
 -- whether a result is no longer than its buffers
-unfoldable pub fits : Result → Result → Bool
-fits written old =
+unfoldable pub resultFits : Result → Result → Bool
+resultFits written old =
     leb (length (written .lengths)) (length (old .lengths))
     && leb (length (written .kinds)) (length (old .kinds))
     && leb (length (written .points)) (length (old .points))
@@ -165,10 +166,10 @@ delivered counts written old =
 
 -- The refusal of the checks; 11 where the result would not fit; or the result.
 unfoldable pub deliver : Checked → Counts → Result → Result → Outcome
-unfolding fits delivered
+unfolding resultFits delivered
 deliver (Failed refusal) counts written old = record { answer = Refused refusal; buffers = old }
 deliver Passed counts written old =
-    cond (fits written old) (delivered counts written old) (record { answer = Refused ResultTooShort; buffers = old })
+    cond (resultFits written old) (delivered counts written old) (record { answer = Refused ResultTooShort; buffers = old })
 
 -- ---- in the words of contracts
 
@@ -217,8 +218,8 @@ part kinds points flags at end =
 
 -- two buffers hold edges; three hold a contour and its flags; the same from place `to` on, over what stood there
 pub record Stored (edges : List EdgeSegment) (kinds : List ℕ) (points : List Float) : Type 0 where
-  pub kinds-are : kinds ≡ map kindOf edges
-  pub points-are : points ≡ flatten (map placesOf edges)
+  pub kinds-are : kinds ≡ map kindStored edges
+  pub points-are : points ≡ flatten (map placesStored edges)
 
 pub record Laid (contour : Cornered) (kinds : List ℕ) (points : List Float) (flags : List Bool) : Type 0 where
   pub edges-are : Stored (contour .edges) kinds points
@@ -226,8 +227,8 @@ pub record Laid (contour : Cornered) (kinds : List ℕ) (points : List Float) (f
 
 pub record LaidFrom (to : ℕ) (contour : Cornered) (kinds₀ : List ℕ) (points₀ : List Float) (flags₀ : List Bool)
     (kinds : List ℕ) (points : List Float) (flags : List Bool) : Type 0 where
-  pub kinds-are : kinds ≡ overFrom to (map kindOf (contour .edges)) kinds₀
-  pub points-are : points ≡ overFrom (8 * to) (flatten (map placesOf (contour .edges))) points₀
+  pub kinds-are : kinds ≡ overFrom to (map kindStored (contour .edges)) kinds₀
+  pub points-are : points ≡ overFrom (8 * to) (flatten (map placesStored (contour .edges))) points₀
   pub flags-are : flags ≡ overFrom to (contour .corners) flags₀
 
 -- four buffers have room for the result of contours with these flags

@@ -1,4 +1,5 @@
--- Laws on painting for the reader and for the crates above: what is painted may be mapped before or after, and the source's own loops give the same.
+-- Laws on painting for the reader and for the crates above: what is painted may be mapped before or after, and the
+-- source's own loops give the same.
 use Prim.Native.Nat.{ℕ, zero, suc, _-_}
 use mathlib.Core.Path.{_≡_, refl, ap, _∙_}
 use mathlib.Core.Bool.{Bool, true, false}

@@ -31,8 +31,8 @@ countsOf laid =
 abbrev pub deliverValues : Checked → Marking → List ℕ → List Cornered → Result → Outcome
 deliverValues checked marking values laid old = deliver checked (countsOf laid) (painted (middleValue marking) values laid) old
 
--- The outcome of an entry, once its checks are made and its corners found: the layout, and from there on the result alone. The splines are checked, each
--- gets its value, and each edge that of its spline.
+-- The outcome of an entry, once its checks are made and its corners found: the layout, and from there on the result
+-- alone. The splines are checked, each gets its value, and each edge that of its spline.
 abbrev pub deliverFound : Checked → Marking → List Float → List Cornered → Result → Outcome
 deliverFound checked marking distances found old =
     let laid = map layout found in

@@ -22,7 +22,7 @@ use Rattle.coloring.specs.Corners.{Cornered, lastEdge, flagsFrom, corner
 use Rattle.coloring.specs.Layout.{thirds, splits, firstOnly, splitContour, layout, resultEdges}
 use Rattle.coloring.specs.Teardrop.{runs, teardrop}
 use Rattle.coloring.specs.Splines.{splineCount, spread, paint, paintContours}
-use Rattle.coloring.specs.Outline.{cut, Result, kindOf, placesOf, encode}
+use Rattle.coloring.specs.Outline.{cut, Result, kindStored, placesStored, encode}
 use Rattle.coloring.specs.Shape.{painted}
 
 -- ---- lists
@@ -222,16 +222,16 @@ edges-most contours c e = by-few (length contours) (total (sizes contours)) (tot
 
 -- ---- a whole result
 
-pub places-length : (e : EdgeSegment) → length (placesOf e) ≡ 8
+pub places-length : (e : EdgeSegment) → length (placesStored e) ≡ 8
 unfolding toStored
 places-length (Line p0 p1) = refl
 places-length (Quadratic p0 p1 p2) = refl
 places-length (Cubic p0 p1 p2 p3) = refl
 
-pub points-length : (edges : List EdgeSegment) → length (flatten (map placesOf edges)) ≡ 8 * length edges
+pub points-length : (edges : List EdgeSegment) → length (flatten (map placesStored edges)) ≡ 8 * length edges
 unfolding flatten
 points-length [] = refl
-points-length (e ∷ edges) = length-append (placesOf e) (flatten (map placesOf edges)) ∙ omega (arith, places-length e, points-length edges)
+points-length (e ∷ edges) = length-append (placesStored e) (flatten (map placesStored edges)) ∙ omega (arith, places-length e, points-length edges)
 
 pub record Sized (result : Result) (contours edges : ℕ) : Type 0 where
   pub lengths-long : length (result .lengths) ≡ contours
@@ -244,7 +244,7 @@ unfolding encode
 encoded-sized edges bytes e =
     record {
       lengths-long = length-map edges _;
-      kinds-long = length-map (flatten edges) kindOf;
+      kinds-long = length-map (flatten edges) kindStored;
       points-long = points-length (flatten edges);
       colors-long = flatten-length bytes ∙ ap total e ∙ sym (flatten-length edges);
     }

@@ -1,4 +1,5 @@
--- A contour's corners cut it into splines. Whatever a colouring gives to the splines, colours or numbers, is spread over the edges in one way.
+-- A contour's corners cut it into splines. Whatever a colouring gives to the splines, colours or numbers, is spread
+-- over the edges in one way.
 use Prim.Native.Nat.{ℕ, suc, _-_, _≤_}
 use mathlib.Core.Path.{_≡_}
 use mathlib.Core.Bool.{Bool, true, false, cond}
@@ -29,7 +30,8 @@ spread value values (false ∷ flags) = value ∷ spread value values flags
 spread value [] (true ∷ flags) = value ∷ spread value [] flags
 spread value (next ∷ values) (true ∷ flags) = next ∷ spread next values flags
 
--- The values of a contour's edges, by place, from those of its splines. What stands before the first corner belongs to the last spline.
+-- The values of a contour's edges, by place, from those of its splines. What stands before the first corner belongs to
+-- the last spline.
 unfoldable pub paint : {A : Type 0} → A → List A → List Bool → List A
 unfolding teardrop spread
 paint middle values flags =

@@ -1,4 +1,5 @@
--- A contour with one corner: three runs from it on, the first spline's, a middle one, the last spline's. After `color_teardrop` of coloring/mod.rs.
+-- A contour with one corner: three runs from it on, the first spline's, a middle one, the last spline's. After
+-- `color_teardrop` of coloring/mod.rs.
 use Prim.Native.Nat.{ℕ, zero, suc}
 use mathlib.Core.Bool.{Bool}
 use mathlib.Core.List.{List, map}

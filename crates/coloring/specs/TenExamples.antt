@@ -1,4 +1,5 @@
--- P1 to P10 of document 01, "Examples", as one list, which one theorem proves. Each member is computed where its definitions stand.
+-- P1 to P10 of document 01, "Examples", as one list, which one theorem proves. Each member is computed where its
+-- definitions stand.
 use mathlib.Core.Path.{_≡_}
 use mathlib.Core.Bool.{false}
 use mathlib.Core.List.{[], _∷_}
@@ -31,8 +32,8 @@ pub record TenExamples : Type 0 where
   pub p6 :
       (edgeColoringSimple square eighth 0 fourEdges .buffers .colors ≡ (5 ∷ 3 ∷ 6 ∷ 3 ∷ []))
       × (edgeColoringInkTrap square eighth 0 fourEdges .buffers .colors ≡ (5 ∷ 3 ∷ 6 ∷ 3 ∷ []))
-  -- its four splines, distance 0 beside and 1 across, seed 0: spline colours 0, 1, 2, 1; pair (0, 2) kept, (1, 3) declined with counter 16;
-  -- edges 3, 6, 5, 6
+  -- its four splines, distance 0 beside and 1 across, seed 0: spline colours 0, 1, 2, 1; pair (0, 2) kept, (1, 3)
+  -- declined with counter 16; edges 3, 6, 5, 6
   pub p7 :
       (collectSplines square eighth fourEdges .buffers .colors ≡ (0 ∷ 1 ∷ 2 ∷ 3 ∷ []))
       × (colorSplines 4 squareDistances 0 ≡ (0 ∷ 1 ∷ 2 ∷ 1 ∷ []))

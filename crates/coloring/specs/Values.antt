@@ -1,4 +1,5 @@
--- What the splines of a shape get, a byte each, contour after contour: colours drawn with a pen, numbers, or the colours that their distances give.
+-- What the splines of a shape get, a byte each, contour after contour: colours drawn with a pen, numbers, or the
+-- colours that their distances give.
 use Prim.Native.Nat.{ℕ, _-_}
 use mathlib.Core.Bool.{true, false}
 use mathlib.Core.Path.{_≡_}

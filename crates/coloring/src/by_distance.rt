@@ -1,4 +1,5 @@
-// By-distance colouring of an outline, after coloring/by_distance.rs with its distances given, and the collecting pass that numbers the splines.
+// By-distance colouring of an outline, after coloring/by_distance.rs with its distances given, and the collecting pass
+// that numbers the splines.
 use crate::edge_coloring::edge_coloring;
 use crate::outline::Colored;
 use crate::settings::Marking;

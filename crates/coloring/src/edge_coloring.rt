@@ -1,5 +1,5 @@
-// Simple and ink-trap colouring of an outline, after `edge_coloring_simple` and `edge_coloring_ink_trap` of coloring/mod.rs, and the one function behind
-// every colouring.
+// Simple and ink-trap colouring of an outline, after `edge_coloring_simple` and `edge_coloring_ink_trap` of
+// coloring/mod.rs, and the one function behind every colouring.
 use crate::corners::find_corners;
 use crate::limits::MAX_DISTANCES;
 use crate::limits::MAX_EDGES;

@@ -1,5 +1,5 @@
-// The colours of a contour's splines in ink-trap colouring, after `edge_coloring_ink_trap` of coloring/mod.rs, as bytes. The corner records stand in an
-// array of the function that has the loops over it.
+// The colours of a contour's splines in ink-trap colouring, after `edge_coloring_ink_trap` of coloring/mod.rs, as
+// bytes. The corner records stand in an array of the function that has the loops over it.
 use crate::corners::estimate_edge_length;
 use crate::limits::MAX_EDGES;
 use crate::outline::edge_at;
@@ -19,7 +19,8 @@ ghost use Rattle.coloring.specs.Corners.{cornerCount};
 ghost use Rattle.coloring.specs.Outline.{whole, Matching};
 ghost use Rattle.coloring.specs.InkTrap.{cornerAt, closed, withMinor, withColor, isBlack, inkTrapColors};
 
-// A corner of the ink-trap colouring: its place, the estimated length of the spline before it, whether it is minor, its colour.
+// A corner of the ink-trap colouring: its place, the estimated length of the spline before it, whether it is minor, its
+// colour.
 pub struct InkTrapCorner {
     pub index: usize,
     pub prev_edge_length_estimate: f64,
@@ -182,8 +183,8 @@ fn colors_by_length(
     }
 }
 
-// Two splines or more. Only with more than three are there minor corners; else no length is asked for, and the colours are those of simple
-// colouring.
+// Two splines or more. Only with more than three are there minor corners; else no length is asked for, and the colours
+// are those of simple colouring.
 pub(crate) fn ink_trap_colors(
     kinds: &[u8],
     points: &[f64],

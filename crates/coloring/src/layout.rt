@@ -1,5 +1,5 @@
-// The edges of the result with their flags: a contour of one edge or two with one corner is split in thirds, any other is copied. After the split in
-// `color_teardrop` of coloring/mod.rs.
+// The edges of the result with their flags: a contour of one edge or two with one corner is split in thirds, any other
+// is copied. After the split in `color_teardrop` of coloring/mod.rs.
 use crate::corners::count_corners;
 use crate::corners::first_corner;
 use crate::outline::copy_edges;
@@ -15,7 +15,7 @@ ghost use Rattle.coloring.specs.Limits.{maxEdges};
 ghost use Rattle.coloring.specs.Places.{rotate};
 ghost use Rattle.coloring.specs.Corners.{cornered};
 ghost use Rattle.coloring.specs.Layout.{thirds, splits, firstOnly, layout, resultEdges};
-ghost use Rattle.coloring.specs.Outline.{edgesOf, kindOf, placesOf, Matching, Cut, whole, Part, part, Stored, Laid, LaidFrom, ResultRoom, LaidOut};
+ghost use Rattle.coloring.specs.Outline.{edgesOf, kindStored, placesStored, Matching, Cut, whole, Part, part, Stored, Laid, LaidFrom, ResultRoom, LaidOut};
 
 // ---- one contour
 
@@ -40,8 +40,8 @@ pub(crate) fn result_edges(flags: &[bool]) -> usize
 // The thirds of an edge, written from place i on.
 fn write_thirds(e: EdgeSegment, i: usize, out_kinds: &mut [u8], out_points: &mut [f64])
     requires { ⌜ (i + 3 ≤ length (now «out_kinds»)) × (length (now «out_points») ≡ 8 * length (now «out_kinds»)) ⌝ }
-    ensures { λ _. ⌜ now («out_kinds» .exit) ≡ overFrom i (map kindOf (thirds e)) (now («out_kinds» .entry)) ⌝ }
-    ensures { λ _. ⌜ now («out_points» .exit) ≡ overFrom (8 * i) (flatten (map placesOf (thirds e))) (now («out_points» .entry)) ⌝ }
+    ensures { λ _. ⌜ now («out_kinds» .exit) ≡ overFrom i (map kindStored (thirds e)) (now («out_kinds» .entry)) ⌝ }
+    ensures { λ _. ⌜ now («out_points» .exit) ≡ overFrom (8 * i) (flatten (map placesStored (thirds e))) (now («out_points» .entry)) ⌝ }
 {
     let parts = e.split_in_thirds();
     let first = parts.first;

@@ -1,4 +1,5 @@
-// Outline buffers: contour lengths, the kind of each edge, eight point places an edge. Their checks, and an edge read or written.
+// Outline buffers: contour lengths, the kind of each edge, eight point places an edge. Their checks, and an edge read
+// or written.
 use crate::limits::MAX_CONTOURS;
 use crate::limits::MAX_COORDINATE;
 use crate::limits::MAX_EDGES;
@@ -12,7 +13,7 @@ ghost use mathlib.Core.Bool.{true};
 ghost use Prim.Native.Nat.{_≤_, _<_, _*_};
 ghost use lib.ListN.{length, getD, set};
 ghost use Rattle.graph.specs.Lists.{all, overFrom};
-ghost use Rattle.coloring.specs.Outline.{knownKind, between, inRange, usedPlaces, coordinatesFit, check, anyEdge, edgesOf, kindOf, placesOf, outline, Stored};
+ghost use Rattle.coloring.specs.Outline.{knownKind, between, inRange, usedPlaces, coordinatesFit, check, anyEdge, edgesOf, kindStored, placesStored, outline, Stored};
 ghost use Rattle.coloring.specs.Limits.{maxContours};
 ghost use Rattle.coloring.specs.Places.{total};
 
@@ -174,8 +175,8 @@ pub(crate) fn edge_at(kinds: &[u8], points: &[f64], i: usize) -> EdgeSegment
 // An edge, written at place i.
 pub(crate) fn write_edge(e: EdgeSegment, i: usize, out_kinds: &mut [u8], out_points: &mut [f64])
     requires { ⌜ (i < length (now «out_kinds»)) × (8 * length (now «out_kinds») ≡ length (now «out_points»)) ⌝ }
-    ensures { λ _. ⌜ now («out_kinds» .exit) ≡ set (now («out_kinds» .entry)) i (kindOf e) ⌝ }
-    ensures { λ _. ⌜ now («out_points» .exit) ≡ overFrom (8 * i) (placesOf e) (now («out_points» .entry)) ⌝ }
+    ensures { λ _. ⌜ now («out_kinds» .exit) ≡ set (now («out_kinds» .entry)) i (kindStored e) ⌝ }
+    ensures { λ _. ⌜ now («out_points» .exit) ≡ overFrom (8 * i) (placesStored e) (now («out_points» .entry)) ⌝ }
 {
     let stored = e.to_stored();
     out_kinds[i] = stored.kind;

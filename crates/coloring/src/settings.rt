@@ -6,8 +6,8 @@ pub enum Strategy {
     InkTrap,
 }
 
-// The byte of each edge: its colour, by a strategy that goes round the contours with a seed; the number of its spline; or its colour by the distances
-// of the splines, with a seed.
+// The byte of each edge: its colour, by a strategy that goes round the contours with a seed; the number of its spline;
+// or its colour by the distances of the splines, with a seed.
 pub enum Marking {
     Colors(Strategy, u64),
     Numbers,

@@ -66,8 +66,8 @@ fn has_room(counts: Counts, lengths: usize, kinds: usize, points: usize, colors:
     counts.edges <= colors
 }
 
-// Contours with their corners, and a value for each spline: 11 where the counted result is longer than a buffer; then the edges, and the byte of each
-// from the result alone.
+// Contours with their corners, and a value for each spline: 11 where the counted result is longer than a buffer; then
+// the edges, and the byte of each from the result alone.
 fn paint_shape(
     settings: Settings,
     counts: Counts,

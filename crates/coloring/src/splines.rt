@@ -1,4 +1,5 @@
-// A contour's corners cut it into splines. What a colouring gives to the splines, a byte each, is spread over the edges in one way.
+// A contour's corners cut it into splines. What a colouring gives to the splines, a byte each, is spread over the edges
+// in one way.
 use crate::corners::count_corners;
 use crate::corners::first_corner;
 use crate::teardrop::paint_runs;

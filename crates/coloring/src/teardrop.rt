@@ -1,4 +1,5 @@
-// The three runs of a contour with one corner, after `color_teardrop` of coloring/mod.rs. What the edges get stands in a slice of bytes.
+// The three runs of a contour with one corner, after `color_teardrop` of coloring/mod.rs. What the edges get stands in
+// a slice of bytes.
 use crate::trichotomy::symmetrical_trichotomy;
 ghost use mathlib.Core.Path.{_≡_};
 ghost use Prim.Native.Nat.{_≤_, _<_};

@@ -1,4 +1,5 @@
-// `symmetrical_trichotomy` of coloring/mod.rs, by the whole-number rule that document 01 gives for its float expression.
+// `symmetrical_trichotomy` of coloring/mod.rs, by the whole-number rule that document 01 gives for its float
+// expression.
 ghost use mathlib.Core.Path.{_≡_};
 ghost use Prim.Native.Nat.{_≤_, _<_};
 ghost use Rattle.coloring.specs.Limits.{maxResultEdges};

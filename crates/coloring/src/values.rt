@@ -1,4 +1,5 @@
-// What the splines of a shape get, a byte each, contour after contour: colours drawn with a pen, numbers, or the colours that their distances give.
+// What the splines of a shape get, a byte each, contour after contour: colours drawn with a pen, numbers, or the
+// colours that their distances give.
 use crate::corners::count_corners;
 use crate::ink_trap::ink_trap_colors;
 use crate::limits::MAX_SPLINES;

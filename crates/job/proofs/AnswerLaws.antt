@@ -19,7 +19,7 @@ use Rattle.coloring.specs.declared.outline.Counts.{Counts}
 use Rattle.coloring.specs.declared.outline.Colored.the-variants.{Edges, Refused}
 use Rattle.coloring.specs.Places.{total}
 use Rattle.coloring.specs.Sizes.{Sized, sizes, sizes-map, cut-again, flatten-length}
-use Rattle.coloring.specs.Outline.{kindOf, cut, encode, Result, Outcome, outcome, fits, delivered, deliver}
+use Rattle.coloring.specs.Outline.{kindStored, cut, encode, Result, Outcome, outcome, resultFits, delivered, deliver}
 use Rattle.coloring.specs.Shape.{countsOf}
 use Rattle.job.specs.Job.{Job, Reading, reads, refuses, readJob}
 use Rattle.job.specs.Color.{laidIn, checkJob, coloredEdges, edgeColors, colored, colorJob, colorReading, colorFile, answered, checkReading, checkFile, HoldsResults}
@@ -60,8 +60,8 @@ text-few file = go (readJob file) refl
 
         of : (k : Checked) → length (checkedText k (coloredEdges job) (edgeColors job)) ≤ 5598
         of Passed =
-            listing-few (map (map kindOf) (coloredEdges job)) (edgeColors job) (omega (arith, length-map (coloredEdges job) (map kindOf), s .contours-fit))
-            (omega (arith, ap length (map-flatten kindOf (coloredEdges job)), length-map (flatten (coloredEdges job)) kindOf, s .edges-fit)) (s .are-colors)
+            listing-few (map (map kindStored) (coloredEdges job)) (edgeColors job) (omega (arith, length-map (coloredEdges job) (map kindStored), s .contours-fit))
+            (omega (arith, ap length (map-flatten kindStored (coloredEdges job)), length-map (flatten (coloredEdges job)) kindStored, s .edges-fit)) (s .are-colors)
         of (Failed refusal) = refusal-short refusal
     go (refuses refusal) e = refusal-short refusal
 
@@ -87,16 +87,16 @@ within-over xs ys e h = rw e (omega (arith, h, length-append xs (drop (length xs
 
 -- what is stored of a shape is cut into its contours again
 stored-listing : (edges : List (List EdgeSegment)) (colors : List (List ℕ)) → sizes colors ≡ sizes edges
-    → listing (map (map kindOf) edges) colors ≡ listing (cut (sizes edges) (map kindOf (flatten edges))) (cut (sizes edges) (flatten colors))
+    → listing (map (map kindStored) edges) colors ≡ listing (cut (sizes edges) (map kindStored (flatten edges))) (cut (sizes edges) (flatten colors))
 stored-listing edges colors e =
-    let kinds : cut (sizes edges) (map kindOf (flatten edges)) ≡ map (map kindOf) edges =
-    rw (map-flatten kindOf edges, ← sizes-map kindOf edges) (cut-again (map (map kindOf) edges)) in
+    let kinds : cut (sizes edges) (map kindStored (flatten edges)) ≡ map (map kindStored) edges =
+    rw (map-flatten kindStored edges, ← sizes-map kindStored edges) (cut-again (map (map kindStored) edges)) in
     let bytes : cut (sizes edges) (flatten colors) ≡ colors = rw (← e) (cut-again colors) in
     rw (kinds, bytes)
 
 front-of : (file : List ℕ) (contours edges : ℕ) (job : Job) (old new : Result) → ShapeOf job → contours ≡ length (coloredEdges job) → edges ≡ length (flatten (coloredEdges job))
     → new .lengths ≡ over (colored job .lengths) (old .lengths) → new .kinds ≡ over (colored job .kinds) (old .kinds) → new .colors ≡ over (colored job .colors) (old .colors)
-    → fileText file ≡ listing (map (map kindOf) (coloredEdges job)) (edgeColors job) → Front file contours edges new
+    → fileText file ≡ listing (map (map kindStored) (coloredEdges job)) (edgeColors job) → Front file contours edges new
 unfolding colored encode
 front-of file contours edges job old new s c e l k m text =
     let shape = colored job in
@@ -116,8 +116,8 @@ front-of file contours edges job old new s c e l k m text =
     }
 
 module _ (file : List ℕ) (old : Result) (room : HoldsResults old) where
-  fits-sized : (job : Job) (shape : Result) → readJob file ≡ reads job → Sized shape (length (coloredEdges job)) (length (flatten (coloredEdges job))) → fits shape old ≡ true
-  unfolding fits
+  fits-sized : (job : Job) (shape : Result) → readJob file ≡ reads job → Sized shape (length (coloredEdges job)) (length (flatten (coloredEdges job))) → resultFits shape old ≡ true
+  unfolding resultFits
   fits-sized job shape e long =
       let s = shape-of job file e in
       rw (
@@ -127,10 +127,10 @@ module _ (file : List ℕ) (old : Result) (room : HoldsResults old) where
         le-leb (length (shape .colors)) (length (old .colors)) (omega (arith, long .colors-long, s .edges-fit, room .colors-fit)),
       )
 
-  fits-all : (job : Job) → readJob file ≡ reads job → fits (colored job) old ≡ true
+  fits-all : (job : Job) → readJob file ≡ reads job → resultFits (colored job) old ≡ true
   fits-all job e = fits-sized job (colored job) e (shape-of job file e .sized)
 
-  pub fits-numbered : (job : Job) → readJob file ≡ reads job → fits (numbered job) old ≡ true
+  pub fits-numbered : (job : Job) → readJob file ≡ reads job → resultFits (numbered job) old ≡ true
   fits-numbered job e = fits-sized job _ e (shape-of job file e .numbers-sized)
 
   pub color-answer : colorFile file old .answer ≡ checkFile file

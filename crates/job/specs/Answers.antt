@@ -17,7 +17,7 @@ use Rattle.coloring.specs.declared.settings.Strategy.the-variants as pen
 use Rattle.coloring.specs.declared.settings.Marking.the-variants.{Colors, Distances}
 use Rattle.coloring.specs.Values.{checkMarking}
 use Rattle.coloring.specs.Splines.{splineTotal}
-use Rattle.coloring.specs.Outline.{Result, fits}
+use Rattle.coloring.specs.Outline.{Result, resultFits}
 use Rattle.coloring.specs.Shape.{countsOf}
 use Rattle.job.specs.declared.progress.Read.{Read}
 use Rattle.job.specs.declared.progress.Read.the-variants as read
@@ -62,7 +62,7 @@ toldChecking (reads job) = firstOf (jobChecks job) (jobCounted job)
 
 abbrev pub toldColoring : Reading → Result → Answer
 toldColoring (refuses r) old = refusal (refusalNumber r)
-toldColoring (reads job) old = firstOf (jobChecks job ++ (unless 11 (fits (colored job) old) ∷ [])) (jobCounted job)
+toldColoring (reads job) old = firstOf (jobChecks job ++ (unless 11 (resultFits (colored job) old) ∷ [])) (jobCounted job)
 
 told-job : (told : Checked → Answer) → ((r : Refusal) → told (Failed r) ≡ refusal (refusalNumber r))
     → (job : Job) (checks : List Check) (answer : Answer) → told Passed ≡ firstOf checks answer → told (checkJob job) ≡ firstOf (jobChecks job ++ checks) answer

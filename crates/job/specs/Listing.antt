@@ -13,7 +13,7 @@ use Rattle.graph.specs.declared.refusal.Refusal.the-variants.{ResultTooShort}
 use Rattle.graph.specs.declared.refusal.Checked.{Checked}
 use Rattle.graph.specs.declared.refusal.Checked.the-variants.{Passed, Failed}
 use Rattle.graph.specs.Lists.{over}
-use Rattle.coloring.specs.Outline.{kindOf}
+use Rattle.coloring.specs.Outline.{kindStored}
 use Rattle.job.specs.declared.listing.Listed.{Listed}
 use Rattle.job.specs.declared.listing.Listed.the-variants.{Bytes, Refused}
 use Rattle.job.specs.Job.{Reading, reads, refuses, readJob}
@@ -92,7 +92,7 @@ refusalLine refusal = refusedWord ++ (decimal (refusalNumber refusal) ++ (newlin
 
 -- the coloured shape where the checks are passed
 abbrev pub checkedText : Checked → List (List EdgeSegment) → List (List ℕ) → List ℕ
-checkedText Passed edges colors = listing (map (map kindOf) edges) colors
+checkedText Passed edges colors = listing (map (map kindStored) edges) colors
 checkedText (Failed refusal) edges colors = refusalLine refusal
 
 unfoldable pub readingText : Reading → List ℕ

@@ -1,4 +1,5 @@
--- The passes of the ink-trap colouring over the corner records, a turn at a time: what a store to the array does to the definition's lists.
+-- The passes of the ink-trap colouring over the corner records, a turn at a time: what a store to the array does to the
+-- definition's lists.
 use mathlib.Core.Path.{_≡_, refl, ap, sym, subst, _∙_}
 use mathlib.Core.Bool.{Bool, true, false, _&&_, cond}
 use mathlib.Core.List.{List, [], _∷_, _++_, map, append-nil, map-append}

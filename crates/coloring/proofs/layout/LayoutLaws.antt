@@ -12,7 +12,7 @@ use Rattle.graph.specs.Lists.{overFrom}
 use Rattle.graph.proofs.Writing.{over-nothing, over-more, over-next}
 use Rattle.coloring.specs.Corners.{Cornered, edgesIn, flagsIn, cornered}
 use Rattle.coloring.specs.Layout.{layout, resultEdges}
-use Rattle.coloring.specs.Outline.{kindOf, placesOf, encode, LaidFrom}
+use Rattle.coloring.specs.Outline.{kindStored, placesStored, encode, LaidFrom}
 use Rattle.coloring.specs.Sizes.{layout-length, layout-flagged, points-length}
 use Rattle.coloring.proofs.outline.StoreLaws.{points-append}
 use Rattle.coloring.proofs.outline.CutLaws.{Along, along-room, along-next, cornered-step, cornered-end, left, left-step}
@@ -36,11 +36,11 @@ toLay lengths xs flags at i = laid (cornered (drop i lengths) (drop at xs) (drop
 
 laid-next : (contour : Cornered) (rest : List Cornered)
     → (laid (contour ∷ rest) .lengths ≡ length (layout contour .edges) ∷ laid rest .lengths)
-    × (laid (contour ∷ rest) .kinds ≡ map kindOf (layout contour .edges) ++ laid rest .kinds)
-    × (laid (contour ∷ rest) .points ≡ flatten (map placesOf (layout contour .edges)) ++ laid rest .points)
+    × (laid (contour ∷ rest) .kinds ≡ map kindStored (layout contour .edges) ++ laid rest .kinds)
+    × (laid (contour ∷ rest) .points ≡ flatten (map placesStored (layout contour .edges)) ++ laid rest .points)
     × (laid (contour ∷ rest) .flags ≡ layout contour .corners ++ laid rest .flags)
 unfolding encode flatten
-laid-next contour rest = (refl, map-append kindOf (layout contour .edges) _, points-append (layout contour .edges) _, refl)
+laid-next contour rest = (refl, map-append kindStored (layout contour .edges) _, points-append (layout contour .edges) _, refl)
 
 -- four buffers on the way to hold the whole, over what stood there
 pub record Laying (lengths : List ℕ) (xs : List EdgeSegment) (flags : List Bool) (edges : ℕ) (whole : Buffers)
@@ -85,11 +85,11 @@ module _ (lengths : List ℕ) (xs : List EdgeSegment) (flags : List Bool) (edges
         lengths-so-far = s .lengths-so-far ∙ rw (step, next .0, long) (over-next i k _ outLengths r);
         kinds-so-far =
             s .kinds-so-far
-            ∙ rw (step, next .1) (over-more to k (map kindOf (layout here .edges)) _ outKinds (length-map (layout here .edges) kindOf ∙ long) (omega (arith, s .counted)));
+            ∙ rw (step, next .1) (over-more to k (map kindStored (layout here .edges)) _ outKinds (length-map (layout here .edges) kindStored ∙ long) (omega (arith, s .counted)));
         points-so-far =
             s .points-so-far
             ∙ rw (step, next .2)
-            (over-more (8 * to) (8 * k) (flatten (map placesOf (layout here .edges))) _ outPoints (points-length (layout here .edges) ∙ ap (λ n. 8 * n) long) (omega (arith, s .counted)) ∙ rw eight);
+            (over-more (8 * to) (8 * k) (flatten (map placesStored (layout here .edges))) _ outPoints (points-length (layout here .edges) ∙ ap (λ n. 8 * n) long) (omega (arith, s .counted)) ∙ rw eight);
         flags-so-far =
             s .flags-so-far
             ∙ rw (step, next .3) (over-more to k (layout here .corners) _ outFlags (layout-flagged here flagged ∙ long) (omega (arith, s .counted)));

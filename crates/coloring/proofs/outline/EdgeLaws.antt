@@ -8,7 +8,7 @@ use lib.Ieee.{Float}
 use lib.ListN.{length, take, drop, getD, length-take, length-drop}
 use lib.Seq.{drop-drop, take-take}
 use Rattle.geometry.specs.declared.edge_segment.EdgeSegment.{EdgeSegment}
-use Rattle.coloring.specs.Outline.{edgeOf, edgesOf, Matching, Part}
+use Rattle.coloring.specs.Outline.{edgeStored, edgesOf, Matching, Part}
 use Rattle.coloring.proofs.Lists.{drop-take}
 
 pub edges-length : (kinds : List ℕ) (points : List Float) → length (edgesOf kinds points) ≡ length kinds
@@ -38,7 +38,7 @@ edges-part : (at m : ℕ) (kinds : List ℕ) (points : List Float)
 edges-part at m kinds points = rw (edges-drop at kinds points, edges-take m (drop at kinds) (drop (8 * at) points))
 
 pub edges-at : (kinds : List ℕ) (points : List Float) (i : ℕ) (d : EdgeSegment) → i < length kinds
-    → getD (edgesOf kinds points) i d ≡ edgeOf (getD kinds i 0) (take 8 (drop (8 * i) points))
+    → getD (edgesOf kinds points) i d ≡ edgeStored (getD kinds i 0) (take 8 (drop (8 * i) points))
 unfolding edgesOf
 edges-at [] points i d h = absurd (omega arith)
 edges-at (k ∷ kinds) points zero d h = refl

@@ -1,4 +1,4 @@
--- What an entry does with its buffers: a checked outline's agree, and the count decides whether the result fits.
+-- What an entry does with its buffers: a checked outline's agree, and the count decides whether the result resultFits.
 use mathlib.Core.Path.{_≡_, refl, sym, ap, _∙_}
 use mathlib.Core.Bool.{Bool, true, false, _&&_, cond}
 use mathlib.Core.List.{List, [], _∷_, _++_, map, flatten}
@@ -21,7 +21,7 @@ use Rattle.coloring.specs.declared.outline.Colored.the-variants.{Edges, 
 use Rattle.coloring.specs.Places.{total}
 use Rattle.coloring.specs.Corners.{Cornered, edgesIn, flagsIn, cornered}
 use Rattle.coloring.specs.Layout.{layout, resultEdges}
-use Rattle.coloring.specs.Outline.{Outline, Result, cut, encode, check, result, fits, delivered, deliver, outcome, Agrees, LaidOut}
+use Rattle.coloring.specs.Outline.{Outline, Result, cut, encode, check, result, resultFits, delivered, deliver, outcome, Agrees, LaidOut}
 use Rattle.coloring.specs.Splines.{splineCount, splineTotal, paintContours}
 use Rattle.coloring.specs.Shape.{painted, countsOf, Counted}
 use Rattle.coloring.specs.Sizes.{sizes, cut-again, flatten-length, Flagged, laid-flagged, flagged-sizes, laid-sizes, Sized, painted-sized}
@@ -70,8 +70,8 @@ cornered-length (n ∷ lengths) xs flags = ap suc (cornered-length lengths (drop
 abbrev pub hasRoom : ℕ → ℕ → Result → Bool
 hasRoom contours edges old = leb contours (length (old .lengths)) && leb edges (length (old .kinds)) && leb (8 * edges) (length (old .points)) && leb edges (length (old .colors))
 
-pub sized-fits : {written : Result} {contours edges : ℕ} (old : Result) → Sized written contours edges → fits written old ≡ hasRoom contours edges old
-unfolding fits
+pub sized-fits : {written : Result} {contours edges : ℕ} (old : Result) → Sized written contours edges → resultFits written old ≡ hasRoom contours edges old
+unfolding resultFits
 sized-fits old s = rw (s .lengths-long, s .kinds-long, s .points-long, s .colors-long)
 
 pub room-fits : (contours edges : ℕ) (old : Result) → hasRoom contours edges old ≡ true
@@ -90,7 +90,7 @@ room-fits contours edges old e =
     )
 
 module _ (counts : Counts) (written old : Result) where
-  pub deliver-fits : fits written old ≡ true → deliver Passed counts written old ≡ delivered counts written old
+  pub deliver-fits : resultFits written old ≡ true → deliver Passed counts written old ≡ delivered counts written old
   unfolding deliver
   deliver-fits e = ap (λ b. cond b (delivered counts written old) (outcome (Refused ResultTooShort) old)) e
 
@@ -98,7 +98,7 @@ module _ (counts : Counts) (written old : Result) where
   unfolding deliver
   deliver-failed refusal e = rw e
 
-  pub deliver-short : fits written old ≡ false → deliver Passed counts written old ≡ outcome (Refused ResultTooShort) old
+  pub deliver-short : resultFits written old ≡ false → deliver Passed counts written old ≡ outcome (Refused ResultTooShort) old
   unfolding deliver
   deliver-short e = ap (λ b. cond b (delivered counts written old) (outcome (Refused ResultTooShort) old)) e
 
@@ -166,7 +166,7 @@ module _ (lengths : List ℕ) (xs : List EdgeSegment) (flags : List Bool) (count
 
     -- laid out and painted
     pub painted-delivered : (middle : ℕ) (values colors₀ : List ℕ) {middle' : ℕ} {bytes colors : List ℕ}
-        → fits (painted middle values laid) (result lengths₀ kinds₀ points₀ colors₀) ≡ true
+        → resultFits (painted middle values laid) (result lengths₀ kinds₀ points₀ colors₀) ≡ true
         → middle' ≡ middle → bytes ≡ flatten (paintContours middle' values (cut (take (counts .contours) outLengths) (take (counts .edges) outFlags)))
         → colors ≡ bytes ++ drop (counts .edges) colors₀
         → outcome (Edges counts) (result outLengths outKinds outPoints colors)

@@ -19,7 +19,7 @@ use Rattle.graph.specs.SplineColors.{checkSplines}
 use Rattle.coloring.specs.declared.outline.Counts.{Counts}
 use Rattle.coloring.specs.declared.outline.Colored.{Colored}
 use Rattle.coloring.specs.declared.outline.Colored.the-variants.{Edges, Refused}
-use Rattle.coloring.specs.Outline.{Outline, Result, Outcome, fits, delivered, deliver}
+use Rattle.coloring.specs.Outline.{Outline, Result, Outcome, resultFits, delivered, deliver}
 use Rattle.coloring.specs.Shape.{countsOf}
 use Rattle.coloring.specs.Splines.{splineTotal}
 use Rattle.coloring.specs.EdgeColoring.{collectSplines}
@@ -45,7 +45,7 @@ use Rattle.job.proofs.AnswerLaws.{fits-numbered}
 
 -- one distance a pair, counted, is one distance a pair of a job whose distances are valid
 pairs-checked : (splines : ℕ) (ds : List Float) (counts : Counts) (written old : Result) → counts .splines ≡ splines → length ds ≤ 2016
-    → distancesValid ds ≡ true → fits written old ≡ true
+    → distancesValid ds ≡ true → resultFits written old ≡ true
     → paired (deliver (require (leb splines maxSplines) TooMany Passed) counts written old .answer) (length ds) ≡ answered (checkSplines splines ds) counts
 unfolding deliver delivered
 pairs-checked splines ds counts written old e few valid room = go (leb splines 64) refl

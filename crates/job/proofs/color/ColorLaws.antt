@@ -30,7 +30,7 @@ use Rattle.coloring.specs.Values.{splineValues, middleValue, checkMarking}
 use Rattle.coloring.specs.Splines.{splineTotal}
 use Rattle.coloring.specs.Outline as outline
 use Rattle.coloring.specs.declared.outline.Colored.the-variants as color
-use Rattle.coloring.specs.Outline.{Outline, Result, Outcome, outcome, edgeOf, contours, knownKind, coordinatesFit, check, deliver}
+use Rattle.coloring.specs.Outline.{Outline, Result, Outcome, outcome, edgeStored, contours, knownKind, coordinatesFit, check, deliver}
 use Rattle.coloring.specs.Shape.{painted, countsOf, deliverFound}
 use Rattle.coloring.specs.Sizes.{sizes, cut-again, flatten-length, points-length}
 use Rattle.coloring.specs.EdgeColoring.{edgeColoring, collectSplines}
@@ -52,7 +52,7 @@ use Rattle.job.proofs.buffers.StoredLaws.{kinds-length}
 -- ---- the buffers hold the contours
 
 edges-again : (edges : List EdgeSegment) → outline.edgesOf (kindsOf edges) (placesOf edges) ≡ edges
-unfolding outline.edgesOf edgeOf toStored fromStored flatten
+unfolding outline.edgesOf edgeStored toStored fromStored flatten
 edges-again [] = refl
 edges-again (segment.Line p0 p1 ∷ edges) = ap (λ (r : List EdgeSegment). segment.Line p0 p1 ∷ r) (edges-again edges)
 edges-again (segment.Quadratic p0 p1 p2 ∷ edges) = ap (λ (r : List EdgeSegment). segment.Quadratic p0 p1 p2 ∷ r) (edges-again edges)

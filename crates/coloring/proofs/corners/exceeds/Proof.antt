@@ -1,4 +1,5 @@
--- `coloring::corners::exceeds` meets its contract: below zero the magnitude is the number negated; elsewhere it compares as the number does, -0 too.
+-- `coloring::corners::exceeds` meets its contract: below zero the magnitude is the number negated; elsewhere it
+-- compares as the number does, -0 too.
 use mathlib.Core.Path.{_≡_, refl, sym, ap}
 use mathlib.Core.Bool.{true, false}
 use Prim.Native.Nat.{zero, suc, _+_, _*_, _<_}

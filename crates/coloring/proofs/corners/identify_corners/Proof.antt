@@ -1,4 +1,5 @@
--- `identify_corners` meets its contract: the edges before place i have their flags, and `prev` is the unit direction in which the edge before i ends.
+-- `identify_corners` meets its contract: the edges before place i have their flags, and `prev` is the unit direction in
+-- which the edge before i ends.
 use native.Mathlib.Omega.{arith}
 use borrow.Author.Needs.{needs}
 use mathlib.Core.Path.{_≡_, refl, sym, _∙_}

@@ -1,4 +1,5 @@
--- `colors_by_length` meets its contract, loop by loop: the corners are measured, the minor ones marked, the major ones coloured, the minor ones coloured.
+-- `colors_by_length` meets its contract, loop by loop: the corners are measured, the minor ones marked, the major ones
+-- coloured, the minor ones coloured.
 use native.Mathlib.Omega.{arith}
 use borrow.Author.Needs.{needs}
 use mathlib.Core.Path.{_≡_, refl, sym, ap, _∙_}

@@ -143,9 +143,9 @@ lay-out-part-requires c κs =
     let pre = start turn .pre in
     let at = turn .before .loop in
     let kept = at .inv .0 in
-    let fits = fit edges in (
+    let enough = fit edges in (
       (record { matching = pre .0 .matching; start = omega arith; inside = room turn }, ap (λ k. at .to + k) (edges .part-edges .ensures)),
-      (omega (arith, fits, kept .kinds-kept, pre .1 .kinds-fit), omega (arith, fits, kept .points-kept, pre .1 .points-fit), omega (arith, fits, kept .flags-kept, pre .1 .flags-fit)),
+      (omega (arith, enough, kept .kinds-kept, pre .1 .kinds-fit), omega (arith, enough, kept .points-kept, pre .1 .points-fit), omega (arith, enough, kept .flags-kept, pre .1 .flags-fit)),
     )
 
 -- the next contour is laid out

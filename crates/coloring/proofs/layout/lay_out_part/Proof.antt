@@ -8,7 +8,7 @@ use native.Mathlib.Omega.{arith}
 use lib.ListN.{length, length-take, length-drop, length-map}
 use Rattle.graph.proofs.Writing.{over-part}
 use Rattle.coloring.specs.Layout.{layout}
-use Rattle.coloring.specs.Outline.{kindOf, placesOf, part}
+use Rattle.coloring.specs.Outline.{kindStored, placesStored, part}
 use Rattle.coloring.specs.Sizes.{layout-length, layout-flagged, points-length}
 use Rattle.coloring.proofs.outline.EdgeLaws.{edges-length, edges-between, part-matching}
 use Rattle.coloring.proofs.layout.lay_out_part.Statement.{statement}
@@ -123,10 +123,10 @@ returns c =
     simp (length-take, length-drop) (omega (arith, start .pre .0 .0 .matching .flagged, edges-length (a .kinds .now) (a .points .now))) in
     let long : length (result .edges) ≡ a .next - a .to = layout-length contour flagged ∙ omega (arith, start .pre .0 .1) in
     record {
-      kinds-are = rw (done .edges-are .kinds-are) (over-part (a .to) (a .next - a .to) (map kindOf (result .edges)) (a .out-kinds .now) (length-map (result .edges) kindOf ∙ long));
+      kinds-are = rw (done .edges-are .kinds-are) (over-part (a .to) (a .next - a .to) (map kindStored (result .edges)) (a .out-kinds .now) (length-map (result .edges) kindStored ∙ long));
       points-are =
           rw (done .edges-are .points-are, eight)
-          (over-part (8 * a .to) (8 * (a .next - a .to)) (flatten (map placesOf (result .edges))) (a .out-points .now) (points-length (result .edges) ∙ ap (λ n. 8 * n) long));
+          (over-part (8 * a .to) (8 * (a .next - a .to)) (flatten (map placesStored (result .edges))) (a .out-points .now) (points-length (result .edges) ∙ ap (λ n. 8 * n) long));
       flags-are = rw (done .flags-are) (over-part (a .to) (a .next - a .to) (result .corners) (a .out-flags .now) (layout-flagged contour flagged ∙ long));
     }
 

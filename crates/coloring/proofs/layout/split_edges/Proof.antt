@@ -10,7 +10,7 @@ use lib.Seq.{drop-cons}
 use Rattle.geometry.specs.declared.edge_segment.EdgeSegment.{EdgeSegment}
 use Rattle.coloring.specs.Places.{rotate}
 use Rattle.coloring.specs.Layout.{thirds}
-use Rattle.coloring.specs.Outline.{anyEdge, edgesOf, kindOf, placesOf}
+use Rattle.coloring.specs.Outline.{anyEdge, edgesOf, kindStored, placesStored}
 use Rattle.coloring.specs.Sizes.{length-rotate, thirds-length}
 use Rattle.coloring.proofs.Places.{getD-rotate}
 use Rattle.coloring.proofs.outline.EdgeLaws.{edges-length}
@@ -33,7 +33,7 @@ thirds-next edges corner i m l s h =
 abbrev Inv-loop : tie.InvT-loop
 Inv-loop kinds points corner out-kinds₀ out-points₀ m i₀ out-kinds out-points i =
     (m ≡ length kinds) × (i ≤ m) × (length out-kinds ≡ 3 * m)
-    × Storing (map kindOf (flatten (map thirds (rotate corner (edgesOf kinds points))))) (flatten (map placesOf (flatten (map thirds (rotate corner (edgesOf kinds points))))))
+    × Storing (map kindStored (flatten (map thirds (rotate corner (edgesOf kinds points))))) (flatten (map placesStored (flatten (map thirds (rotate corner (edgesOf kinds points))))))
     (3 * i) out-kinds out-points (flatten (map thirds (drop i (rotate corner (edgesOf kinds points)))))
 
 abbrev μ-loop : tie.MeasureT-loop

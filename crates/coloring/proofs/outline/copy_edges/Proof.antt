@@ -6,7 +6,7 @@ use native.Mathlib.Omega.{arith}
 use native.Mathlib.Numerals.{add-one}
 use lib.ListN.{length, drop, drop-of-length-le}
 use lib.Seq.{drop-cons}
-use Rattle.coloring.specs.Outline.{anyEdge, edgesOf, kindOf, placesOf}
+use Rattle.coloring.specs.Outline.{anyEdge, edgesOf, kindStored, placesStored}
 use Rattle.coloring.proofs.outline.EdgeLaws.{edges-length}
 use Rattle.coloring.proofs.outline.StoreLaws.{Storing, storing-all, storing-one, storing-ends}
 use Rattle.coloring.proofs.outline.copy_edges.Statement.{statement}
@@ -15,7 +15,7 @@ use Rattle.coloring.proofs.outline.copy_edges.Tie as tie
 abbrev Inv-loop : tie.InvT-loop
 Inv-loop kinds points out-kinds₀ out-points₀ i₀ out-kinds out-points i =
     (i ≤ length kinds) × (length out-kinds ≡ length kinds)
-    × Storing (map kindOf (edgesOf kinds points)) (flatten (map placesOf (edgesOf kinds points))) i out-kinds out-points (drop i (edgesOf kinds points))
+    × Storing (map kindStored (edgesOf kinds points)) (flatten (map placesStored (edgesOf kinds points))) i out-kinds out-points (drop i (edgesOf kinds points))
 
 abbrev μ-loop : tie.MeasureT-loop
 μ-loop kinds points out-kinds₀ out-points₀ i₀ out-kinds out-points i = length kinds - i

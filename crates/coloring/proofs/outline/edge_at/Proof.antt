@@ -3,7 +3,7 @@ use mathlib.Core.Path.{_≡_, sym, ap, _∙_}
 use Prim.Native.Nat.{_+_, _*_, _-_}
 use native.Mathlib.Omega.{arith}
 use lib.ListN.{getD, take, drop}
-use Rattle.coloring.specs.Outline.{anyEdge, decoded, edgeOf, edgesOf}
+use Rattle.coloring.specs.Outline.{anyEdge, decoded, edgeStored, edgesOf}
 use Rattle.coloring.proofs.outline.EdgeLaws.{edges-at}
 use borrow.Author.Needs.{needs}
 use Rattle.coloring.proofs.outline.edge_at.Statement.{statement}
@@ -57,13 +57,13 @@ module _ (c : tie.After-from-stored) where
   start = c .before .before .before .before .before .before .before .before
 
   stands : decoded (c .from-stored .result) ≡ getD (edgesOf (start .args .kinds .now) (start .args .points .now)) (start .args .i) anyEdge
-  unfolding edgeOf
+  unfolding edgeStored
   stands =
       let i = start .args .i in
       let copy = c .before .before .before .copy in
       let eight : 8 * i + 8 - 8 * i ≡ 8 = omega arith in
       let places : copy .last .1 .0 ≡ take 8 (drop (8 * i) (start .args .points .now)) = copy .ensures ∙ rw eight in
-      ap decoded (c .from-stored .ensures) ∙ ap (edgeOf (getD (start .args .kinds .now) i 0)) places ∙ sym (edges-at _ _ i anyEdge (start .pre .0))
+      ap decoded (c .from-stored .ensures) ∙ ap (edgeStored (getD (start .args .kinds .now) i 0)) places ∙ sym (edges-at _ _ i anyEdge (start .pre .0))
 
 returns : tie.Need-returns
 returns c = sym (ap decoded (c .before .e .given .1)) ∙ stands (c .before .before .before)

@@ -1,4 +1,5 @@
--- `color_shape` meets its contract: the splines are counted and get their values, or there is a refusal; then the result.
+-- `color_shape` meets its contract: the splines are counted and get their values, or there is a refusal; then the
+-- result.
 use borrow.Author.Needs.{needs}
 use mathlib.Core.Path.{_≡_, sym, ap, _∙_}
 use mathlib.Core.Bool.{Bool}

@@ -11,7 +11,7 @@ use borrow.Author.Tests.{not-true, not-false}
 use Rattle.geometry.specs.declared.edge_segment.EdgeSegment.{EdgeSegment}
 use Rattle.coloring.specs.declared.outline.Counts.{Counts}
 use Rattle.coloring.specs.Values.{middleValue}
-use Rattle.coloring.specs.Outline.{Result, edgesOf, result, fits}
+use Rattle.coloring.specs.Outline.{Result, edgesOf, result, resultFits}
 use Rattle.coloring.specs.Shape.{painted}
 use Rattle.coloring.proofs.outline.EdgeLaws.{edges-length}
 use Rattle.coloring.proofs.shape.DeliverLaws.{laidOut, sized-fits, room-fits, deliver-short, counted-sized, front-total, front-length, front-splines, painted-delivered}
@@ -43,7 +43,7 @@ module _ (c : tie.After-has-room) where
   start = shared .before .before
 
   -- the answer on room is that for the result
-  fit : fits (written start) (old start) ≡ c .has-room .result
+  fit : resultFits (written start) (old start) ≡ c .has-room .result
   fit = sized-fits (old start) (counted-sized (start .args .lengths .now) (edges start) (start .args .flags .now) (start .args .counts) (flagged start) (start .pre .1 .0) _ _) ∙ sym (c .has-room .ensures)
 
 -- there is room
@@ -54,7 +54,7 @@ module _ (c : tie.Else1) where
   abbrev counts : Counts
   counts = s .args .counts
 
-  fitting : fits (written s) (old s) ≡ true
+  fitting : resultFits (written s) (old s) ≡ true
   fitting = fit (c .before) ∙ not-false (c .before .has-room .result) (c .if1 .left)
 
   room : (counts .contours ≤ length (s .args .out-lengths .now)) × (counts .edges ≤ length (s .args .out-kinds .now))

@@ -13,7 +13,8 @@ use Rattle.coloring.proofs.outline.CutLaws.{Along, along-starts, along-
 use Rattle.coloring.proofs.splines.paint_contours.Statement.{statement}
 use Rattle.coloring.proofs.splines.paint_contours.Tie as tie
 
--- i contours are painted: the places before `at` hold their bytes, and the values from place `from` on are those of the others
+-- i contours are painted: the places before `at` hold their bytes, and the values from place `from` on are those of the
+-- others
 record Painting (lengths : List ℕ) (flags : List Bool) (middle : ℕ) (values out : List ℕ) (at from i : ℕ) : Type 0 where
   pub along : Along lengths (length flags) at i
   pub long : length out ≡ length flags

@@ -1,4 +1,5 @@
--- `paint_part` meets its contract: the parts passed on hold the contour's flags and its splines' values, and take its bytes.
+-- `paint_part` meets its contract: the parts passed on hold the contour's flags and its splines' values, and take its
+-- bytes.
 use borrow.Author.Needs.{needs}
 use mathlib.Core.Path.{_≡_, _∙_}
 use Prim.Native.Nat.{_-_}

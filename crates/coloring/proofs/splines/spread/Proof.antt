@@ -1,4 +1,5 @@
--- `spread` meets its contract: the places before i have their values, and `value` is that of the spline at i or before it.
+-- `spread` meets its contract: the places before i have their values, and `value` is that of the spline at i or before
+-- it.
 use native.Mathlib.Omega.{arith}
 use mathlib.Core.Path.{_≡_, sym, _∙_}
 use mathlib.Core.Logic.{⊎-elim}

@@ -1,4 +1,5 @@
--- `switch_color_banned`: the shared channels are the bits' and; where it is one channel, the two others are the bits' exclusive or with 7.
+-- `switch_color_banned`: the shared channels are the bits' and; where it is one channel, the two others are the bits'
+-- exclusive or with 7.
 use Prim.Native.Nat.{ℕ, _<_}
 use mathlib.Core.Bool.{Bool, true, false}
 use mathlib.Core.Path.{_≡_, _∙_}
