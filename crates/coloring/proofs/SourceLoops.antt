@@ -71,7 +71,13 @@ module _ (start m : ℕ) where
   order h =
       let whole : range 0 m ≡ range 0 (m - start) ++ range (m - start + 0) start =
       ap (range 0) (omega arith) ∙ range-append 0 (m - start) start ∙ ap (λ (k : ℕ). range 0 (m - start) ++ range k start) (omega arith) in
-      rw (whole, map-append (λ i. (start + i) % m) (range 0 (m - start)) (range (m - start + 0) start), near 0 (m - start) (omega arith), around 0 start (omega arith) (omega arith) h, add-zero)
+      rw (
+        whole,
+        map-append (λ i. (start + i) % m) (range 0 (m - start)) (range (m - start + 0) start),
+        near 0 (m - start) (omega arith),
+        around 0 start (omega arith) (omega arith) h,
+        add-zero,
+      )
 
 -- ---- which splines the loop meets
 
@@ -140,14 +146,18 @@ module _ {A : Type 0} (corners : List ℕ) (values : List A) (d : A) where
       let value = valueOf (suc spline) in
       let size = one-more done value in
       let next = drop-cons values (suc spline) d (omega (arith, r .0)) in
-      let sum : spline + suc (length (cornersFrom (suc (length done)) flags)) ≡ suc spline + length (cornersFrom (suc (length done)) flags) = omega arith in
-      step done out x spline (range (suc (length done)) (length flags) ++ places) (at-corner corners spline (length done) (cornersFrom (suc (length done)) flags) c)
-      ∙ rw (next, sum) (rw (size, append-assoc done (value ∷ []) (spread value (drop (suc (suc spline)) values) flags)) at (along flags (done ++ (value ∷ [])) out (suc spline) places v (omega arith) (rw size (r .2))))
+      let others = cornersFrom (suc (length done)) flags in
+      let sum : spline + suc (length others) ≡ suc spline + length others = omega arith in
+      let rest = along flags (done ++ (value ∷ [])) out (suc spline) places v (omega arith) (rw size (r .2)) in
+      step done out x spline (range (suc (length done)) (length flags) ++ places) (at-corner corners spline (length done) others c)
+      ∙ rw (next, sum) (rw (size, append-assoc done (value ∷ []) (spread value (drop (suc (suc spline)) values) flags)) at rest)
   along (false ∷ flags) done (x ∷ out) spline places v l c =
       let value = valueOf spline in
       let size = one-more done value in
-      step done out x spline (range (suc (length done)) (length flags) ++ places) (between corners spline (length done) flags (cornersFrom (suc (length done)) flags) refl c)
-      ∙ (rw (size, append-assoc done (value ∷ []) (spread value (drop (suc spline) values) flags)) at (along flags (done ++ (value ∷ [])) out spline places v (omega arith) (rw size c)))
+      let others = cornersFrom (suc (length done)) flags in
+      let rest = along flags (done ++ (value ∷ [])) out spline places v (omega arith) (rw size c) in
+      step done out x spline (range (suc (length done)) (length flags) ++ places) (between corners spline (length done) flags others refl c)
+      ∙ (rw (size, append-assoc done (value ∷ []) (spread value (drop (suc spline) values) flags)) at rest)
 
   -- the places before the first corner: the last spline's
   before : (n : ℕ) (done out rest : List A) (spline : ℕ) → length out ≡ n → length corners ≤ suc spline
@@ -168,7 +178,8 @@ module _ {A : Type 0} (corners : List ℕ) (values : List A) (d : A) where
 abbrev upTo : ℕ → List Bool → List Bool
 upTo n rest = replicate n false ++ (true ∷ rest)
 
-spread-upTo : {A : Type 0} (value : A) (values : List A) (n : ℕ) (flags : List Bool) → spread value values (replicate n false ++ flags) ≡ replicate n value ++ spread value values flags
+spread-upTo : {A : Type 0} (value : A) (values : List A) (n : ℕ) (flags : List Bool)
+    → spread value values (replicate n false ++ flags) ≡ replicate n value ++ spread value values flags
 unfolding spread
 spread-upTo value values zero flags = refl
 spread-upTo value values (suc n) flags = ap (λ l. value ∷ l) (spread-upTo value values n flags)
@@ -188,28 +199,32 @@ split-upTo i (false ∷ flags) h = let r = split-upTo (suc i) flags h in (suc (r
 -- ---- so the loop gives what is painted
 
 module _ {A : Type 0} (middle : A) (values out : List A) where
-  loop-upTo : (n : ℕ) (rest : List Bool) (corners : List ℕ) → corners ≡ n ∷ cornersFrom (suc n) rest → length values ≡ length corners → length out ≡ length (upTo n rest)
+  loop-upTo : (n : ℕ) (rest : List Bool) (corners : List ℕ) → corners ≡ n ∷ cornersFrom (suc n) rest
+      → length values ≡ length corners → length out ≡ length (upTo n rest)
       → sourceLoop corners values middle (length (upTo n rest)) out ≡ spread (getD values (length values - 1) middle) values (upTo n rest)
   unfolding sourceLoop spread cornersFrom
   loop-upTo n rest corners c v o =
       let m = length (upTo n rest) in
       let k = length (cornersFrom (suc n) rest) in
-      let long : m ≡ n + suc (length rest) = length-append (replicate n false) (true ∷ rest) ∙ ap (λ (j : ℕ). j + suc (length rest)) (length-replicate n false) in
+      let long : m ≡ n + suc (length rest) =
+      length-append (replicate n false) (true ∷ rest) ∙ ap (λ (j : ℕ). j + suc (length rest)) (length-replicate n false) in
       let count : length corners ≡ suc k = ap length c in
       let size : length (take n out) ≡ n = length-take-le n out (omega arith) in
       let first = getD values 0 middle in
       let tail = spread first (drop 1 values) rest in
       let places : map (λ i. (getD corners 0 0 + i) % m) (range 0 m) ≡ range n (suc (length rest)) ++ range 0 n =
       rw (ap (λ (l : List ℕ). getD l 0 0) c) (order n m (omega arith) ∙ ap (λ (j : ℕ). range n j ++ range 0 n) (omega arith)) in
-      let passed = along corners values middle (false ∷ rest) (take n out) (drop n out) 0 (range 0 n) v (length-drop n out ∙ omega arith) (rw size (ap (drop 1) c)) in
+      let passed =
+      along corners values middle (false ∷ rest) (take n out) (drop n out) 0 (range 0 n) v (length-drop n out ∙ omega arith) (rw size (ap (drop 1) c)) in
       let closed = before corners values middle n [] (take n out) (first ∷ tail) (0 + k) size (omega arith) in
       let last : 0 + k ≡ length values - 1 = omega arith in
+      let final = getD values (length values - 1) middle in
       let whole : values ≡ first ∷ drop 1 values = drop-cons values 0 middle (omega arith) in
       ap (λ (p : List ℕ). goRound corners values middle p 0 out) places
       ∙ (rw (size, take-append-drop n out) at passed)
       ∙ closed
       ∙ ap (λ (j : ℕ). replicate n (getD values j middle) ++ (first ∷ tail)) last
-      ∙ sym (spread-upTo (getD values (length values - 1) middle) values n (true ∷ rest) ∙ ap (λ (l : List A). replicate n (getD values (length values - 1) middle) ++ spread (getD values (length values - 1) middle) l (true ∷ rest)) whole)
+      ∙ sym (spread-upTo final values n (true ∷ rest) ∙ ap (λ (l : List A). replicate n final ++ spread final l (true ∷ rest)) whole)
 
 -- the loop of a contour with two corners or more, whatever stood in its places before
 pub source-loop : {A : Type 0} (middle : A) (values out : List A) (flags : List Bool)
@@ -240,12 +255,14 @@ break-splits first m h = each (range 0 m)
     spline i = cond (ltb i (m / 2)) first (suc first)
 
     by-tests : (i : ℕ) (a : Bool) → ltb (46 * i) (15 * (m - 1)) ≡ a → (b : Bool) → ltb (46 * i) (31 * (m - 1)) ≡ b
-        → thirdOf (spline i) noSpline (spline i) (cond a (negsuc 0) (cond b (pos 0) (pos 1))) ≡ thirdOf first noSpline (suc first) (cond a (negsuc 0) (cond b (pos 0) (pos 1)))
+        → let third = cond a (negsuc 0) (cond b (pos 0) (pos 1)) in
+        thirdOf (spline i) noSpline (spline i) third ≡ thirdOf first noSpline (suc first) third
     by-tests i true e b f = let below : 46 * i < 15 * (m - 1) = ltb-true (46 * i) (15 * (m - 1)) e in rw (lt-ltb i (m / 2) (omega arith))
     by-tests i false e true f = refl
     by-tests i false e false f = let above : 31 * (m - 1) ≤ 46 * i = ltb-false (46 * i) (31 * (m - 1)) f in rw (le-ltb i (m / 2) (omega arith))
 
     each : (places : List ℕ)
-        → map (λ i. thirdOf (spline i) noSpline (spline i) (symmetricalTrichotomy i m)) places ≡ map (λ i. thirdOf first noSpline (suc first) (symmetricalTrichotomy i m)) places
+        → map (λ i. thirdOf (spline i) noSpline (spline i) (symmetricalTrichotomy i m)) places
+        ≡ map (λ i. thirdOf first noSpline (suc first) (symmetricalTrichotomy i m)) places
     each [] = refl
     each (i ∷ places) = rw (by-tests i (ltb (46 * i) (15 * (m - 1))) refl (ltb (46 * i) (31 * (m - 1))) refl, each places)

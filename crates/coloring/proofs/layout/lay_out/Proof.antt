@@ -158,7 +158,8 @@ module _ (c : tie.After-lay-out-part Inv-loop μ-loop) where
 
 add-i : tie.Need-add-i Inv-loop μ-loop
 add-i c =
-    let turn = turned (c .before .before .before .before .before .before) in
+    let points = c .before .before .before in
+    let turn = turned (points .before .before .before) in
     omega (arith, turn .loop-test .taken, start turn .good)
 
 loop-less : tie.Need-loop-less Inv-loop μ-loop
@@ -166,7 +167,8 @@ loop-less c = omega arith
 
 loop-again : tie.Need-loop-again Inv-loop μ-loop
 loop-again c =
-    let laid-out = c .before .before .before .before .before .before in
+    let points = c .before .before .before in
+    let laid-out = points .before .before .before in
     let turn = turned laid-out in
     let pre = start turn .pre in
     let a = start turn .args in

@@ -85,11 +85,15 @@ returns : tie.Need-returns
 unfolding splitContour
 returns c =
     let flags = c .before .before in
-    let edges = flags .before .before .before .before .before .before in
+    let points = flags .before .before .before in
+    let edges = points .before .before .before in
     let corner = edges .before .before .before in
     let branch = corner .before in
     rw (layout-split (contour (s branch)) (split branch), ← corner .first-corner .ensures)
-    (record { edges-are = edges .split-edges .ensures; flags-are = flags .flag-first .ensures ∙ ap firstOnly (rw (← corner .first-corner .ensures) at (flags-long branch)) })
+    (record {
+      edges-are = edges .split-edges .ensures;
+      flags-are = flags .flag-first .ensures ∙ ap firstOnly (rw (← corner .first-corner .ensures) at (flags-long branch));
+    })
 
 copy-edges-requires : tie.Need-copy-edges-requires
 copy-edges-requires c κs =
@@ -100,7 +104,8 @@ copy-edges-requires c κs =
 
 copy-flags-requires : tie.Need-copy-flags-requires
 copy-flags-requires c κs =
-    let branch = c .before .before .before .before .before .before .before .before in
+    let edges = c .before .before .before .before .before in
+    let branch = edges .before .before .before in
     start (branch .before) .pre .0 .1 ∙ edges-same _ (same branch)
 
 same-length-4 : tie.Need-same-length-4
@@ -115,7 +120,8 @@ same-length-6 c = search needs
 returns-2 : tie.Need-returns-2
 returns-2 c =
     let flags = c .before .before in
-    let edges = flags .before .before .before .before .before .before in
+    let points = flags .before .before .before in
+    let edges = points .before .before .before in
     let branch = edges .before .before .before in
     rw (layout-same (contour (start (branch .before))) (same branch)) (record { edges-are = edges .copy-edges .ensures; flags-are = flags .copy-flags .ensures })
 

@@ -88,11 +88,14 @@ part-lay-out-contour-end-6 c = search needs
 
 module _ (c : tie.After-slice-known3) where
   abbrev start : tie.Start
-  start = c .before .before .before .before .before .before
+  start =
+      let shared = c .before .before .before in
+      shared .before .before .before
 
 lay-out-contour-requires : tie.Need-lay-out-contour-requires
 lay-out-contour-requires c κs =
-    let known = c .before .before .before .before .before .before in
+    let lent = c .before .before .before in
+    let known = lent .before .before .before in
     let pre = start known .pre in
     let a = start known .args in
     let kinds = mid-len (a .to) (a .next) (a .out-kinds .now) (pre .1 .0) in
@@ -111,8 +114,10 @@ same-length-3 c = c .before .out-flags .given .1
 
 returns : tie.Need-returns
 returns c =
-    let called = c .before .before .before .before .before .before in
-    let start = start (called .before .before .before .before .before .before .before) in
+    let points = c .before .before .before in
+    let called = points .before .before .before in
+    let lent = called .before .before .before .before in
+    let start = start (lent .before .before .before) in
     let a = start .args in
     let contour = part (a .kinds .now) (a .points .now) (a .flags .now) (a .at) (a .end) in
     let result = layout contour in

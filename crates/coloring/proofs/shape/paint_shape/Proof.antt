@@ -44,7 +44,9 @@ module _ (c : tie.After-has-room) where
 
   -- the answer on room is that for the result
   fit : resultFits (written start) (old start) ≡ c .has-room .result
-  fit = sized-fits (old start) (counted-sized (start .args .lengths .now) (edges start) (start .args .flags .now) (start .args .counts) (flagged start) (start .pre .1 .0) _ _) ∙ sym (c .has-room .ensures)
+  fit =
+      let a = start .args in
+      sized-fits (old start) (counted-sized (a .lengths .now) (edges start) (a .flags .now) (a .counts) (flagged start) (start .pre .1 .0) _ _) ∙ sym (c .has-room .ensures)
 
 -- there is room
 module _ (c : tie.Else1) where
@@ -87,7 +89,8 @@ module _ (c : tie.After-middle-value) where
   abbrev laying : tie.After-lay-out
   laying =
       let flags = c .before .before .before in
-      flags .before .before .before .before .before .before .before
+      let points = flags .before .before in
+      points .before .before .before .before .before
 
 has-room-requires : tie.Need-has-room-requires
 has-room-requires c κs =
@@ -180,7 +183,8 @@ returns-2 c =
     let b = began laid in
     let a = b .args in
     painted-delivered (a .lengths .now) (edges b) (a .flags .now) (a .counts) (flagged b) (b .pre .1 .0) (laid .lay-out .ensures)
-    (middleValue (a .settings .marking)) (a .values .now) (a .out-colors .now) (fitting (branch laid)) (middle .middle-value .ensures) (paint .paint-contours .ensures) refl
+    (middleValue (a .settings .marking)) (a .values .now) (a .out-colors .now) (fitting (branch laid)) (middle .middle-value .ensures)
+    (paint .paint-contours .ensures) refl
 
 pub paint-shape-spec : {M : Type 1} → statement M
 paint-shape-spec =

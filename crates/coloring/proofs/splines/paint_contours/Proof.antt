@@ -47,10 +47,13 @@ Inv-loop lengths flags middle values out₀ at₀ from₀ i₀ out at from i = P
 abbrev μ-loop : tie.MeasureT-loop
 μ-loop lengths flags middle values out₀ at₀ from₀ i₀ out at from i = length lengths - i
 
+abbrev begun : tie.At-loop Inv-loop μ-loop → tie.Start Inv-loop μ-loop
+begun c = c .before .before .before .before .before
+
 -- the next contour lies within the edges
 module _ (c : tie.In-loop Inv-loop μ-loop) where
   abbrev start : tie.Start Inv-loop μ-loop
-  start = c .before .before .before .before .before .before
+  start = begun (c .before)
 
   abbrev n : ℕ
   n = getD (start .args .lengths .now) (c .before .loop .i) 0
@@ -131,16 +134,17 @@ loop-again c =
 
 same-length : tie.Need-same-length Inv-loop μ-loop
 same-length c =
-    let start = c .before .before .before .before .before .before in
+    let start = begun (c .before) in
     c .before .loop .inv .long ∙ sym (start .pre .0 .2)
 
 returns : tie.Need-returns Inv-loop μ-loop
 unfolding paintContours flatten
 returns c =
-    let start = c .before .before .before .before .before .before in
+    let start = begun (c .before) in
     let a = start .args in
     let s = c .before .loop in
-    let all : take (s .at) (s .out) ≡ s .out = take-all (s .at) (s .out) (omega (arith, s .inv .long, s .inv .along .left, total-end (a .lengths .now) (s .i) (c .loop-test .left))) in
+    let all : take (s .at) (s .out) ≡ s .out =
+    take-all (s .at) (s .out) (omega (arith, s .inv .long, s .inv .along .left, total-end (a .lengths .now) (s .i) (c .loop-test .left))) in
     sym (s .inv .bytes ∙ rw (cut-end (a .lengths .now) (a .flags .now) (s .i) (s .at) (c .loop-test .left), append-nil, all))
 
 pub paint-contours-spec : {M : Type 1} → statement M

@@ -52,7 +52,8 @@ loop-less c = omega arith
 
 loop-again : tie.Need-loop-again Inv-loop μ-loop
 loop-again c =
-    let a = c .before .before .before .before .before .before .args in
+    let turn = c .before .before .before in
+    let a = turn .before .before .before .args in
     let at = c .before .before .before .before .loop in
     let h : at .i < length (a .colors .now) = omega (arith, at .inv .1) in
     let stored : getD (map byte (a .colors .now)) (at .i) 0 ≡ c .bits .result =
