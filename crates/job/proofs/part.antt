@@ -1,2 +1,3 @@
 -- Laws on the search for a contour.
 pub mod PartLaws
+pub mod PartBytes

@@ -4,7 +4,7 @@ use mathlib.Core.Path.{_≡_, refl}
 use mathlib.Core.Bool.{true, false}
 use mathlib.Core.List.{List, [], _∷_, _++_}
 use lib.Ieee as Ieee
-use lib.Ieee.{ofBits}
+use lib.Ieee.{ofBits, toBits}
 use Rattle.math.specs.Scalar.{f0, f1}
 use Rattle.math.specs.Sqrt.{sqrtOf}
 use Rattle.math.specs.Vector2.{new, sub, divScalar, dot, cross, squaredLength, lengthOf, normalize}
@@ -17,11 +17,7 @@ use Rattle.coloring.specs.Outline.{Result, result, outcome}
 use Rattle.job.specs.declared.records.Strategy.{Strategy}
 use Rattle.job.specs.declared.records.Strategy.the-variants.{Simple, InkTrap, ByDistance}
 use Rattle.job.specs.declared.records.Header.{Header}
-use Rattle.job.specs.declared.records.Phase.{Phase}
-use Rattle.job.specs.declared.records.Phase.the-variants.{Inside, Closing}
-use Rattle.job.specs.declared.records.State.{State}
-use Rattle.job.specs.Records.{fails, start, readRecord}
-use Rattle.job.specs.Job.{Job, reads, refuses, readJob}
+use Rattle.job.specs.Job.{Job, reads, refuses, readJob, fileOf}
 use Rattle.job.specs.Part.{contourPart}
 use Rattle.job.specs.Color.{colorFile, checkFile, acceptJob, accepted}
 use Rattle.job.specs.declared.listing.Listed.the-variants as answer
@@ -129,93 +125,111 @@ pub unknown-before-misplaced : readJob (0x3F ∷ 0x3F ∷ []) ≡ refuses Unknow
 unfolding readJob
 unknown-before-misplaced = refl
 
--- a record at a place of its own: the places with 64 contours and with 256 edges
-abbrev at : Phase → Strategy → ℕ → ℕ → State
-at phase by contours edges = record { phase = phase; numbers = record { header = headerOf by; contours = contours; edges = edges; distances = 0 } }
+-- the same eight times, and 64 contours
+abbrev eightfold : (List ℕ → List ℕ) → List ℕ → List ℕ
+eightfold f rest = f (f (f (f (f (f (f (f rest)))))))
 
-abbrev fullOfContours : State
-fullOfContours = at Inside Simple 64 0
+abbrev contours64 : List ℕ → List ℕ
+contours64 rest = eightfold (eightfold CT) rest
 
-abbrev fullOfEdges : State
-fullOfEdges = at Inside Simple 1 256
+-- a contour more, after DS
+pub misplaced-before-too-many : readJob (opening 3 (contours64 (DS (0 ∷ 0 ∷ CT [])))) ≡ refuses MisplacedMark
+unfolding readJob
+misplaced-before-too-many = refl
 
-abbrev closed : State
-closed = at Closing ByDistance 64 256
-
-pub misplaced-before-too-many : (readRecord closed (CT []) ≡ fails MisplacedMark) × (readRecord closed (LN []) ≡ fails MisplacedMark)
-unfolding readRecord
-misplaced-before-too-many = (refl, refl)
-
-pub too-many-contours : readRecord fullOfContours (CT []) ≡ fails TooMany
-unfolding readRecord
+pub too-many-contours : readJob (opening 1 (contours64 (CT []))) ≡ refuses TooMany
+unfolding readJob
 too-many-contours = refl
 
-pub too-many-edges-before-cut : readRecord fullOfEdges (LN []) ≡ fails TooMany
-unfolding readRecord
+-- 256 edges, and one more that is cut
+abbrev edges64 : List ℕ → List ℕ
+edges64 rest = eightfold (eightfold (line zeros zeros zeros zeros)) rest
+
+abbrev edges256 : List ℕ → List ℕ
+edges256 rest = edges64 (edges64 (edges64 (edges64 rest)))
+
+pub too-many-edges-before-cut : readJob (opening 1 (CT (edges256 (LN [])))) ≡ refuses TooMany
+unfolding readJob
 too-many-edges-before-cut = refl
 
-pub misplaced-before-cut : (readRecord start (CT []) ≡ fails MisplacedMark) × (readRecord fullOfContours (JB []) ≡ fails MisplacedMark)
-unfolding readRecord
+-- LN before JB, and JB again, each cut
+pub misplaced-before-cut : (readJob (LN []) ≡ refuses MisplacedMark) × (readJob (opening 1 (JB [])) ≡ refuses MisplacedMark)
+unfolding readJob
 misplaced-before-cut = (refl, refl)
 
-pub cut-before-strategy : readRecord start (JB (0 ∷ [])) ≡ fails Truncated
-unfolding readRecord
+pub cut-before-strategy : readJob (JB (0 ∷ [])) ≡ refuses Truncated
+unfolding readJob
 cut-before-strategy = refl
 
-pub strategy-before-threshold : readRecord start (JB (4 ∷ zeros ++ noNumber)) ≡ fails UnknownKind
-unfolding readRecord
+pub strategy-before-threshold : readJob (JB (4 ∷ zeros ++ noNumber)) ≡ refuses UnknownKind
+unfolding readJob
 strategy-before-threshold = refl
 
-pub cut-before-coordinate : readRecord fullOfContours (LN (noNumber ++ zeros)) ≡ fails Truncated
-unfolding readRecord
+pub cut-before-coordinate : readJob (opening 1 (CT (LN (noNumber ++ zeros)))) ≡ refuses Truncated
+unfolding readJob
 cut-before-coordinate = refl
 
-pub coordinate : readRecord fullOfContours (line zeros zeros noNumber zeros []) ≡ fails BadCoordinate
-unfolding readRecord
+pub coordinate : readJob (opening 1 (CT (line zeros zeros noNumber zeros []))) ≡ refuses BadCoordinate
+unfolding readJob
 coordinate = refl
 
 -- ---- DS
 
-abbrev due : State
-due = at Inside ByDistance 1 3
-
-pub misplaced-before-count : readRecord fullOfContours (DS []) ≡ fails MisplacedMark
-unfolding readRecord
+pub misplaced-before-count : readJob (opening 1 (DS [])) ≡ refuses MisplacedMark
+unfolding readJob
 misplaced-before-count = refl
 
-pub count-cut-before-too-many : readRecord due (DS (0xFF ∷ [])) ≡ fails Truncated
-unfolding readRecord
+pub count-cut-before-too-many : readJob (opening 3 (DS (0xFF ∷ []))) ≡ refuses Truncated
+unfolding readJob
 count-cut-before-too-many = refl
 
 -- 2,017 and no distances
-pub too-many-before-distances-cut : readRecord due (DS (0xE1 ∷ 0x07 ∷ [])) ≡ fails TooMany
-unfolding readRecord
+pub too-many-before-distances-cut : readJob (opening 3 (DS (0xE1 ∷ 0x07 ∷ []))) ≡ refuses TooMany
+unfolding readJob
 too-many-before-distances-cut = refl
 
 -- the first of two distances is no number, the second is cut
-pub distances-cut-before-bad : readRecord due (DS (2 ∷ 0 ∷ noNumber)) ≡ fails Truncated
-unfolding readRecord
+pub distances-cut-before-bad : readJob (opening 3 (DS (2 ∷ 0 ∷ noNumber))) ≡ refuses Truncated
+unfolding readJob
 distances-cut-before-bad = refl
 
-pub bad-distance : readRecord due (DS (1 ∷ 0 ∷ noNumber)) ≡ fails BadDistance
-unfolding readRecord
+pub bad-distance : readJob (opening 3 (DS (1 ∷ 0 ∷ noNumber))) ≡ refuses BadDistance
+unfolding readJob
 bad-distance = refl
 
 -- ---- EN
 
-pub end-while-distances-due : readRecord due (EN []) ≡ fails MisplacedMark
-unfolding readRecord
+pub end-while-distances-due : readJob (opening 3 (EN [])) ≡ refuses MisplacedMark
+unfolding readJob
 end-while-distances-due = refl
 
-pub byte-after-end : readRecord closed (EN (0 ∷ [])) ≡ fails MisplacedMark
-unfolding readRecord
+pub byte-after-end : readJob (opening 1 (EN (0 ∷ []))) ≡ refuses MisplacedMark
+unfolding readJob
 byte-after-end = refl
+
+-- ---- and back
+
+pub square-again : fileOf squareJob ≡ squareFile
+unfolding fileOf toBits ofBits
+square-again = refl
 
 -- ---- the part of one contour
 
 pub square-part : contourPart squareFile 0 ≡ squareContour []
 unfolding contourPart ofBits
 square-part = refl
+
+-- up to the next CT, up to EN and up to DS
+abbrev twoContours : List ℕ
+twoContours = opening 2 (CT (line zeros zeros one one (CT (EN []))))
+
+pub next-part : (contourPart twoContours 0 ≡ CT (line zeros zeros one one [])) × (contourPart twoContours 1 ≡ CT [])
+unfolding contourPart ofBits
+next-part = (refl, refl)
+
+pub last-part : contourPart (opening 3 (CT (DS (0 ∷ 0 ∷ EN [])))) 0 ≡ CT []
+unfolding contourPart ofBits cornerCount
+last-part = refl
 
 -- too large a number; a refused file
 pub no-part : (contourPart squareFile 1 ≡ []) × (contourPart (opening 1 (CT [])) 0 ≡ [])
@@ -235,6 +249,17 @@ squareAlone = opening 3 (squareContour (DS (0 ∷ 0 ∷ EN [])))
 pub miscounted-before-short : (colorFile squareAlone noPlaces ≡ outcome (Refused LengthMismatch) noPlaces) × (accepted squareAlone ≡ false)
 unfolding colorFile acceptJob ofBits searchCorners cornerCount firstCorner direction sub dot cross divScalar squaredLength lengthOf normalize sqrtOf Ieee.add Ieee.sub Ieee.mul Ieee.div Ieee.ne Ieee.le Ieee.lt
 miscounted-before-short = (refl, refl)
+
+-- 66 splines: a line forth and back 33 times, each joint a corner; and no distance
+abbrev forthAndBack : List ℕ → List ℕ
+forthAndBack rest = line zeros zeros one zeros (line one zeros zeros zeros rest)
+
+abbrev manySplines : List ℕ
+manySplines = opening 3 (CT (forthAndBack (eightfold forthAndBack (eightfold forthAndBack (eightfold forthAndBack (eightfold forthAndBack (DS (0 ∷ 0 ∷ EN []))))))))
+
+pub splines-before-miscounted : acceptJob manySplines ≡ refuses TooMany
+unfolding acceptJob ofBits searchCorners cornerCount firstCorner direction sub dot cross divScalar squaredLength lengthOf normalize sqrtOf Ieee.add Ieee.sub Ieee.mul Ieee.div Ieee.ne Ieee.le Ieee.lt
+splines-before-miscounted = refl
 
 -- 11 is no fault of the file
 pub short : (colorFile squareFile noPlaces ≡ outcome (Refused ResultTooShort) noPlaces) × (accepted squareFile ≡ true)

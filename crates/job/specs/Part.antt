@@ -1,17 +1,45 @@
 -- The part of a file that is one contour (document 01, "Trays and the job file"): from its CT up to the next CT, DS or EN.
 use Prim.Native.Nat.{ℕ, zero, suc, _+_, _-_, _≤_}
 use mathlib.Core.Bool.{cond}
-use mathlib.Core.List.{List}
-use lib.ListN.{take, drop}
+use mathlib.Core.List.{List, []}
+use lib.Dec.{ltb}
+use lib.ListN.{length, take, drop, getD}
 use Rattle.job.specs.declared.records.Item.{Item}
 use Rattle.job.specs.declared.records.Item.the-variants.{Header, Contour, Edge, Distances}
 use Rattle.job.specs.declared.part.Span.{Span}
 use Rattle.job.specs.declared.part.Seek.{Seek}
 use Rattle.job.specs.declared.part.Seek.the-variants.{Passing, Open, Done}
-use Rattle.job.specs.Records.{itemOf, bytesOf, recordSize, Records, complete, fault, _then_, start, recordsFrom}
-use Rattle.job.specs.Color.{acceptJob, accepted}
+use Rattle.job.specs.Job.{Job, Reading, reads, refuses, contourRecords, outlineRecords, recordBytes}
+use Rattle.job.specs.Color.{acceptJob}
 
--- a record, which starts at a place: the contour begins at the CT with none left to pass, and ends at the first record that is no edge
+abbrev pub nowhere : Span
+nowhere = record { start = 0; end = 0 }
+
+-- the records of a contour stand after those of JB and of the contours before it
+unfoldable pub spanIn : Job → ℕ → Span
+unfolding outlineRecords recordBytes
+spanIn job number =
+    let start = length (recordBytes (outlineRecords (job .header) (take number (job .contours)))) in
+    record { start = start; end = start + length (recordBytes (contourRecords (getD (job .contours) number []))) }
+
+abbrev pub placeIn : Reading → ℕ → Span
+placeIn (reads job) number = cond (ltb number (length (job .contours))) (spanIn job number) nowhere
+placeIn (refuses refusal) number = nowhere
+
+-- where its bytes stand: nowhere for a refused file or a number too large
+unfoldable pub contourPlace : List ℕ → ℕ → Span
+unfolding acceptJob spanIn
+contourPlace file number = placeIn (acceptJob file) number
+
+unfoldable pub contourPart : List ℕ → ℕ → List ℕ
+unfolding contourPlace
+contourPart file number =
+    let span = contourPlace file number in
+    take (span .end - span .start) (drop (span .start) file)
+
+-- ---- in the words of contracts
+
+-- the search, record by record: the contour begins at the CT with none left to pass, and ends at the first record that is no edge
 unfoldable pub sought : Seek → ℕ → Item → Seek
 sought (Passing zero) at Contour = Open at
 sought (Passing (suc left)) at Contour = Passing left
@@ -26,32 +54,9 @@ sought (Done span) at item = Done span
 
 -- what was found when the records end at a place; nothing where there are too few contours
 abbrev pub spanOf : Seek → ℕ → Span
-spanOf (Passing left) at = record { start = 0; end = 0 }
+spanOf (Passing left) at = nowhere
 spanOf (Open from) at = record { start = from; end = at }
 spanOf (Done span) at = span
-
-unfoldable pub seek : Seek → ℕ → Records → Span
-unfolding sought bytesOf
-seek q at complete = spanOf q at
-seek q at (fault refusal) = spanOf q at
-seek q at (r then rest) = seek (sought q at (itemOf r)) (at + recordSize r) rest
-
-unfoldable pub contourSpan : List ℕ → ℕ → Span
-unfolding seek recordsFrom
-contourSpan file number = seek (Passing number) 0 (recordsFrom start file)
-
--- where its bytes stand: nowhere for a refused file or a number too large
-unfoldable pub contourPlace : List ℕ → ℕ → Span
-unfolding acceptJob contourSpan
-contourPlace file number = cond (accepted file) (contourSpan file number) (record { start = 0; end = 0 })
-
-unfoldable pub contourPart : List ℕ → ℕ → List ℕ
-unfolding contourPlace
-contourPart file number =
-    let span = contourPlace file number in
-    take (span .end - span .start) (drop (span .start) file)
-
--- ---- in the words of contracts
 
 -- a span lies before a place
 pub record Inside (span : Span) (place : ℕ) : Type 0 where

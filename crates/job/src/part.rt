@@ -7,8 +7,10 @@ use crate::records::Found;
 use crate::records::Item;
 ghost use mathlib.Core.Path.{_≡_};
 ghost use lib.ListN.{length};
-ghost use Rattle.job.specs.Color.{accepted};
-ghost use Rattle.job.specs.Part.{sought, spanOf, contourSpan, contourPlace, contourPart, Inside};
+ghost use mathlib.Core.Bool.{true};
+ghost use Rattle.job.specs.Job.{readJob};
+ghost use Rattle.job.specs.Color.{hasJob, accepted};
+ghost use Rattle.job.specs.Part.{sought, spanOf, placeIn, contourPlace, contourPart, Inside};
 
 // From a byte up to another.
 pub struct Span {
@@ -63,9 +65,10 @@ fn span_of(q: Seek, at: usize) -> Span
     }
 }
 
-// Where a contour stands in a file; from 0 up to 0 where it has too few.
+// Where a contour stands in a file that is read; from 0 up to 0 where it has too few.
 fn contour_span(file: &[u8], number: usize) -> Span
-    ensures { λ r. ⌜ r ≡ contourSpan (now (file .entry)) number ⌝ }
+    requires { ⌜ hasJob (readJob (now file)) ≡ true ⌝ }
+    ensures { λ r. ⌜ r ≡ placeIn (readJob (now (file .entry))) number ⌝ }
     ensures { λ r. ⌜ Inside r (length (now (file .entry))) ⌝ }
 {
     let mut p = progress::begin();
@@ -82,7 +85,7 @@ fn contour_span(file: &[u8], number: usize) -> Span
                 return span_of(q, at);
             }
             Found::Fails(_) => {
-                return span_of(q, at);
+                return Span { start: 0, end: 0 };
             }
         }
     }

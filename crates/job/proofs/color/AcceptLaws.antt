@@ -131,6 +131,13 @@ pub accept-same : (file : List ℕ) (n : Numbers) → As-job (acceptJob file) n 
 unfolding acceptJob
 accept-same file n a = from-accepted (readJob file) (a .job) (a .is-read) ∙ sym (a .is-read)
 
+pub accepted-same : (file : List ℕ) → accepted file ≡ true → readJob file ≡ acceptJob file
+accepted-same file h = go (acceptJob file) refl h
+  where
+    go : (reading : Reading) → acceptJob file ≡ reading → hasJob reading ≡ true → readJob file ≡ acceptJob file
+    go (reads job) e k = let read : readJob file ≡ reads job = (unfold acceptJob in from-accepted (readJob file) job e) in read ∙ sym e
+    go (refuses refusal) e k = cc
+
 -- a file is accepted exactly where reading it into buffers with room answers a job
 pub accepted-reads : (file : List ℕ) (old : Buffers) → HoldsJobs old → accepted file ≡ isJob (readInto (acceptJob file) old .answer)
 unfolding readInto

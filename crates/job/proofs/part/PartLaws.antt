@@ -1,22 +1,37 @@
--- The search for a contour: what it finds from here on is what it finds in the whole file, and lies in the file.
-use mathlib.Core.Path.{_≡_, refl, sym, ap, _∙_}
-use mathlib.Core.Bool.{true, false}
-use mathlib.Core.List.{List, []}
-use Prim.Native.Nat.{ℕ, zero, suc, _≤_}
+-- The search for a contour: what it has found so far is the place of that contour in the job so far, and lies in the file.
+use mathlib.Core.Path.{_≡_, refl, sym, ap, subst, _∙_}
+use mathlib.Core.Logic.{_⊎_, inl, inr}
+use mathlib.Core.Bool.{Bool, true, false}
+use mathlib.Core.List.{List, [], _∷_, _++_, map, append-assoc, append-nil, flatten}
+use Prim.Native.Nat.{ℕ, zero, suc, _+_, _≤_, _<_}
 use native.Mathlib.Omega.{arith}
-use lib.ListN.{length, drop}
+use lib.Ieee.{Float}
+use lib.ListN.{length, take, drop, getD, length-append, List·getD-append}
+use lib.Seq.{take-all, take-at, take-suc, take-append-le, drop-at}
+use borrow.Author.Tests.{lt-ltb, le-ltb}
+use Rattle.geometry.specs.declared.edge_segment.EdgeSegment.{EdgeSegment}
 use Rattle.graph.specs.declared.refusal.Refusal.{Refusal}
+use Rattle.job.specs.declared.records.Header as fields
 use Rattle.job.specs.declared.records.Item.{Item}
 use Rattle.job.specs.declared.records.Item.the-variants.{Header, Contour, Edge, Distances}
+use Rattle.job.specs.declared.records.Phase.{Phase}
+use Rattle.job.specs.declared.records.Phase.the-variants as phases
+use Rattle.job.specs.declared.records.Strategy.{Strategy}
+use Rattle.job.specs.declared.records.Strategy.the-variants.{Simple}
 use Rattle.job.specs.declared.progress.Progress.{Progress}
+use Rattle.job.specs.declared.part.Span.{Span}
 use Rattle.job.specs.declared.part.Seek.{Seek}
 use Rattle.job.specs.declared.part.Seek.the-variants.{Passing, Open, Done}
-use Rattle.job.specs.Records.{ends, fails, itemOf, readRecord, recordsFrom}
+use Rattle.job.specs.Records.{Record, header, contour, edge, distances, ends, fails, atStart, among, inside, closing, allowed, recordMark, itemOf, phaseAfter, readRecord}
+use Rattle.job.specs.Job.{Job, withEdge, enter, Reading, reads, refuses, readJob, contourRecords, outlineRecords, recordBytes}
 use Rattle.job.specs.Progress.{begin, advanced}
-use Rattle.job.specs.Color.{accepted}
-use Rattle.job.specs.Part.{sought, spanOf, seek, contourSpan, contourPlace, contourPart, Inside}
-use Rattle.job.proofs.records.ReadingLaws.{Read-as, records-end, records-fault}
-use Rattle.job.proofs.progress.ProgressLaws.{Reached, reached-begin, reached-next, records-ahead, further}
+use Rattle.job.specs.Color.{acceptJob, hasJob, accepted}
+use Rattle.job.specs.Part.{nowhere, spanIn, placeIn, sought, spanOf, contourPlace, contourPart, Inside}
+use Rattle.job.proofs.patterns.PatternLaws.{AreBytes}
+use Rattle.job.proofs.records.ReadingLaws.{Read-as}
+use Rattle.job.proofs.progress.ReadyLaws.{Ready}
+use Rattle.job.proofs.progress.SoFarLaws.{soFar, bytes-append}
+use Rattle.job.proofs.progress.ProgressLaws.{Reached, reached-begin, begin-job, reached-next, next-job, reached-end, reached-fault, record-taken, is-ready, not-closing, with-edge-length, further}
 
 -- what was found lies before a place
 abbrev Before : Seek → ℕ → Type 0
@@ -42,46 +57,220 @@ before-inside (Passing left) at size h b = record { ordered = omega arith; withi
 before-inside (Open from) at size h b = record { ordered = b; within = h }
 before-inside (Done span) at size h b = record { ordered = b .0; within = omega (arith, b .1) }
 
+-- ---- the contours before one, and that one
+
+with-edge-take : (contours : List (List EdgeSegment)) (e : EdgeSegment) (n : ℕ) → n < length contours → take n (withEdge contours e) ≡ take n contours
+unfolding withEdge
+with-edge-take [] e n h = refl
+with-edge-take (c ∷ []) e zero h = refl
+with-edge-take (c ∷ []) e (suc n) h = absurd (omega arith)
+with-edge-take (c ∷ d ∷ contours) e zero h = refl
+with-edge-take (c ∷ d ∷ contours) e (suc n) h = ap (λ (x : List (List EdgeSegment)). c ∷ x) (with-edge-take (d ∷ contours) e n (omega arith))
+
+with-edge-get : (contours : List (List EdgeSegment)) (e : EdgeSegment) (n : ℕ) → n + 2 ≤ length contours → getD (withEdge contours e) n [] ≡ getD contours n []
+unfolding withEdge
+with-edge-get [] e n h = refl
+with-edge-get (c ∷ []) e n h = absurd (omega arith)
+with-edge-get (c ∷ d ∷ contours) e zero h = refl
+with-edge-get (c ∷ d ∷ contours) e (suc n) h = with-edge-get (d ∷ contours) e n (omega arith)
+
+-- the bytes before the contour
+abbrev startIn : Job → ℕ → ℕ
+startIn job number = length (recordBytes (outlineRecords (job .header) (take number (job .contours))))
+
+abbrev spanFrom : fields.Header → List (List EdgeSegment) → List EdgeSegment → Span
+spanFrom h before own =
+    let start = length (recordBytes (outlineRecords h before)) in
+    record { start = start; end = start + length (recordBytes (contourRecords own)) }
+
+span-is : (job : Job) (number : ℕ) → spanIn job number ≡ spanFrom (job .header) (take number (job .contours)) (getD (job .contours) number [])
+unfolding spanIn
+span-is job number = refl
+
+span-same : (job other : Job) (number : ℕ) → job .header ≡ other .header → take number (job .contours) ≡ take number (other .contours)
+    → getD (job .contours) number [] ≡ getD (other .contours) number [] → spanIn job number ≡ spanIn other number
+span-same job other number h t g =
+    span-is job number
+    ∙ ap (λ (x : fields.Header). spanFrom x (take number (job .contours)) (getD (job .contours) number [])) h
+    ∙ ap (λ (x : List (List EdgeSegment)). spanFrom (other .header) x (getD (job .contours) number [])) t
+    ∙ ap (spanFrom (other .header) (take number (other .contours))) g
+    ∙ sym (span-is other number)
+
+concat-last : (contours : List (List EdgeSegment)) (c : List EdgeSegment) → flatten (map contourRecords (contours ++ (c ∷ []))) ≡ flatten (map contourRecords contours) ++ contourRecords c
+unfolding flatten
+concat-last [] c = append-nil (contourRecords c)
+concat-last (d ∷ contours) c = rw (concat-last contours c) (sym (append-assoc (contourRecords d) (flatten (map contourRecords contours)) (contourRecords c)))
+
+outline-last : (h : fields.Header) (contours : List (List EdgeSegment)) (n : ℕ) → suc n ≡ length contours
+    → outlineRecords h contours ≡ outlineRecords h (take n contours) ++ contourRecords (getD contours n [])
+unfolding outlineRecords
+outline-last h contours n e =
+    let split : take n contours ++ (getD contours n [] ∷ []) ≡ contours = sym (take-suc contours n [] (omega arith)) ∙ take-all (suc n) contours (omega arith) in
+    ap (λ (x : List (List EdgeSegment)). header h ∷ flatten (map contourRecords x)) (sym split) ∙ ap (λ (x : List Record). header h ∷ x) (concat-last (take n contours) (getD contours n []))
+
+-- from the start of the last contour up to the end of the outline
+span-last : (job : Job) (number at : ℕ) → suc number ≡ length (job .contours) → at ≡ length (recordBytes (outlineRecords (job .header) (job .contours)))
+    → record { start = startIn job number; end = at } ≡ spanIn job number
+unfolding spanIn
+span-last job number at e placed =
+    let h = job .header in
+    let before = outlineRecords h (take number (job .contours)) in
+    let own = contourRecords (getD (job .contours) number []) in
+    let size : at ≡ length (recordBytes before) + length (recordBytes own) =
+    placed ∙ ap (λ (x : List Record). length (recordBytes x)) (outline-last h (job .contours) number e) ∙ ap length (bytes-append before own) ∙ length-append (recordBytes before) (recordBytes own) in
+    rw size
+
+-- ---- what was found so far
+
+abbrev Found : ℕ → Job → Phase → Seek → Type 0
+Found number job phase (Passing left) = length (job .contours) + left ≡ number
+Found number job phase (Open from) = (suc number ≡ length (job .contours)) × (inside phase ≡ true) × (from ≡ startIn job number)
+Found number job phase (Done span) = (number < length (job .contours)) × (span ≡ spanIn job number) × ((number + 2 ≤ length (job .contours)) ⊎ (closing phase ≡ true))
+
+module _ (job : Job) (number : ℕ) where
+  abbrev more : Job
+  more = enter job contour
+
+  more-length : length (more .contours) ≡ suc (length (job .contours))
+  unfolding enter
+  more-length = length-append (job .contours) ([] ∷ []) ∙ omega arith
+
+  start-more : number ≤ length (job .contours) → startIn more number ≡ startIn job number
+  unfolding enter
+  start-more h = rw (take-append-le number (job .contours) ([] ∷ []) h)
+
+  span-more : number < length (job .contours) → spanIn more number ≡ spanIn job number
+  unfolding enter
+  span-more h = span-same more job number refl (take-append-le number (job .contours) ([] ∷ []) (omega arith)) (List·getD-append (job .contours) ([] ∷ []) [] number h)
+
+  module _ (ds : List Float) where
+    closed-length : length (enter job (distances ds) .contours) ≡ length (job .contours)
+    unfolding enter
+    closed-length = refl
+
+    span-closed : spanIn (enter job (distances ds)) number ≡ spanIn job number
+    unfolding enter
+    span-closed = span-same (enter job (distances ds)) job number refl refl refl
+
+  module _ (e : EdgeSegment) where
+    abbrev with : Job
+    with = enter job (edge e)
+
+    with-length : length (with .contours) ≡ length (job .contours)
+    unfolding enter
+    with-length = with-edge-length (job .contours) e
+
+    start-with : number < length (job .contours) → startIn with number ≡ startIn job number
+    unfolding enter
+    start-with h = rw (with-edge-take (job .contours) e number h)
+
+    span-with : number + 2 ≤ length (job .contours) → spanIn with number ≡ spanIn job number
+    unfolding enter
+    span-with h = span-same with job number refl (with-edge-take (job .contours) e number (omega arith)) (with-edge-get (job .contours) e number h)
+
+among-so-far : (phase : Phase) (job : Job) → among phase ≡ true → soFar phase job ≡ outlineRecords (job .header) (job .contours)
+among-so-far phases.Start job h = cc
+among-so-far phases.Outside job h = refl
+among-so-far phases.Inside job h = refl
+among-so-far phases.Closing job h = cc
+
+inside-among : (phase : Phase) → inside phase ≡ true → among phase ≡ true
+inside-among phases.Start h = cc
+inside-among phases.Outside h = cc
+inside-among phases.Inside h = refl
+inside-among phases.Closing h = cc
+
+-- a record more, which starts at a place
+module _ (number : ℕ) (job : Job) (phase : Phase) (by : Strategy) (at : ℕ) (placed : at ≡ length (recordBytes (soFar phase job)))
+    (none : atStart phase ≡ true → job .contours ≡ []) where
+  placed-outline : among phase ≡ true → at ≡ length (recordBytes (outlineRecords (job .header) (job .contours)))
+  placed-outline h = placed ∙ ap (λ (x : List Record). length (recordBytes x)) (among-so-far phase job h)
+
+  all-before : length (job .contours) ≤ number → startIn job number ≡ length (recordBytes (outlineRecords (job .header) (job .contours)))
+  all-before h = rw (take-all number (job .contours) h)
+
+  found-next : (q : Seek) (r : Record) → allowed phase by (recordMark r) ≡ true → closing phase ≡ false → Found number job phase q
+      → Found number (enter job r) (phaseAfter phase (itemOf r)) (sought q at (itemOf r))
+  unfolding sought
+  found-next (Passing left) (header h) may still f = unfold enter in f
+  found-next (Passing zero) contour may still f =
+      (omega (arith, more-length job number), refl, placed-outline may ∙ sym (start-more job number (omega arith) ∙ all-before (omega arith)))
+  found-next (Passing (suc left)) contour may still f = omega (arith, more-length job number)
+  found-next (Passing left) (edge e) may still f = omega (arith, with-length job number e)
+  found-next (Passing left) (distances ds) may still f = unfold enter in f
+  found-next (Open from) (header h) may still f = absurd (omega (arith, ap length (none may)))
+  found-next (Open from) contour may still f =
+      (omega (arith, more-length job number), ap (λ (n : ℕ). record { start = n; end = at }) (f .2) ∙ span-last job number at (f .0) (placed-outline may) ∙ sym (span-more job number (omega arith)), inl (omega (arith, more-length job number)))
+  found-next (Open from) (edge e) may still f = (f .0 ∙ sym (with-length job number e), f .1, f .2 ∙ sym (start-with job number e (omega arith)))
+  found-next (Open from) (distances ds) may still f = (
+    omega (arith, closed-length job number ds),
+    ap (λ (n : ℕ). record { start = n; end = at }) (f .2) ∙ span-last job number at (f .0) (placed-outline (inside-among phase (f .1))) ∙ sym (span-closed job number ds),
+    inr refl,
+  )
+  found-next (Done span) (header h) may still f = absurd (omega (arith, ap length (none may)))
+  found-next (Done span) contour may still f = (omega (arith, more-length job number), f .1 ∙ sym (span-more job number (f .0)), inl (omega (arith, more-length job number)))
+  found-next (Done span) (edge e) may still f = go (f .2)
+    where
+      go : (number + 2 ≤ length (job .contours)) ⊎ (closing phase ≡ true) → Found number (enter job (edge e)) phase (Done span)
+      go (inl k) = (omega (arith, with-length job number e), f .1 ∙ sym (span-with job number e k), inl (omega (arith, with-length job number e)))
+      go (inr k) = let z : _≡_ {A = ℕ} 0 1 = cc in absurd (omega arith)
+  found-next (Done span) (distances ds) may still f = (omega (arith, closed-length job number ds), f .1 ∙ sym (span-closed job number ds), inr refl)
+
+  found-end : (q : Seek) → Found number job phase q → spanOf q at ≡ placeIn (reads job) number
+  found-end (Passing left) f = rw (le-ltb number (length (job .contours)) (omega arith))
+  found-end (Open from) f =
+      rw (lt-ltb number (length (job .contours)) (omega arith))
+      (ap (λ (n : ℕ). record { start = n; end = at }) (f .2) ∙ span-last job number at (f .0) (placed-outline (inside-among phase (f .1))))
+  found-end (Done span) f = rw (lt-ltb number (length (job .contours)) (f .0)) (f .1)
+
+-- ---- in a file
+
 pub record Seeking (file : List ℕ) (number : ℕ) (p : Progress) (q : Seek) : Type 0 where
   pub at : Reached file p
-  pub rest : seek q (p .at) (recordsFrom (p .state) (drop (p .at) file)) ≡ contourSpan file number
+  pub found : Found number (at .job) (p .state .phase) q
   pub before : Before q (p .at)
 
 pub seeking-begin : (file : List ℕ) (number : ℕ) → Seeking file number begin (Passing number)
-unfolding contourSpan
-seeking-begin file number = record { at = reached-begin file; rest = refl; before = tt }
+seeking-begin file number = record { at = reached-begin file; found = rw (begin-job file) (omega arith); before = tt }
 
 module _ (file : List ℕ) (number : ℕ) (p : Progress) (q : Seek) (here : Seeking file number p q) where
   pub seeking-next : (item : Item) (size : ℕ) → Read-as (readRecord (p .state) (drop (p .at) file)) item size → Seeking file number (advanced p item size) (sought q (p .at) item)
-  unfolding seek
   seeking-next item size read =
+      let at = here .at in
+      let r = read .r in
+      let may = record-taken file p at r (read .rest) (read .is-next) .may in
+      let found = found-next number (at .job) (p .state .phase) _ (p .at) (at .placed) (at .nothing-yet) q r may (not-closing (p .state) r may) (here .found) in
       rw (← read .is-item, ← read .is-size)
       (record {
-        at = reached-next file p (here .at) (read .r) (read .rest) (read .is-next);
-        rest = sym (ap (seek q (p .at)) (records-ahead file p (here .at) (read .r) (read .rest) (read .is-next))) ∙ here .rest;
-        before = before-next q (p .at) _ (itemOf (read .r)) (omega (arith, further file p (here .at) (read .r) (read .rest) (read .is-next))) (here .before);
+        at = reached-next file p at r (read .rest) (read .is-next);
+        found = subst (λ (j : Job). Found number j (phaseAfter (p .state .phase) (itemOf r)) (sought q (p .at) (itemOf r))) (sym (next-job file p at r (read .rest) (read .is-next))) found;
+        before = before-next q (p .at) _ (itemOf r) (omega (arith, further file p at r (read .rest) (read .is-next))) (here .before);
       })
 
-  pub seeking-end : readRecord (p .state) (drop (p .at) file) ≡ ends → spanOf q (p .at) ≡ contourSpan file number
-  unfolding seek
-  seeking-end e = sym (ap (seek q (p .at)) (records-end (p .state) (drop (p .at) file) e)) ∙ here .rest
-
-  pub seeking-fault : (refusal : Refusal) → readRecord (p .state) (drop (p .at) file) ≡ fails refusal → spanOf q (p .at) ≡ contourSpan file number
-  unfolding seek
-  seeking-fault refusal e = sym (ap (seek q (p .at)) (records-fault (p .state) (drop (p .at) file) refusal e)) ∙ here .rest
+  pub seeking-end : readRecord (p .state) (drop (p .at) file) ≡ ends → spanOf q (p .at) ≡ placeIn (readJob file) number
+  seeking-end e =
+      found-end number (here .at .job) (p .state .phase) Simple (p .at) (here .at .placed) (here .at .nothing-yet) q (here .found)
+      ∙ ap (λ (r : Reading). placeIn r number) (reached-end file p (here .at) e)
 
   pub seeking-inside : Inside (spanOf q (p .at)) (length file)
   seeking-inside = before-inside q (p .at) (length file) (here .at .within) (here .before)
 
+-- a file that is read meets no fault
+pub seeking-fault : (file : List ℕ) (p : Progress) → Reached file p → hasJob (readJob file) ≡ true → (refusal : Refusal) → readRecord (p .state) (drop (p .at) file) ≡ fails refusal → ⊥
+seeking-fault file p at has refusal e =
+    let no : hasJob (refuses refusal) ≡ true = ap hasJob (reached-fault file p at refusal e) ∙ has in
+    let z : _≡_ {A = ℕ} 0 1 = cc in
+    omega arith
+
 -- ---- the part
 
-pub place-refused : (file : List ℕ) (number : ℕ) → accepted file ≡ false → contourPlace file number ≡ record { start = 0; end = 0 }
+pub place-refused : (file : List ℕ) (number : ℕ) → accepted file ≡ false → contourPlace file number ≡ nowhere
 unfolding contourPlace
-place-refused file number h = rw h
-
-pub place-accepted : (file : List ℕ) (number : ℕ) → accepted file ≡ true → contourPlace file number ≡ contourSpan file number
-unfolding contourPlace
-place-accepted file number h = rw h
+place-refused file number h = go (acceptJob file) h
+  where
+    go : (reading : Reading) → hasJob reading ≡ false → placeIn reading number ≡ nowhere
+    go (reads job) h = cc
+    go (refuses refusal) h = refl
 
 pub part-refused : (file : List ℕ) (number : ℕ) → accepted file ≡ false → contourPart file number ≡ []
 unfolding contourPart

@@ -1,4 +1,4 @@
--- `job::part::contour_span` meets its contract: the search from here on finds what it finds in the whole file.
+-- `job::part::contour_span` meets its contract: what is found so far is the contour's place in the job so far.
 use mathlib.Core.Path.{_≡_, sym, ap, _∙_}
 use mathlib.Core.List.{List}
 use Prim.Native.Nat.{ℕ, _-_}
@@ -96,14 +96,10 @@ returns c =
 enum-told-2 : tie.Need-enum-told-2 Inv-loop μ-loop
 enum-told-2 c = search needs
 
-span-of-requires-2 : tie.Need-span-of-requires-2 Inv-loop μ-loop
-span-of-requires-2 c κs = search needs
-
 returns-2 : tie.Need-returns-2 Inv-loop μ-loop
 returns-2 c =
-    let f = c .before .before .before in
-    rw (c .span-of2 .ensures)
-    (seeking-fault (file f) (number f) (p f) (at f .loop .q) (at f .loop .inv) _ (found-fails _ _ (sym (c .before .enum-told2 .given .1) ∙ read f)), seeking-inside (file f) (number f) (p f) (at f .loop .q) (at f .loop .inv))
+    let f = c .before .before in
+    absurd (seeking-fault (file f) (p f) (at f .loop .inv .at) (at f .before .before .before .pre) _ (found-fails _ _ (sym (c .enum-told2 .given .1) ∙ read f)))
 
 pub contour-span-spec : {M : Type 1} → statement M
 contour-span-spec =
@@ -126,5 +122,4 @@ contour-span-spec =
     span-of-requires
     returns
     enum-told-2
-    span-of-requires-2
     returns-2)
