@@ -12,7 +12,8 @@ use Rattle.geometry.specs.declared.edge_segment.EdgeSegment.{EdgeSegment}
 use Rattle.graph.specs.declared.refusal.Checked.{Checked}
 use Rattle.graph.specs.declared.refusal.Checked.the-variants.{Passed, Failed}
 use Rattle.graph.specs.declared.refusal.Refusal.{Refusal}
-use Rattle.graph.specs.declared.refusal.Refusal.the-variants.{Truncated, UnknownMark, MisplacedMark, TooMany, UnknownKind, BadThreshold, BadCoordinate, LengthMismatch, BadDistance, BadTable, ResultTooShort}
+use Rattle.graph.specs.declared.refusal.Refusal.the-variants.{Truncated, UnknownMark, MisplacedMark, TooMany, UnknownKind, BadThreshold}
+use Rattle.graph.specs.declared.refusal.Refusal.the-variants.{BadCoordinate, LengthMismatch, BadDistance, BadTable, ResultTooShort}
 use Rattle.graph.specs.Refusal.{refusalNumber}
 use Rattle.graph.specs.Lists.{over}
 use Rattle.coloring.specs.declared.outline.Counts.{Counts}
@@ -23,7 +24,8 @@ use Rattle.coloring.specs.Outline.{kindOf, cut, encode, Result, Outcome, outcom
 use Rattle.coloring.specs.declared.settings.Marking.the-variants.{Numbers}
 use Rattle.coloring.specs.Shape.{markContours, countsOf}
 use Rattle.job.specs.Job.{Job, Reading, reads, refuses, readJob}
-use Rattle.job.specs.Color.{foundIn, checkJob, coloredEdges, edgeColors, colored, colorJob, colorReading, colorFile, answered, checkReading, checkFile, HoldsResults}
+use Rattle.job.specs.Color.{foundIn, checkJob, coloredEdges, edgeColors, colored, colorJob, colorReading, colorFile, answered, checkReading}
+use Rattle.job.specs.Color.{checkFile, HoldsResults}
 use Rattle.job.specs.declared.listing.Listed.the-variants as listed
 use Rattle.job.specs.Listing as list
 use Rattle.job.specs.Listing.{listing, refusalLine, checkedText, readingText, fileText, listFile, contourCount}
@@ -95,8 +97,10 @@ stored-listing edges colors e =
     let bytes : cut (sizes edges) (concat colors) ≡ colors = rw (← e) (cut-again colors) in
     rw (kinds, bytes)
 
-front-of : (file : List ℕ) (contours edges : ℕ) (job : Job) (old new : Result) → ShapeOf job → contours ≡ length (coloredEdges job) → edges ≡ length (concat (coloredEdges job))
-    → new .lengths ≡ over (colored job .lengths) (old .lengths) → new .kinds ≡ over (colored job .kinds) (old .kinds) → new .colors ≡ over (colored job .colors) (old .colors)
+front-of : (file : List ℕ) (contours edges : ℕ) (job : Job) (old new : Result) → ShapeOf job → contours ≡ length (coloredEdges job)
+    → edges ≡ length (concat (coloredEdges job))
+    → new .lengths ≡ over (colored job .lengths) (old .lengths) → new .kinds ≡ over (colored job .kinds) (old .kinds)
+    → new .colors ≡ over (colored job .colors) (old .colors)
     → fileText file ≡ listing (map (map kindOf) (coloredEdges job)) (edgeColors job) → Front file contours edges new
 unfolding colored encode
 front-of file contours edges job old new s c e l k m text =
@@ -112,12 +116,18 @@ front-of file contours edges job old new s c e l k m text =
       lengths-within = within-over (shape .lengths) (old .lengths) l lengths;
       kinds-within = within-over (shape .kinds) (old .kinds) k kinds;
       colors-within = within-over (shape .colors) (old .colors) m colors;
-      listable = rw (l-is, k-is, m-is) (omega (arith, s .sized .lengths-long, s .contours-fit), omega (arith, s .sized .kinds-long, s .edges-fit), sum, s .sized .colors-long ∙ sym (s .sized .kinds-long));
+      listable = rw (l-is, k-is, m-is) (
+        omega (arith, s .sized .lengths-long, s .contours-fit),
+        omega (arith, s .sized .kinds-long, s .edges-fit),
+        sum,
+        s .sized .colors-long ∙ sym (s .sized .kinds-long),
+      );
       text = rw (l-is, k-is, m-is) (text ∙ stored-listing (coloredEdges job) (edgeColors job) (s .marked));
     }
 
 module _ (file : List ℕ) (old : Result) (room : HoldsResults old) where
-  fits-sized : (job : Job) (shape : Result) → readJob file ≡ reads job → Sized shape (length (coloredEdges job)) (length (concat (coloredEdges job))) → fits shape old ≡ true
+  fits-sized : (job : Job) (shape : Result) → readJob file ≡ reads job → Sized shape (length (coloredEdges job)) (length (concat (coloredEdges job)))
+      → fits shape old ≡ true
   unfolding fits
   fits-sized job shape e long =
       let s = shape-of job file e in
@@ -163,7 +173,8 @@ module _ (file : List ℕ) (old : Result) (room : HoldsResults old) where
               let answer = ap (λ (o : Outcome). o .answer) given in
               let edges : counts .edges ≡ length (colored job .kinds) = cc in
               front-of file contours (counts .edges) job old new s (c ∙ sym (s .contours-are)) (edges ∙ s .sized .kinds-long)
-              (ap (λ (o : Outcome). o .buffers .lengths) given) (ap (λ (o : Outcome). o .buffers .kinds) given) (ap (λ (o : Outcome). o .buffers .colors) given) (rw (e, p))
+              (ap (λ (o : Outcome). o .buffers .lengths) given) (ap (λ (o : Outcome). o .buffers .kinds) given)
+              (ap (λ (o : Outcome). o .buffers .colors) given) (rw (e, p))
           of (Failed refusal) p same = let no = ap (λ (o : Outcome). o .answer) same in let z : _≡_ {A = ℕ} 0 1 = cc in absurd (omega arith)
       go (refuses refusal) e c same = let no = ap (λ (o : Outcome). o .answer) same in let z : _≡_ {A = ℕ} 0 1 = cc in absurd (omega arith)
 
@@ -174,8 +185,10 @@ module _ (file : List ℕ) (old : Result) (room : HoldsResults old) where
       go : (reading : Reading) → readJob file ≡ reading → outcome (Refused refusal) new ≡ colorReading reading old → readingText reading ≡ refusalLine refusal
       go (reads job) e same = of (checkJob job) same
         where
-          of : (k : Checked) → outcome (Refused refusal) new ≡ deliver k (countsOf (foundIn job) (colored job)) (colored job) old → checkedText k (coloredEdges job) (edgeColors job) ≡ refusalLine refusal
-          of Passed same = let given = rw (fits-all job e) at same in let no = ap (λ (o : Outcome). o .answer) given in let z : _≡_ {A = ℕ} 0 1 = cc in absurd (omega arith)
+          of : (k : Checked) → outcome (Refused refusal) new ≡ deliver k (countsOf (foundIn job) (colored job)) (colored job) old
+              → checkedText k (coloredEdges job) (edgeColors job) ≡ refusalLine refusal
+          of Passed same = let given = rw (fits-all job e) at same in let no = ap
+              (λ (o : Outcome). o .answer) given in let z : _≡_ {A = ℕ} 0 1 = cc in absurd (omega arith)
           of (Failed other) same = let is : other ≡ refusal = (let a = ap (λ (o : Outcome). o .answer) same in cc) in ap refusalLine is
       go (refuses other) e same = let is : other ≡ refusal = (let a = ap (λ (o : Outcome). o .answer) same in cc) in ap refusalLine is
 
@@ -195,7 +208,8 @@ pub listed-within : (file old new : List ℕ) (n : ℕ) → list.outcome (listed
 unfolding listFile over
 listed-within file old new n same = go (leb (length (fileText file)) (length old)) same
   where
-    go : (b : Bool) → list.outcome (listed.Bytes n) new ≡ cond b (list.outcome (listed.Bytes (length (fileText file))) (over (fileText file) old)) (list.outcome (listed.Refused ResultTooShort) old) → n ≤ length new
+    go : (b : Bool) → list.outcome (listed.Bytes n) new ≡ cond b (list.outcome (listed.Bytes (length (fileText file))) (over (fileText file) old))
+        (list.outcome (listed.Refused ResultTooShort) old) → n ≤ length new
     go true same =
         let counted = ap (λ (o : list.Outcome). o .answer) same in
         let e : n ≡ length (fileText file) = cc in

@@ -55,7 +55,8 @@ pub kinds-edge : (edges : List EdgeSegment) (e : EdgeSegment) → kindsOf (edges
 kinds-edge edges e = map-snoc _ edges e
 
 pub places-edge : (edges : List EdgeSegment) (e : EdgeSegment) → placesOf (edges ++ (e ∷ [])) ≡ placesOf edges ++ toStored e .points
-places-edge edges e = ap concat (map-snoc (λ (x : EdgeSegment). toStored x .points) edges e) ∙ concat-snoc (map (λ (x : EdgeSegment). toStored x .points) edges) (toStored e .points)
+places-edge edges e = ap concat (map-snoc (λ (x : EdgeSegment). toStored x .points) edges e)
+    ∙ concat-snoc (map (λ (x : EdgeSegment). toStored x .points) edges) (toStored e .points)
 
 pub kinds-length : (edges : List EdgeSegment) → length (kindsOf edges) ≡ length edges
 kinds-length edges = length-map edges (λ (e : EdgeSegment). toStored e .kind)

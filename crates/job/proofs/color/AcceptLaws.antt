@@ -31,7 +31,8 @@ use Rattle.job.specs.Job.{thresholdOf, Job, Reading, reads, refuses, rea
 use Rattle.job.specs.Progress.{numbersOf, answerOf}
 use Rattle.job.specs.Buffers.{Buffers, stored}
 use Rattle.job.specs.Reader.{readInto, isJob}
-use Rattle.job.specs.Color.{byStrategy, foundIn, checkJob, colored, answered, checkReading, checkFile, acceptChecked, acceptReading, acceptJob, hasJob, accepted, paired, outlineOf, AsksDistances, HoldsJobs, HoldsResults}
+use Rattle.job.specs.Color.{byStrategy, foundIn, checkJob, colored, answered, checkReading, checkFile, acceptChecked, acceptReading, acceptJob}
+use Rattle.job.specs.Color.{hasJob, accepted, paired, outlineOf, AsksDistances, HoldsJobs, HoldsResults}
 use Rattle.job.proofs.progress.ProgressLaws.{job-sound, contours-few, edges-few}
 use Rattle.job.proofs.reader.DeliverLaws.{As-job, answer-job}
 use Rattle.job.proofs.color.ColorLaws.{Holding, held-outline, held-is-outline, collected, job-room}
@@ -56,7 +57,8 @@ checked-by-distance : (file : List ℕ) (job : Job) → readJob file ≡ reads j
 unfolding checkFile checkReading checkJob
 checked-by-distance file job e by = rw (e, by)
 
-module _ {file : List ℕ} {n : Numbers} {old : Buffers} {lengths kinds : List ℕ} {points distances : List Float} (h : Holding file n old lengths kinds points distances) where
+module _ {file : List ℕ} {n : Numbers} {old : Buffers} {lengths kinds : List ℕ} {points distances : List Float}
+    (h : Holding file n old lengths kinds points distances) where
   pub held-checked : (threshold : Float) (out : Result) → HoldsResults out → n .header .strategy ≡ ByDistance → threshold ≡ thresholdOf (n .header)
       → paired (collectSplines (held-outline h) threshold out .answer) (n .distances) ≡ checkFile file
   unfolding countsOf
@@ -66,8 +68,10 @@ module _ {file : List ℕ} {n : Numbers} {old : Buffers} {lengths kinds : List �
       ap (λ (x : Float). paired (collectSplines (held-outline h) x out .answer) (n .distances)) e
       ∙ ap (λ (o : Outline). paired (collectSplines o (thresholdOf (n .header)) out .answer) (n .distances)) (held-is-outline h)
       ∙ ap (λ (m : Numbers). paired (collectSplines (outlineOf (stored job)) (thresholdOf (m .header)) out .answer) (m .distances)) (h .numbers)
-      ∙ ap (λ (o : Outcome). paired (o .answer) (length (job .distances))) (collected job so (contours-few file job (h .is-read)) (edges-few file job (h .is-read)) out)
-      ∙ pairs-checked (splineTotal (foundIn job)) (job .distances) _ _ out refl (so .distances-few) (so .distances-valid) (fits-numbered file out room job (h .is-read))
+      ∙ ap (λ (o : Outcome). paired (o .answer) (length (job .distances)))
+      (collected job so (contours-few file job (h .is-read)) (edges-few file job (h .is-read)) out)
+      ∙ pairs-checked (splineTotal (foundIn job)) (job .distances) _ _ out refl (so .distances-few) (so .distances-valid)
+      (fits-numbered file out room job (h .is-read))
       ∙ sym (checked-by-distance file job (h .is-read) (ap (λ (m : Numbers). m .header .strategy) (sym (h .numbers)) ∙ asks))
 
 -- ---- which files are accepted
@@ -92,14 +96,16 @@ accept-refused (reads job) refusal e = go (checkJob job) e
     go (Failed other) e = cc
 
 -- a job without distances has nothing left to check
-pub accept-plain : (reading : Reading) (n : Numbers) → read.Job n ≡ answerOf reading → byDistance (n .header .strategy) ≡ false → read.Job n ≡ answerOf (acceptReading reading)
+pub accept-plain : (reading : Reading) (n : Numbers) → read.Job n ≡ answerOf reading → byDistance (n .header .strategy) ≡ false
+    → read.Job n ≡ answerOf (acceptReading reading)
 unfolding acceptReading checkJob
 accept-plain (refuses refusal) n told h = told
 accept-plain (reads job) n told h =
     let numbers : n ≡ numbersOf job = cc in
     go (job .header .strategy) (sym (ap (λ (m : Numbers). byDistance (m .header .strategy)) numbers) ∙ h)
   where
-    go : (by : Strategy) → byDistance by ≡ false → read.Job n ≡ answerOf (acceptChecked (byStrategy by Passed Passed (checkSplines (splineTotal (foundIn job)) (job .distances))) job)
+    go : (by : Strategy) → byDistance by ≡ false → read.Job n ≡ answerOf
+        (acceptChecked (byStrategy by Passed Passed (checkSplines (splineTotal (foundIn job)) (job .distances))) job)
     go Simple k = told
     go InkTrap k = told
     go ByDistance k = cc

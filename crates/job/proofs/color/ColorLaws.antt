@@ -1,4 +1,5 @@
--- A job that was read passes the checks of an outline, and its buffers hold its contours: so colouring the buffers is colouring the job.
+-- A job that was read passes the checks of an outline, and its buffers hold its contours: so colouring the buffers is
+-- colouring the job.
 use mathlib.Core.Path.{_≡_, refl, sym, ap, _∙_}
 use mathlib.Core.Bool.{Bool, true, false, cond, _&&_}
 use mathlib.Core.List.{List, [], _∷_, map, map-append}
@@ -29,7 +30,8 @@ use Rattle.coloring.specs.Places.{concat}
 use Rattle.coloring.specs.Splines.{splineTotal}
 use Rattle.coloring.specs.Outline as outline
 use Rattle.coloring.specs.declared.outline.Colored.the-variants as color
-use Rattle.coloring.specs.Outline.{Outline, Result, Outcome, outcome, cut, encode, edgeOf, contours, knownKind, coordinatesFit, maxContours, maxEdges, check, fits, delivered, deliver}
+use Rattle.coloring.specs.Outline.{Outline, Result, Outcome, outcome, cut, encode, edgeOf, contours, knownKind, coordinatesFit, maxContours, maxEdges}
+use Rattle.coloring.specs.Outline.{check, fits, delivered, deliver}
 use Rattle.coloring.specs.Shape.{markContours, painted, countsOf}
 use Rattle.coloring.specs.Sizes.{sizes, concat-length, points-length}
 use Rattle.coloring.specs.EdgeColoring.{edgeColoring}
@@ -43,7 +45,8 @@ use Rattle.job.specs.Job.{thresholdOf, Job, Reading, reads, refuses, rea
 use Rattle.job.specs.Progress.{edgeCount, numbersOf, answerOf}
 use Rattle.job.specs.Buffers.{Buffers, buffers, kindsOf, placesOf, stored, overEach, roomFor, hasRoom, Hold}
 use Rattle.job.specs.Reader.{Fits, filled}
-use Rattle.job.specs.Color.{byStrategy, foundIn, checkJob, coloredEdges, edgeColors, colored, colorJob, colorReading, colorFile, outlineOf, colorStored, HoldsJobs}
+use Rattle.job.specs.Color.{byStrategy, foundIn, checkJob, coloredEdges, edgeColors, colored, colorJob, colorReading, colorFile, outlineOf}
+use Rattle.job.specs.Color.{colorStored, HoldsJobs}
 use Rattle.job.proofs.records.ReadingLaws.{edgeFits}
 use Rattle.job.proofs.progress.ProgressLaws.{Sound, job-sound, contours-few, edges-few}
 use Rattle.job.proofs.reader.DeliverLaws.{answer-job, answer-refused}
@@ -123,7 +126,8 @@ module _ (job : Job) (so : Sound job) (contours-fit : length (job .contours) ≤
     abbrev delivered-with : Checked → List (List ℕ) → Outcome
     delivered-with checked colors = deliver checked (countsOf (foundIn job) (with colors)) (with colors) old
 
-    by-colors : (by : Strategy) → edgeColoring (record { marking = Colors by (job .header .seed); threshold = thresholdOf (job .header) }) (outlineOf (stored job)) old
+    by-colors : (by : Strategy) → edgeColoring (record { marking = Colors by (job .header .seed); threshold = thresholdOf (job .header) })
+        (outlineOf (stored job)) old
         ≡ delivered-with Passed (markContours (Colors by (job .header .seed)) (foundIn job))
     unfolding edgeColoring foundIn coloredEdges painted
     by-colors by = rw (passes, contours-again job)
@@ -148,7 +152,8 @@ module _ (job : Job) (so : Sound job) (contours-fit : length (job .contours) ≤
 
     -- collecting its splines counts the edges and splines of its result
     pub collected : collectSplines (outlineOf (stored job)) (thresholdOf (job .header)) old
-        ≡ deliver (require (leb (splineTotal (foundIn job)) maxSplines) TooMany Passed) (countsOf (foundIn job) (colored job)) (with (markContours Numbers (foundIn job))) old
+        ≡ deliver (require (leb (splineTotal (foundIn job)) maxSplines) TooMany Passed) (countsOf (foundIn job) (colored job))
+        (with (markContours Numbers (foundIn job))) old
     unfolding edgeColoring foundIn coloredEdges painted countsOf colored encode
     collected = rw (passes, contours-again job)
 
@@ -208,11 +213,13 @@ module _ (file : List ℕ) (n : JobNumbers) (old : Buffers) (told : read.Job n �
       let a = answer-job (readJob file) n told in
       record { job = a .job; is-read = a .is-read; numbers = a .numbers; holds = rw (a .is-read) at h }
 
-pub color-refused : (file : List ℕ) (refusal : Refusal) (out : Result) → read.Refused refusal ≡ answerOf (readJob file) → outcome (color.Refused refusal) out ≡ colorFile file out
+pub color-refused : (file : List ℕ) (refusal : Refusal) (out : Result) → read.Refused refusal ≡ answerOf (readJob file)
+    → outcome (color.Refused refusal) out ≡ colorFile file out
 unfolding colorFile colorReading
 color-refused file refusal out told = rw (answer-refused (readJob file) refusal told)
 
-module _ {file : List ℕ} {n : JobNumbers} {old : Buffers} {lengths kinds : List ℕ} {points distances : List Float} (h : Holding file n old lengths kinds points distances) where
+module _ {file : List ℕ} {n : JobNumbers} {old : Buffers} {lengths kinds : List ℕ} {points distances : List Float}
+    (h : Holding file n old lengths kinds points distances) where
   -- the parts of the buffers that hold the job
   abbrev held : Buffers
   held = buffers (take (n .contours) lengths) (take (n .edges) kinds) (take (8 * n .edges) points) (take (n .distances) distances)
@@ -241,7 +248,8 @@ module _ {file : List ℕ} {n : JobNumbers} {old : Buffers} {lengths kinds : Lis
   pub held-is-outline : held-outline ≡ outlineOf (stored (h .job))
   held-is-outline = ap outlineOf held-is
 
-  pub held-colored : (threshold : Float) (out : Result) → threshold ≡ thresholdOf (n .header) → colorStored (n .header .strategy) (n .header .seed) threshold held out ≡ colorFile file out
+  pub held-colored : (threshold : Float) (out : Result) → threshold ≡ thresholdOf (n .header)
+      → colorStored (n .header .strategy) (n .header .seed) threshold held out ≡ colorFile file out
   unfolding colorFile colorReading
   held-colored threshold out e =
       let job = h .job in
@@ -255,7 +263,8 @@ module _ {file : List ℕ} {n : JobNumbers} {old : Buffers} {lengths kinds : Lis
 
   pub contours-within : n .contours ≤ length lengths
   unfolding overEach stored
-  contours-within = rw (h .numbers, h .holds .lengths-are) (within (sizes (h .job .contours)) (old .lengths) (length-map (h .job .contours) (λ (c : List EdgeSegment). length c)))
+  contours-within = rw (h .numbers, h .holds .lengths-are) (within (sizes (h .job .contours)) (old .lengths)
+      (length-map (h .job .contours) (λ (c : List EdgeSegment). length c)))
 
   pub kinds-within : n .edges ≤ length kinds
   unfolding overEach stored
@@ -263,7 +272,8 @@ module _ {file : List ℕ} {n : JobNumbers} {old : Buffers} {lengths kinds : Lis
 
   pub places-within : 8 * n .edges ≤ length points
   unfolding overEach stored
-  places-within = rw (h .numbers, h .holds .points-are) (within (placesOf (concat (h .job .contours))) (old .points) (points-length (concat (h .job .contours))))
+  places-within = rw (h .numbers, h .holds .points-are) (within (placesOf (concat (h .job .contours))) (old .points)
+      (points-length (concat (h .job .contours))))
 
   pub distances-within : n .distances ≤ length distances
   unfolding overEach stored

@@ -21,7 +21,8 @@ use Rattle.coloring.specs.Splines.{splineTotal}
 use Rattle.coloring.specs.Outline.{encode}
 use Rattle.coloring.specs.Shape.{colorContours, markContours}
 use Rattle.coloring.specs.ByDistance.{splineColor, splineByte}
-use Rattle.coloring.specs.Sizes.{sizes, sizes-map, concat-length, flags-length, edges-split, edges-same, split-few, search-flagged, counted, laid-lengths, mark-lengths, Sized, encoded-sized}
+use Rattle.coloring.specs.Sizes.{sizes, sizes-map, concat-length, flags-length, edges-split, edges-same, split-few, search-flagged, counted}
+use Rattle.coloring.specs.Sizes.{laid-lengths, mark-lengths, Sized, encoded-sized}
 use Rattle.job.specs.declared.records.Strategy as strategies
 use Rattle.job.specs.declared.records.Strategy.the-variants as by
 use Rattle.job.specs.Job.{thresholdOf, Job, reads, readJob}
@@ -41,7 +42,8 @@ few-most : (contours edges out : ℕ) → Few contours edges out → out ≤ edg
 few-most contours edges out (all-split h k) = omega arith
 few-most contours edges out (one-not h) = omega arith
 
-few-more : (flags : List Bool) (contours edges out : ℕ) (b : Bool) → splits flags ≡ b → Few contours edges out → Few (suc contours) (length flags + edges) (resultEdges flags + out)
+few-more : (flags : List Bool) (contours edges out : ℕ) (b : Bool) → splits flags ≡ b → Few contours edges out
+    → Few (suc contours) (length flags + edges) (resultEdges flags + out)
 few-more flags contours edges out true h (all-split k l) = all-split (omega (arith, split-few flags h)) (omega (arith, edges-split flags h))
 few-more flags contours edges out true h (one-not k) = one-not (omega (arith, split-few flags h, edges-split flags h))
 few-more flags contours edges out false h few = one-not (omega (arith, edges-same flags h, few-most contours edges out few))
@@ -62,7 +64,8 @@ edges-most : (contours edges out : ℕ) → Few contours edges out → contours 
 edges-most contours edges out (all-split h k) c e = omega arith
 edges-most contours edges out (one-not h) c e = omega arith
 
-all-in : (threshold : Float) (contours : List (List EdgeSegment)) → counted (λ (flags : List Bool). length flags) (map (searchCorners threshold) contours) ≡ sizes contours
+all-in : (threshold : Float) (contours : List (List EdgeSegment))
+    → counted (λ (flags : List Bool). length flags) (map (searchCorners threshold) contours) ≡ sizes contours
 unfolding searchCorners
 all-in threshold [] = refl
 all-in threshold (c ∷ contours) = rw (flags-length threshold c, all-in threshold contours)
@@ -115,9 +118,11 @@ module _ (job : Job) where
 
   all-marked : Marked (coloredEdges job) (edgeColors job)
   unfolding edgeColors
-  all-marked = go (job .header .strategy) (by-colors Simple) (by-colors InkTrap) (by-numbers (colorSplines (splineTotal (foundIn job)) (job .distances) (job .header .seed)))
+  all-marked = go (job .header .strategy) (by-colors Simple) (by-colors InkTrap)
+      (by-numbers (colorSplines (splineTotal (foundIn job)) (job .distances) (job .header .seed)))
     where
-      go : (by : strategies.Strategy) {x y z : List (List ℕ)} → Marked (coloredEdges job) x → Marked (coloredEdges job) y → Marked (coloredEdges job) z → Marked (coloredEdges job) (byStrategy by x y z)
+      go : (by : strategies.Strategy) {x y z : List (List ℕ)} → Marked (coloredEdges job) x → Marked (coloredEdges job) y → Marked (coloredEdges job) z
+          → Marked (coloredEdges job) (byStrategy by x y z)
       go by.Simple x y z = x
       go by.InkTrap x y z = y
       go by.ByDistance x y z = z
@@ -131,9 +136,11 @@ module _ (job : Job) where
     unfolding foundIn
     out-few =
         let found = foundIn job in
-        let edges : edgesIn found ≡ edgeCount (job .contours) = ap total (all-in (thresholdOf (job .header)) (job .contours)) ∙ sym (concat-length (job .contours)) in
+        let edges : edgesIn found ≡ edgeCount (job .contours) = ap total (all-in (thresholdOf (job .header)) (job .contours))
+        ∙ sym (concat-length (job .contours)) in
         edges-most (length found) (edgesIn found) (edgesOut found) (few found)
-        (omega (arith, length-map (job .contours) (searchCorners (thresholdOf (job .header))), contours-few file job e)) (omega (arith, edges, edges-few file job e))
+        (omega (arith, length-map (job .contours) (searchCorners (thresholdOf (job .header))), contours-few file job e))
+        (omega (arith, edges, edges-few file job e))
 
     pub shape-of : ShapeOf job
     unfolding colored
