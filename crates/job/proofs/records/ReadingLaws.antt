@@ -38,7 +38,7 @@ use Rattle.job.specs.Job.{thresholdOf}
 use Rattle.job.proofs.patterns.PatternLaws.{AreBytes, floats-length}
 use Rattle.job.proofs.patterns.PatternMeaning.{threshold-means, coordinate-means, distance-below, distance-means}
 use Rattle.job.proofs.records.BytesLaws.{Lettered, letters-of, marked-bytes, header-below, header-bytes, contour-bytes, edge-bytes, distances-bytes}
-use Rattle.job.proofs.records.RecordLaws.{Allowed, size-is, size-some}
+use Rattle.job.proofs.records.RecordLaws.{Allowed, kind-of-edge, size-is, size-some}
 
 -- ---- a record that was read
 
@@ -146,44 +146,21 @@ module _ (s : State) (a b : ℕ) (bytes : List ℕ) where
   edge-taken : (kind : Kind) → Lettered a b (Edge kind) → Allowed s (Edge kind) → fits (s .numbers) (Edge kind) ≡ true → 16 * controls kind ≤ length bytes
       → OfStep s all-bytes (readEdge kind (take (16 * controls kind) bytes) (drop (16 * controls kind) bytes))
   unfolding readEdge
-  edge-taken Line l may room whole =
-      let ps = words 4 (take 32 bytes) in
-      let e = edgeOf Line (floats ps) in
-      required s all-bytes (all isCoordinate ps) BadCoordinate (next (edge e) (drop 32 bytes))
+  edge-taken kind l may room whole =
+      let body = take (16 * controls kind) bytes in
+      let ps = words (2 * controls kind) body in
+      let e = edgeOf kind (floats ps) in
+      let same : kindOf e ≡ kind = kind-of-edge kind (floats ps) in
+      let takes : recordSize (edge e) ≡ 2 + 16 * controls kind = omega (arith, size-is (edge e), ap controls same) in
+      required s all-bytes (all isCoordinate ps) BadCoordinate (next (edge e) (drop (16 * controls kind) bytes))
       (λ within. record {
         may = may;
         room = room;
-        whole = omega (arith, size-is (edge e));
-        beyond = rw (size-is (edge e));
-        held = refl;
-        is-bytes = λ are. marked-bytes a b bytes _ (edge e) l (edge-bytes bytes (after-letters are) Line whole within);
-        in-range = edge-fits Line (take 32 bytes) within;
-      })
-  edge-taken Quadratic l may room whole =
-      let ps = words 6 (take 48 bytes) in
-      let e = edgeOf Quadratic (floats ps) in
-      required s all-bytes (all isCoordinate ps) BadCoordinate (next (edge e) (drop 48 bytes))
-      (λ within. record {
-        may = may;
-        room = room;
-        whole = omega (arith, size-is (edge e));
-        beyond = rw (size-is (edge e));
-        held = refl;
-        is-bytes = λ are. marked-bytes a b bytes _ (edge e) l (edge-bytes bytes (after-letters are) Quadratic whole within);
-        in-range = edge-fits Quadratic (take 48 bytes) within;
-      })
-  edge-taken Cubic l may room whole =
-      let ps = words 8 (take 64 bytes) in
-      let e = edgeOf Cubic (floats ps) in
-      required s all-bytes (all isCoordinate ps) BadCoordinate (next (edge e) (drop 64 bytes))
-      (λ within. record {
-        may = may;
-        room = room;
-        whole = omega (arith, size-is (edge e));
-        beyond = rw (size-is (edge e));
-        held = refl;
-        is-bytes = λ are. marked-bytes a b bytes _ (edge e) l (edge-bytes bytes (after-letters are) Cubic whole within);
-        in-range = edge-fits Cubic (take 64 bytes) within;
+        whole = omega (arith, takes);
+        beyond = rw takes (drop-drop (16 * controls kind) 2 all-bytes);
+        held = rw same;
+        is-bytes = λ are. marked-bytes a b bytes _ (edge e) (rw same l) (edge-bytes bytes (after-letters are) kind whole within);
+        in-range = edge-fits kind body within;
       })
 
   distances-taken : Lettered a b Distances → Allowed s Distances → 2 ≤ length bytes → OfStep s all-bytes (readDistances (take 2 bytes) (drop 2 bytes))
