@@ -12,7 +12,8 @@ use Rattle.geometry.specs.declared.edge_segment.EdgeSegment.{EdgeSegment}
 use Rattle.graph.specs.declared.refusal.Checked.{Checked}
 use Rattle.graph.specs.declared.refusal.Checked.the-variants.{Passed, Failed}
 use Rattle.graph.specs.declared.refusal.Refusal.{Refusal}
-use Rattle.graph.specs.declared.refusal.Refusal.the-variants.{Truncated, UnknownMark, MisplacedMark, TooMany, UnknownKind, BadThreshold, BadCoordinate, LengthMismatch, BadDistance, BadTable, ResultTooShort}
+use Rattle.graph.specs.declared.refusal.Refusal.the-variants.{Truncated, UnknownMark, MisplacedMark, TooMany, UnknownKind, BadThreshold}
+use Rattle.graph.specs.declared.refusal.Refusal.the-variants.{BadCoordinate, LengthMismatch, BadDistance, BadTable, ResultTooShort}
 use Rattle.graph.specs.Refusal.{refusalNumber}
 use Rattle.graph.specs.Lists.{over}
 use Rattle.coloring.specs.declared.outline.Counts.{Counts}
@@ -111,7 +112,12 @@ front-of file contours edges job old new s c e l k m text =
       lengths-within = within-over (shape .lengths) (old .lengths) l lengths;
       kinds-within = within-over (shape .kinds) (old .kinds) k kinds;
       colors-within = within-over (shape .colors) (old .colors) m colors;
-      listable = rw (l-is, k-is, m-is) (omega (arith, s .sized .lengths-long, s .contours-fit), omega (arith, s .sized .kinds-long, s .edges-fit), sum, s .sized .colors-long ∙ sym (s .sized .kinds-long));
+      listable = rw (l-is, k-is, m-is) (
+        omega (arith, s .sized .lengths-long, s .contours-fit),
+        omega (arith, s .sized .kinds-long, s .edges-fit),
+        sum,
+        s .sized .colors-long ∙ sym (s .sized .kinds-long),
+      );
       text = rw (l-is, k-is, m-is) (text ∙ stored-listing (coloredEdges job) (edgeColors job) (s .marked));
     }
 
@@ -162,7 +168,8 @@ module _ (file : List ℕ) (old : Result) (room : HoldsResults old) where
               let answer = ap (λ (o : Outcome). o .answer) given in
               let edges : counts .edges ≡ length (colored job .kinds) = cc in
               front-of file contours (counts .edges) job old new s (c ∙ sym (s .contours-are)) (edges ∙ s .sized .kinds-long)
-              (ap (λ (o : Outcome). o .buffers .lengths) given) (ap (λ (o : Outcome). o .buffers .kinds) given) (ap (λ (o : Outcome). o .buffers .colors) given) (rw (e, p))
+              (ap (λ (o : Outcome). o .buffers .lengths) given) (ap (λ (o : Outcome). o .buffers .kinds) given)
+              (ap (λ (o : Outcome). o .buffers .colors) given) (rw (e, p))
           of (Failed refusal) p same = let no = ap (λ (o : Outcome). o .answer) same in let z : _≡_ {A = ℕ} 0 1 = cc in absurd (omega arith)
       go (refuses refusal) e c same = let no = ap (λ (o : Outcome). o .answer) same in let z : _≡_ {A = ℕ} 0 1 = cc in absurd (omega arith)
 
@@ -194,7 +201,8 @@ pub listed-within : (file old new : List ℕ) (n : ℕ) → list.outcome (listed
 unfolding listFile over
 listed-within file old new n same = go (leb (length (fileText file)) (length old)) same
   where
-    go : (b : Bool) → list.outcome (listed.Bytes n) new ≡ cond b (list.outcome (listed.Bytes (length (fileText file))) (over (fileText file) old)) (list.outcome (listed.Refused ResultTooShort) old) → n ≤ length new
+    go : (b : Bool) → list.outcome (listed.Bytes n) new ≡ cond b (list.outcome (listed.Bytes (length (fileText file))) (over (fileText file) old))
+        (list.outcome (listed.Refused ResultTooShort) old) → n ≤ length new
     go true same =
         let counted = ap (λ (o : list.Outcome). o .answer) same in
         let e : n ≡ length (fileText file) = cc in

@@ -1,4 +1,5 @@
--- Every accepted file has at most 33,177 bytes, and the first 34,000 bytes of any file decide how it is read, its colouring and the part of a contour.
+-- Every accepted file has at most 33,177 bytes, and the first 34,000 bytes of any file decide how it is read, its
+-- colouring and the part of a contour.
 use mathlib.Core.Path.{_≡_, refl, sym, ap, _∙_}
 use mathlib.Core.Bool.{Bool, true, false}
 use mathlib.Core.List.{List, [], _∷_, _++_}
@@ -23,7 +24,9 @@ use Rattle.job.specs.declared.records.Phase.the-variants.{Start, Outside
 use Rattle.job.specs.declared.records.State.{State}
 use Rattle.job.specs.declared.progress.Progress.{Progress}
 use Rattle.job.specs.Patterns.{number, words, floats, isThreshold, isCoordinate, isDistance}
-use Rattle.job.specs.Records.{Record, header, edge, distances, Step, next, ends, fails, require, knownStrategy, strategyOf, controls, bodySize, allowed, fits, closing, among, byDistance, edgeOf, itemOf, recordSize, markOf, readHeader, readEdge, readDistances, readEnd, readBody, readMarked, readRecord, after, Records, _then_, recordsFrom}
+use Rattle.job.specs.Records.{Record, header, edge, distances, Step, next, ends, fails, require, knownStrategy, strategyOf, controls, bodySize}
+use Rattle.job.specs.Records.{allowed, fits, closing, among, byDistance, edgeOf, itemOf, recordSize, markOf, readHeader, readEdge}
+use Rattle.job.specs.Records.{readDistances, readEnd, readBody, readMarked, readRecord, after, Records, _then_, recordsFrom}
 use Rattle.job.specs.Job.{noJob, jobFrom, Reading, reads, refuses, readJob}
 use Rattle.job.specs.Color.{colorReading, colorFile, acceptReading, acceptJob, hasJob, accepted}
 use Rattle.job.specs.Part.{contourPart}
@@ -48,7 +51,8 @@ words-more (suc n) bytes more h =
     rw (take-append-le 8 bytes more (omega arith), drop-append-le 8 bytes more (omega arith), words-more n (drop 8 bytes) more (rw length-drop (omega arith)))
 
 module _ (more : List ℕ) where
-  require-more : (b : Bool) (refusal : Refusal) (step step' : Step) → (b ≡ true → step' ≡ extend more step) → require b refusal step' ≡ extend more (require b refusal step)
+  require-more : (b : Bool) (refusal : Refusal) (step step' : Step) → (b ≡ true → step' ≡ extend more step)
+      → require b refusal step' ≡ extend more (require b refusal step)
   require-more true refusal step step' f = f refl
   require-more false refusal step step' f = refl
 
@@ -57,7 +61,8 @@ module _ (more : List ℕ) where
   header-more body rest =
       let threshold = number (take 8 (drop 9 body)) in
       let r = header (record { strategy = strategyOf (getD body 0 0); seed = number (take 8 (drop 1 body)); threshold = threshold }) in
-      require-more (knownStrategy (getD body 0 0)) UnknownKind (require (isThreshold threshold) BadThreshold (next r rest)) (require (isThreshold threshold) BadThreshold (next r (rest ++ more)))
+      require-more (knownStrategy (getD body 0 0)) UnknownKind (require (isThreshold threshold) BadThreshold (next r rest))
+      (require (isThreshold threshold) BadThreshold (next r (rest ++ more)))
       (λ h. require-more (isThreshold threshold) BadThreshold (next r rest) (next r (rest ++ more)) (λ k. refl))
 
   edge-more : (kind : Kind) (body rest : List ℕ) → readEdge kind body (rest ++ more) ≡ extend more (readEdge kind body rest)
@@ -71,7 +76,8 @@ module _ (more : List ℕ) where
   unfolding readDistances
   distances-more body rest enough =
       let count = number body in
-      let read : List ℕ → Step = λ bytes. require (all isDistance (words count bytes)) BadDistance (next (distances (floats (words count bytes))) (drop (8 * count) bytes)) in
+      let read : List ℕ → Step = λ bytes. require (all isDistance (words count bytes)) BadDistance
+      (next (distances (floats (words count bytes))) (drop (8 * count) bytes)) in
       let there : List ℕ → Step = λ bytes. require (leb (8 * count) (length bytes)) Truncated (read bytes) in
       require-more (leb count 2016) TooMany (there rest) (there (rest ++ more))
       (λ h.
@@ -89,13 +95,15 @@ module _ (more : List ℕ) where
 
   -- a record of a known mark, where its fixed part and what it needs after that are there
   known-more : (s : State) (mark : Mark) (bytes : List ℕ) → (Allowed s mark → bodySize mark ≤ length bytes)
-      → (Allowed s mark → readBody mark (take (bodySize mark) bytes) (drop (bodySize mark) bytes ++ more) ≡ extend more (readBody mark (take (bodySize mark) bytes) (drop (bodySize mark) bytes)))
+      → (Allowed s mark → readBody mark (take (bodySize mark) bytes) (drop (bodySize mark) bytes ++ more) ≡ extend more
+      (readBody mark (take (bodySize mark) bytes) (drop (bodySize mark) bytes)))
       → readMarked s (Known mark) (bytes ++ more) ≡ extend more (readMarked s (Known mark) bytes)
   unfolding readMarked
   known-more s mark bytes size body =
       let n = bodySize mark in
       let read : List ℕ → Step = λ b. require (leb n (length b)) Truncated (readBody mark (take n b) (drop n b)) in
-      require-more (allowed (s .phase) (s .numbers .header .strategy) mark) MisplacedMark (require (fits (s .numbers) mark) TooMany (read bytes)) (require (fits (s .numbers) mark) TooMany (read (bytes ++ more)))
+      require-more (allowed (s .phase) (s .numbers .header .strategy) mark) MisplacedMark (require (fits (s .numbers) mark) TooMany (read bytes))
+      (require (fits (s .numbers) mark) TooMany (read (bytes ++ more)))
       (λ may. require-more (fits (s .numbers) mark) TooMany (read bytes) (read (bytes ++ more))
       (λ room.
       let whole = size may in
@@ -158,8 +166,10 @@ module _ (short more : List ℕ) (long : length short ≡ 34000) where
       ∙ record-more more (p .state) (drop (p .at) short) (rw length-drop (omega (arith, cut .0))) (λ h. rw length-drop (omega (arith, cut .1 h)))
 
   same-here : (p : Progress) → Reached file p
-      → ((r : Record) (rest : List ℕ) → readRecord (p .state) (drop (p .at) short) ≡ next r rest → recordsFrom (after (p .state) (itemOf r)) (rest ++ more) ≡ recordsFrom (after (p .state) (itemOf r)) rest)
-      → (step : Step) → readRecord (p .state) (drop (p .at) short) ≡ step → recordsFrom (p .state) (drop (p .at) file) ≡ recordsFrom (p .state) (drop (p .at) short)
+      → ((r : Record) (rest : List ℕ) → readRecord (p .state) (drop (p .at) short) ≡ next r rest
+      → recordsFrom (after (p .state) (itemOf r)) (rest ++ more) ≡ recordsFrom (after (p .state) (itemOf r)) rest)
+      → (step : Step) → readRecord (p .state) (drop (p .at) short) ≡ step
+      → recordsFrom (p .state) (drop (p .at) file) ≡ recordsFrom (p .state) (drop (p .at) short)
   same-here p at later (next r rest) e =
       records-next (p .state) (drop (p .at) file) r (rest ++ more) (same-step p at ∙ ap (extend more) e)
       ∙ ap (λ (x : Records). r then x) (later r rest e)
@@ -168,7 +178,8 @@ module _ (short more : List ℕ) (long : length short ≡ 34000) where
   same-here p at later (fails refusal) e =
       records-fault (p .state) (drop (p .at) file) refusal (same-step p at ∙ ap (extend more) e) ∙ sym (records-fault (p .state) (drop (p .at) short) refusal e)
 
-  same-records : (n : ℕ) (p : Progress) → Reached file p → 34000 - p .at ≤ n → recordsFrom (p .state) (drop (p .at) file) ≡ recordsFrom (p .state) (drop (p .at) short)
+  same-records : (n : ℕ) (p : Progress) → Reached file p → 34000 - p .at ≤ n
+      → recordsFrom (p .state) (drop (p .at) file) ≡ recordsFrom (p .state) (drop (p .at) short)
   same-records zero p at h = absurd (omega (arith, before-cut p at .0))
   same-records (suc n) p at h = same-here p at (λ r rest e. later (λ q. same-records n q) p at h r rest e) (readRecord (p .state) (drop (p .at) short)) refl
     where
@@ -180,7 +191,8 @@ module _ (short more : List ℕ) (long : length short ≡ 34000) where
           let on = reached-next file p at r (rest ++ more) f in
           let q = advanced p (itemOf r) (recordSize r) in
           let kept : rest ≡ drop (q .at) short = taken (p .state) (drop (p .at) short) r rest e .beyond ∙ drop-drop (recordSize r) (p .at) short in
-          let all : rest ++ more ≡ drop (q .at) file = taken (p .state) (drop (p .at) file) r (rest ++ more) f .beyond ∙ drop-drop (recordSize r) (p .at) file in
+          let all : rest ++ more ≡ drop (q .at) file = taken (p .state) (drop (p .at) file) r (rest ++ more) f .beyond
+          ∙ drop-drop (recordSize r) (p .at) file in
           rw (all, kept) (same q on (omega (arith, further file p at r (rest ++ more) f)))
 
 pub first-bytes-decide : (file : List ℕ) → readJob (take 34000 file) ≡ readJob file

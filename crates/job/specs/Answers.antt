@@ -1,4 +1,5 @@
--- The answers about a job file in document 01's terms, as the Answers of graph and coloring have those of an offer and of a colouring; and what the
+-- The answers about a job file in document 01's terms, as the Answers of graph and coloring have those of an offer
+-- and of a colouring; and what the
 -- contracts say of them in its numbers: the file's first refusal, then those after reading, then the values.
 use Prim.Native.Nat.{ℕ}
 use mathlib.Core.Path.{_≡_, refl}
@@ -102,7 +103,8 @@ pub reading-in-numbers : (reading : Reading) (old : Buffers) → readAnswer (rea
 unfolding acceptReading readInto firstOf
 reading-in-numbers (refuses r) old = refl
 reading-in-numbers (reads job) old =
-    told-job (λ checked. readAnswer (readInto (acceptChecked checked job) old .answer)) (λ r. refl) job _ (values (jobValues (numbersOf job))) (go (hasRoom (numbersOf job) old) refl)
+    told-job (λ checked. readAnswer (readInto (acceptChecked checked job) old .answer)) (λ r. refl) job _ (values (jobValues (numbersOf job)))
+    (go (hasRoom (numbersOf job) old) refl)
   where
     go : (b : Bool) → hasRoom (numbersOf job) old ≡ b
         → readAnswer (readInto (reads job) old .answer) ≡ firstOf (unless 11 (hasRoom (numbersOf job) old) ∷ []) (values (jobValues (numbersOf job)))

@@ -89,7 +89,12 @@ written (Edge kind) n bytes b = record {
   points = take (8 * n .edges) (b .points) ++ (placesFrom kind (take (16 * controls kind) (drop 2 bytes)) ++ drop 8 (drop (8 * n .edges) (b .points)));
   distances = b .distances;
 }
-written (Distances count) n bytes b = record { lengths = b .lengths; kinds = b .kinds; points = b .points; distances = over (floats (words count (drop 4 bytes))) (b .distances) }
+written (Distances count) n bytes b = record {
+  lengths = b .lengths;
+  kinds = b .kinds;
+  points = b .points;
+  distances = over (floats (words count (drop 4 bytes))) (b .distances);
+}
 
 -- there is room for a record
 abbrev pub Room : Item → Numbers → List ℕ → Buffers → Type 0

@@ -1,4 +1,5 @@
--- Examples computed from the definitions: files of document 01, what they read as and what is printed, and the order of the numbers.
+-- Examples computed from the definitions: files of document 01, what they read as and what is printed, and the order
+-- of the numbers.
 use Prim.Native.Nat.{ℕ}
 use mathlib.Core.Path.{_≡_, refl}
 use mathlib.Core.Bool.{true, false}
@@ -10,7 +11,8 @@ use Rattle.math.specs.Sqrt.{sqrtOf}
 use Rattle.math.specs.Vector2.{new, sub, divScalar, dot, cross, squaredLength, lengthOf, normalize}
 use Rattle.geometry.specs.EdgeSegment.{direction, toStored}
 use Rattle.geometry.specs.declared.edge_segment.EdgeSegment.the-variants.{Line}
-use Rattle.graph.specs.declared.refusal.Refusal.the-variants.{Truncated, UnknownMark, MisplacedMark, TooMany, UnknownKind, BadThreshold, BadCoordinate, LengthMismatch, BadDistance, ResultTooShort}
+use Rattle.graph.specs.declared.refusal.Refusal.the-variants.{Truncated, UnknownMark, MisplacedMark, TooMany, UnknownKind, BadThreshold}
+use Rattle.graph.specs.declared.refusal.Refusal.the-variants.{BadCoordinate, LengthMismatch, BadDistance, ResultTooShort}
 use Rattle.coloring.specs.declared.outline.Colored.the-variants.{Edges, Refused}
 use Rattle.coloring.specs.Corners.{searchCorners, cornerCount, firstCorner}
 use Rattle.coloring.specs.Outline.{Result, result, outcome}
@@ -97,7 +99,8 @@ unfolding readJob ofBits
 no-pairs = refl
 
 -- two contours, the first empty; an edge goes to the last
-pub empty-contour : readJob (opening 2 (CT (CT (line zeros zeros one one (EN []))))) ≡ reads (record { header = headerOf InkTrap; contours = [] ∷ (Line (new f0 f0) (new f1 f1) ∷ []) ∷ []; distances = [] })
+pub empty-contour : readJob (opening 2 (CT (CT (line zeros zeros one one (EN []))))) ≡ reads
+    (record { header = headerOf InkTrap; contours = [] ∷ (Line (new f0 f0) (new f1 f1) ∷ []) ∷ []; distances = [] })
 unfolding readJob ofBits
 empty-contour = refl
 
@@ -247,7 +250,8 @@ abbrev squareAlone : List ℕ
 squareAlone = opening 3 (squareContour (DS (0 ∷ 0 ∷ EN [])))
 
 pub miscounted-before-short : (colorFile squareAlone noPlaces ≡ outcome (Refused LengthMismatch) noPlaces) × (accepted squareAlone ≡ false)
-unfolding colorFile acceptJob ofBits searchCorners cornerCount firstCorner direction sub dot cross divScalar squaredLength lengthOf normalize sqrtOf Ieee.add Ieee.sub Ieee.mul Ieee.div Ieee.ne Ieee.le Ieee.lt
+unfolding colorFile acceptJob ofBits searchCorners cornerCount firstCorner direction sub dot cross divScalar squaredLength lengthOf normalize sqrtOf
+    Ieee.add Ieee.sub Ieee.mul Ieee.div Ieee.ne Ieee.le Ieee.lt
 miscounted-before-short = (refl, refl)
 
 -- 66 splines: a line forth and back 33 times, each joint a corner; and no distance
@@ -255,10 +259,12 @@ abbrev forthAndBack : List ℕ → List ℕ
 forthAndBack rest = line zeros zeros one zeros (line one zeros zeros zeros rest)
 
 abbrev manySplines : List ℕ
-manySplines = opening 3 (CT (forthAndBack (eightfold forthAndBack (eightfold forthAndBack (eightfold forthAndBack (eightfold forthAndBack (DS (0 ∷ 0 ∷ EN []))))))))
+manySplines = opening 3 (CT (forthAndBack (eightfold forthAndBack
+    (eightfold forthAndBack (eightfold forthAndBack (eightfold forthAndBack (DS (0 ∷ 0 ∷ EN []))))))))
 
 pub splines-before-miscounted : acceptJob manySplines ≡ refuses TooMany
-unfolding acceptJob ofBits searchCorners cornerCount firstCorner direction sub dot cross divScalar squaredLength lengthOf normalize sqrtOf Ieee.add Ieee.sub Ieee.mul Ieee.div Ieee.ne Ieee.le Ieee.lt
+unfolding acceptJob ofBits searchCorners cornerCount firstCorner direction sub dot cross divScalar squaredLength lengthOf normalize sqrtOf Ieee.add Ieee.sub
+    Ieee.mul Ieee.div Ieee.ne Ieee.le Ieee.lt
 splines-before-miscounted = refl
 
 -- 11 is no fault of the file
@@ -282,7 +288,8 @@ squareText =
 
 -- from bytes to bytes: the square's file is printed as document 01 has it whole
 pub square-printed : fileText squareFile ≡ squareText
-unfolding fileText ofBits toStored searchCorners cornerCount firstCorner direction sub dot cross divScalar squaredLength lengthOf normalize sqrtOf Ieee.add Ieee.sub Ieee.mul Ieee.div Ieee.ne Ieee.le Ieee.lt
+unfolding fileText ofBits toStored searchCorners cornerCount firstCorner direction sub dot cross divScalar squaredLength lengthOf normalize sqrtOf Ieee.add
+    Ieee.sub Ieee.mul Ieee.div Ieee.ne Ieee.le Ieee.lt
 square-printed = refl
 
 -- a job without contours and with strategy 1
@@ -306,7 +313,8 @@ unfolding fileText
 no-bytes-printed = refl
 
 -- a place beyond the text keeps its byte; one place too few, and all do
-pub listed : listFile [] (1 ∷ 2 ∷ 3 ∷ 4 ∷ 5 ∷ 6 ∷ 7 ∷ 8 ∷ 9 ∷ 10 ∷ 11 ∷ []) ≡ list.outcome (answer.Bytes 10) (0x72 ∷ 0x65 ∷ 0x66 ∷ 0x75 ∷ 0x73 ∷ 0x65 ∷ 0x64 ∷ 0x20 ∷ 0x31 ∷ 0x0A ∷ 11 ∷ [])
+pub listed : listFile [] (1 ∷ 2 ∷ 3 ∷ 4 ∷ 5 ∷ 6 ∷ 7 ∷ 8 ∷ 9 ∷ 10 ∷ 11 ∷ []) ≡ list.outcome (answer.Bytes 10)
+    (0x72 ∷ 0x65 ∷ 0x66 ∷ 0x75 ∷ 0x73 ∷ 0x65 ∷ 0x64 ∷ 0x20 ∷ 0x31 ∷ 0x0A ∷ 11 ∷ [])
 unfolding listFile
 listed = refl
 

@@ -1,4 +1,5 @@
--- A job, and the function from the bytes of a file to a job or its first refusal (document 01, "Trays and the job file").
+-- A job, and the function from the bytes of a file to a job or its first refusal (document 01, "Trays and the job
+-- file").
 use Prim.Native.Nat.{ℕ, _<_, _^_}
 use mathlib.Core.Path.{_≡_}
 use mathlib.Core.Bool.{Bool, true, cond}
@@ -9,7 +10,8 @@ use Rattle.graph.specs.declared.refusal.Refusal.{Refusal}
 use Rattle.graph.specs.Lists.{all}
 use Rattle.job.specs.declared.records.Mark.the-variants.{End}
 use Rattle.job.specs.declared.records.Header.{Header}
-use Rattle.job.specs.Records.{noHeader, byDistance, marked, bytesOf, coordinates, Record, header, contour, edge, distances, Records, complete, fault, _then_, start, recordsFrom}
+use Rattle.job.specs.Records.{noHeader, byDistance, marked, bytesOf, coordinates, Record, header, contour, edge, distances, Records, complete}
+use Rattle.job.specs.Records.{fault, _then_, start, recordsFrom}
 
 pub record Job : Type 0 where
   pub header : Header

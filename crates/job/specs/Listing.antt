@@ -1,4 +1,5 @@
--- The text of an answer (document 01, "Trays and the job file", program `channels`): a line an output edge, last `edges` and their count; or one line
+-- The text of an answer (document 01, "Trays and the job file", program `channels`): a line an output edge, last
+-- `edges` and their count; or one line
 -- with the refusal's number.
 use Prim.Native.Nat.{ℕ, zero, suc, _+_, _/_, _%_, _≤_}
 use mathlib.Core.Path.{_≡_}

@@ -1,4 +1,5 @@
--- The part of a file that is one contour (document 01, "Trays and the job file"): from its CT up to the next CT, DS or EN.
+-- The part of a file that is one contour (document 01, "Trays and the job file"): from its CT up to the next CT, DS
+-- or EN.
 use Prim.Native.Nat.{ℕ, zero, suc, _+_, _-_, _≤_}
 use mathlib.Core.Bool.{cond}
 use mathlib.Core.List.{List, []}
@@ -39,7 +40,8 @@ contourPart file number =
 
 -- ---- in the words of contracts
 
--- the search, record by record: the contour begins at the CT with none left to pass, and ends at the first record that is no edge
+-- the search, record by record: the contour begins at the CT with none left to pass, and ends at the first record
+-- that is no edge
 unfoldable pub sought : Seek → ℕ → Item → Seek
 sought (Passing zero) at Contour = Open at
 sought (Passing (suc left)) at Contour = Passing left

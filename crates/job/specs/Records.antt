@@ -1,4 +1,5 @@
--- The records of a job file up to its end or its first fault (document 01, "Trays and the job file" and "What the desk says back").
+-- The records of a job file up to its end or its first fault (document 01, "Trays and the job file" and "What the
+-- desk says back").
 use Prim.Native.Nat.{ℕ, zero, suc, _+_, _*_}
 use mathlib.Core.Bool.{Bool, true, false, not, cond, _&&_, _||_}
 use mathlib.Core.List.{List, [], _∷_, _++_}
@@ -9,7 +10,8 @@ use Rattle.geometry.specs.EdgeSegment.{pointAt, toStored}
 use Rattle.geometry.specs.declared.edge_segment.EdgeSegment.{EdgeSegment}
 use Rattle.geometry.specs.declared.edge_segment.EdgeSegment.the-variants as segment
 use Rattle.graph.specs.declared.refusal.Refusal.{Refusal}
-use Rattle.graph.specs.declared.refusal.Refusal.the-variants.{Truncated, UnknownMark, MisplacedMark, TooMany, UnknownKind, BadThreshold, BadCoordinate, BadDistance}
+use Rattle.graph.specs.declared.refusal.Refusal.the-variants.{Truncated, UnknownMark, MisplacedMark, TooMany, UnknownKind, BadThreshold}
+use Rattle.graph.specs.declared.refusal.Refusal.the-variants.{BadCoordinate, BadDistance}
 use Rattle.graph.specs.Lists.{all}
 use Rattle.graph.specs.Limits.{maxDistances}
 use Rattle.job.specs.declared.records.Strategy.{Strategy}

@@ -121,7 +121,8 @@ fn color_in(
     }
 }
 
-// Reads a file and colours its job by its strategy: how many edges, and the coloured shape in the buffers; or the first refusal, 11 where a
+// Reads a file and colours its job by its strategy: how many edges, and the coloured shape in the buffers; or the
+// first refusal, 11 where a
 // buffer is too short. A refusal leaves every buffer as it came, and places beyond the result keep theirs.
 pub fn color(
     file: &[u8],
@@ -257,7 +258,8 @@ pub fn check(file: &[u8]) -> Colored
     )
 }
 
-// The numbers of an accepted file's job, or the first refusal of reading and checking it. A job without distances has nothing left to check.
+// The numbers of an accepted file's job, or the first refusal of reading and checking it. A job without distances has
+// nothing left to check.
 pub(crate) fn accept(file: &[u8]) -> Read
     ensures { λ r. ⌜ r ≡ answerOf (acceptJob (now (file .entry))) ⌝ }
 {

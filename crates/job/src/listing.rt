@@ -12,7 +12,8 @@ ghost use Rattle.coloring.specs.Places.{total};
 ghost use Rattle.coloring.specs.Outline.{cut, result};
 ghost use Rattle.job.specs.Job.{readJob};
 ghost use Rattle.job.specs.Color.{HoldsResults};
-ghost use Rattle.job.specs.Listing.{digit, decimal, letter, field, line, contourLines, shapeLines, listing, refusalLine, fileText, listFile, outcome, contourCount, Pasted, Printed};
+ghost use Rattle.job.specs.Listing.{digit, decimal, letter, field, line, contourLines, shapeLines, listing, refusalLine, fileText, listFile};
+ghost use Rattle.job.specs.Listing.{outcome, contourCount, Pasted, Printed};
 
 // The answer of a listing: how many bytes were written, or 11.
 pub enum Listed {
@@ -212,7 +213,8 @@ pub fn text(file: &[u8], out: &mut [u8; 5598]) -> usize
     )
 }
 
-// Reads a file, colours its job and lists it: how many bytes of text, which stand at the buffer's start; or 11 where they do not fit, and the
+// Reads a file, colours its job and lists it: how many bytes of text, which stand at the buffer's start; or 11 where
+// they do not fit, and the
 // buffer is as it came. A file that is refused has a text too, one line. No text is longer than 5,598 bytes.
 pub fn listing(file: &[u8], out: &mut [u8]) -> Listed
     ensures { λ r. ⌜ outcome r (now (out .exit)) ≡ listFile (now (file .entry)) (now (out .entry)) ⌝ }

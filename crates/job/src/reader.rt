@@ -71,7 +71,8 @@ fn has_room(n: Numbers, lengths: usize, kinds: usize, points: usize, distances: 
     n.distances <= distances
 }
 
-// Reads a file: the numbers of its job, and its contours and distances into the buffers; or the number that `check` gives; or 11 where a buffer
+// Reads a file: the numbers of its job, and its contours and distances into the buffers; or the number that `check`
+// gives; or 11 where a buffer
 // is too short.
 // A refusal leaves every buffer as it came, and places beyond the job keep theirs.
 pub fn read(

@@ -1,4 +1,5 @@
-// The records of a job file, one after another: a mark of two letters, then its fields (document 01, "Trays and the job file").
+// The records of a job file, one after another: a mark of two letters, then its fields (document 01, "Trays and the
+// job file").
 use crate::patterns;
 use crate::patterns::Range;
 use crate::progress::Numbers;
@@ -8,7 +9,8 @@ ghost use mathlib.Core.List.{[]};
 ghost use lib.ListN.{length};
 ghost use Rattle.job.specs.declared.records.Mark.the-variants.{Edge};
 ghost use Rattle.job.specs.declared.records.Marked.the-variants.{Known};
-ghost use Rattle.job.specs.Records.{strategyNumber, strategyOf, byDistance, markOf, controls, bodySize, atStart, inside, among, closing, allowed, fits, readHeader, readEdge, readDistances, readEnd, readBody, readMarked, readRecord, foundOf};
+ghost use Rattle.job.specs.Records.{strategyNumber, strategyOf, byDistance, markOf, controls, bodySize, atStart, inside, among, closing};
+ghost use Rattle.job.specs.Records.{allowed, fits, readHeader, readEdge, readDistances, readEnd, readBody, readMarked, readRecord, foundOf};
 
 pub enum Strategy {
     Simple,

@@ -3,7 +3,8 @@ use mathlib.Core.Path.{_≡_, refl, sym, ap, _∙_}
 use mathlib.Core.List.{List, [], _∷_, _++_, append-assoc, append-nil}
 use Prim.Native.Nat.{ℕ, suc, _+_, _*_, _≤_, _<_}
 use native.Mathlib.Omega.{arith}
-use lib.ListN.{length, take, drop, getD, set, replicate, length-append, length-drop, length-replicate, replicate-append-replicate, drop-of-length-le, length-set, List·getD-append}
+use lib.ListN.{length, take, drop, getD, set, replicate, length-append, length-drop, length-replicate, replicate-append-replicate, drop-of-length-le}
+use lib.ListN.{length-set, List·getD-append}
 use lib.Seq.{drop-cons, drop-drop, set-at, set-append-left, append-snoc, take-at, drop-at, take-suc, length-take-le}
 use Rattle.math.specs.Scalar.{f0}
 use Rattle.geometry.specs.EdgeSegment.{toStored}
@@ -28,7 +29,8 @@ module _ {A : Type 0} where
   over-length xs old h = length-append xs (drop (length xs) old) ∙ rw length-drop (omega arith)
 
   -- the elements of a list, one after another
-  pub over-next : (xs old : List A) (i : ℕ) (d : A) → i < length xs → length xs ≤ length old → set (over (take i xs) old) i (getD xs i d) ≡ over (take (suc i) xs) old
+  pub over-next : (xs old : List A) (i : ℕ) (d : A) → i < length xs → length xs ≤ length old
+      → set (over (take i xs) old) i (getD xs i d) ≡ over (take (suc i) xs) old
   over-next xs old i d h k =
       let e : length (take i xs) ≡ i = length-take-le i xs (omega arith) in
       ap (λ (n : ℕ). set (over (take i xs) old) n (getD xs i d)) (sym e) ∙ over-more (take i xs) old (getD xs i d) (omega arith) ∙ rw (← take-suc xs i d h)
@@ -58,7 +60,14 @@ module _ {A : Type 0} where
       → take n (over xs old) ++ (part ++ drop k (drop n (over xs old))) ≡ over (xs ++ part) old
   unfolding over
   over-part xs part old n k e f =
-      rw (e, f, take-at xs (drop (length xs) old) (length xs) refl, drop-at xs (drop (length xs) old) (length xs) refl, drop-drop (length part) (length xs) old, length-append xs part)
+      rw (
+        e,
+        f,
+        take-at xs (drop (length xs) old) (length xs) refl,
+        drop-at xs (drop (length xs) old) (length xs) refl,
+        drop-drop (length part) (length xs) old,
+        length-append xs part,
+      )
       (sym (append-assoc xs part (drop (length xs + length part) old)))
 
 -- the control points of an edge over eight places of +0 are the edge as it is stored

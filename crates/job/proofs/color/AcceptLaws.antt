@@ -60,7 +60,8 @@ checked-by-distance : (file : List ℕ) (job : Job) → readJob file ≡ reads j
 unfolding checkFile checkReading checkJob
 checked-by-distance file job e by = rw (e, by)
 
-module _ {file : List ℕ} {n : Numbers} {old : Buffers} {lengths kinds : List ℕ} {points distances : List Float} (h : Holding file n old lengths kinds points distances) where
+module _ {file : List ℕ} {n : Numbers} {old : Buffers} {lengths kinds : List ℕ} {points distances : List Float}
+    (h : Holding file n old lengths kinds points distances) where
   pub held-checked : (threshold : Float) (out : Result) → HoldsResults out → n .header .strategy ≡ ByDistance → threshold ≡ thresholdOf (n .header)
       → paired (collectSplines (held-outline h) threshold out .answer) (n .distances) ≡ checkFile file
   unfolding countsOf
@@ -96,7 +97,8 @@ accept-refused (reads job) refusal e = go (checkJob job) e
     go (Failed other) e = cc
 
 -- a job without distances has nothing left to check
-pub accept-plain : (reading : Reading) (n : Numbers) → read.Job n ≡ answerOf reading → byDistance (n .header .strategy) ≡ false → read.Job n ≡ answerOf (acceptReading reading)
+pub accept-plain : (reading : Reading) (n : Numbers) → read.Job n ≡ answerOf reading → byDistance (n .header .strategy) ≡ false
+    → read.Job n ≡ answerOf (acceptReading reading)
 unfolding acceptReading checkJob
 accept-plain (refuses refusal) n told h = told
 accept-plain (reads job) n told h =

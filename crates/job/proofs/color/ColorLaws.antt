@@ -1,4 +1,5 @@
--- A job that was read passes the checks of an outline, and its buffers hold its contours: so colouring the buffers is colouring the job.
+-- A job that was read passes the checks of an outline, and its buffers hold its contours: so colouring the buffers is
+-- colouring the job.
 use mathlib.Core.Path.{_≡_, refl, sym, ap, _∙_}
 use mathlib.Core.Bool.{Bool, true, false, cond, _&&_}
 use mathlib.Core.List.{List, [], _∷_, map, map-append, flatten}
@@ -196,11 +197,13 @@ module _ (file : List ℕ) (n : JobNumbers) (old : Buffers) (told : read.Job n �
       let a = answer-job (readJob file) n told in
       record { job = a .job; is-read = a .is-read; numbers = a .numbers; holds = rw (a .is-read) at h }
 
-pub color-refused : (file : List ℕ) (refusal : Refusal) (out : Result) → read.Refused refusal ≡ answerOf (readJob file) → outcome (color.Refused refusal) out ≡ colorFile file out
+pub color-refused : (file : List ℕ) (refusal : Refusal) (out : Result) → read.Refused refusal ≡ answerOf (readJob file)
+    → outcome (color.Refused refusal) out ≡ colorFile file out
 unfolding colorFile colorReading
 color-refused file refusal out told = rw (answer-refused (readJob file) refusal told)
 
-module _ {file : List ℕ} {n : JobNumbers} {old : Buffers} {lengths kinds : List ℕ} {points distances : List Float} (h : Holding file n old lengths kinds points distances) where
+module _ {file : List ℕ} {n : JobNumbers} {old : Buffers} {lengths kinds : List ℕ} {points distances : List Float}
+    (h : Holding file n old lengths kinds points distances) where
   -- the parts of the buffers that hold the job
   abbrev held : Buffers
   held = buffers (take (n .contours) lengths) (take (n .edges) kinds) (take (8 * n .edges) points) (take (n .distances) distances)
@@ -229,7 +232,8 @@ module _ {file : List ℕ} {n : JobNumbers} {old : Buffers} {lengths kinds : Lis
   pub held-is-outline : held-outline ≡ outlineOf (stored (h .job))
   held-is-outline = ap outlineOf held-is
 
-  pub held-colored : (threshold : Float) (out : Result) → threshold ≡ thresholdOf (n .header) → colorStored (n .header .strategy) (n .header .seed) threshold held out ≡ colorFile file out
+  pub held-colored : (threshold : Float) (out : Result) → threshold ≡ thresholdOf (n .header)
+      → colorStored (n .header .strategy) (n .header .seed) threshold held out ≡ colorFile file out
   unfolding colorFile colorReading
   held-colored threshold out e =
       let job = h .job in
@@ -243,7 +247,8 @@ module _ {file : List ℕ} {n : JobNumbers} {old : Buffers} {lengths kinds : Lis
 
   pub contours-within : n .contours ≤ length lengths
   unfolding overEach stored
-  contours-within = rw (h .numbers, h .holds .lengths-are) (within (sizes (h .job .contours)) (old .lengths) (length-map (h .job .contours) (λ (c : List EdgeSegment). length c)))
+  contours-within = rw (h .numbers, h .holds .lengths-are) (within (sizes (h .job .contours)) (old .lengths)
+      (length-map (h .job .contours) (λ (c : List EdgeSegment). length c)))
 
   pub kinds-within : n .edges ≤ length kinds
   unfolding overEach stored

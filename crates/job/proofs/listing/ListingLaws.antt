@@ -13,7 +13,8 @@ use Rattle.graph.specs.Refusal.{refusalNumber}
 use Rattle.graph.specs.declared.refusal.Refusal.{Refusal}
 use Rattle.coloring.specs.Places.{total}
 use Rattle.coloring.specs.Outline.{cut}
-use Rattle.job.specs.Listing.{digit, decimal, decimalWithin, letter, space, newline, edgesWord, refusedWord, field, line, contourLines, shapeLines, countLine, listing, refusalLine}
+use Rattle.job.specs.Listing.{digit, decimal, decimalWithin, letter, space, newline, edgesWord, refusedWord, field, line, contourLines}
+use Rattle.job.specs.Listing.{shapeLines, countLine, listing, refusalLine}
 
 -- ---- decimals
 
@@ -29,7 +30,8 @@ more-digits : (d n : ℕ) → 10 ≤ n → decimalWithin (suc d) n ≡ decimalWi
 unfolding decimalWithin
 more-digits d n h = go (ltb n 10) (le-ltb n 10 h)
   where
-    go : (b : Bool) → b ≡ false → elim b [ true ↦ digit n ∷ [] | false ↦ decimalWithin d (n / 10) ++ (digit (n % 10) ∷ []) ] ≡ decimalWithin d (n / 10) ++ (digit (n % 10) ∷ [])
+    go : (b : Bool) → b ≡ false → elim b [ true ↦ digit n ∷ [] | false ↦ decimalWithin d (n / 10) ++ (digit (n % 10) ∷ []) ] ≡ decimalWithin d
+        (n / 10) ++ (digit (n % 10) ∷ [])
     go true h = cc
     go false h = refl
 
@@ -65,10 +67,14 @@ three-digits n h = go (leb 100 n) refl
     go false e = omega (arith, two-digits n (leb-false 100 n e))
 
 -- a line: a contour of two digits, a place of three, a letter, a colour of one digit, three spaces and the line's end
-pub line-length : (contour place kind color : ℕ) → length (line contour place kind color) ≡ length (decimal contour) + length (decimal place) + length (decimal color) + 5
+pub line-length : (contour place kind color : ℕ) → length (line contour place kind color) ≡ length (decimal contour) + length (decimal place) + length
+    (decimal color) + 5
 unfolding line
 line-length contour place kind color =
-    length-append (decimal contour) _ ∙ rw (length-append (decimal place) (space ∷ letter kind ∷ space ∷ (decimal color ++ (newline ∷ []))), length-append (decimal color) (newline ∷ [])) (omega arith)
+    length-append (decimal contour) _ ∙ rw (
+      length-append (decimal place) (space ∷ letter kind ∷ space ∷ (decimal color ++ (newline ∷ []))),
+      length-append (decimal color) (newline ∷ []),
+    ) (omega arith)
 
 line-few : (contour place kind color : ℕ) → contour < 100 → place < 1000 → color < 10 → length (line contour place kind color) ≤ 11
 line-few contour place kind color h k l = omega (arith, line-length contour place kind color, two-digits contour h, three-digits place k, one-digit color l)
@@ -76,7 +82,8 @@ line-few contour place kind color h k l = omega (arith, line-length contour plac
 abbrev pub AreColors : List ℕ → Type 0
 AreColors colors = (i : ℕ) → getD colors i 0 < 8
 
-contour-few : (contour place : ℕ) (kinds colors : List ℕ) → contour < 100 → place + length kinds ≤ 1000 → AreColors colors → length (contourLines contour place kinds colors) ≤ 11 * length kinds
+contour-few : (contour place : ℕ) (kinds colors : List ℕ) → contour < 100 → place + length kinds ≤ 1000 → AreColors colors
+    → length (contourLines contour place kinds colors) ≤ 11 * length kinds
 unfolding contourLines
 contour-few contour place [] colors h k l = omega arith
 contour-few contour place (kind ∷ kinds) [] h k l = omega arith
@@ -135,7 +142,8 @@ line-fields contour place kind color = simp append-assoc
 -- ---- line by line
 
 pub contour-step : (contour i : ℕ) (kinds colors : List ℕ) → i < length kinds → length colors ≡ length kinds
-    → contourLines contour i (drop i kinds) (drop i colors) ≡ line contour i (getD kinds i 0) (getD colors i 0) ++ contourLines contour (i + 1) (drop (i + 1) kinds) (drop (i + 1) colors)
+    → contourLines contour i (drop i kinds) (drop i colors) ≡ line contour i (getD kinds i 0) (getD colors i 0) ++ contourLines contour (i + 1)
+    (drop (i + 1) kinds) (drop (i + 1) colors)
 unfolding contourLines
 contour-step contour i kinds colors h l = rw (drop-cons kinds i 0 h, drop-cons colors i 0 (omega arith), add-one i)
 
@@ -146,7 +154,8 @@ pub shape-step : (contour from n : ℕ) (lengths kinds colors : List ℕ) → co
 unfolding shapeLines cut
 shape-step contour from n lengths kinds colors h e = rw (drop-cons lengths contour 0 h, ← e, drop-drop n from kinds, drop-drop n from colors, add-one contour)
 
-pub total-step : (contour : ℕ) (lengths : List ℕ) → contour < length lengths → total (drop contour lengths) ≡ getD lengths contour 0 + total (drop (contour + 1) lengths)
+pub total-step : (contour : ℕ) (lengths : List ℕ) → contour < length lengths
+    → total (drop contour lengths) ≡ getD lengths contour 0 + total (drop (contour + 1) lengths)
 unfolding total
 total-step contour lengths h = rw (drop-cons lengths contour 0 h, add-one contour)
 

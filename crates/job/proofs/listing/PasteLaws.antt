@@ -21,8 +21,16 @@ pasted-twice at a b out h =
     let front : length (take at out ++ a) ≡ at + length a = length-append (take at out) a ∙ rw (length-take-le at out (omega arith)) in
     let rest = drop (at + length a) out in
     let sum : at + length (a ++ b) ≡ at + length a + length b = rw (length-append a b) (omega arith) in
-    rw (← append-assoc (take at out) a rest, take-at (take at out ++ a) rest (at + length a) front, ← drop-drop (length b) (at + length a) ((take at out ++ a) ++ rest), drop-at (take at out ++ a) rest (at + length a) front, drop-drop (length b) (at + length a) out, sum)
-    (append-assoc (take at out) a (b ++ drop (at + length a + length b) out) ∙ ap (λ (x : List ℕ). take at out ++ x) (sym (append-assoc a b (drop (at + length a + length b) out))))
+    rw (
+      ← append-assoc (take at out) a rest,
+      take-at (take at out ++ a) rest (at + length a) front,
+      ← drop-drop (length b) (at + length a) ((take at out ++ a) ++ rest),
+      drop-at (take at out ++ a) rest (at + length a) front,
+      drop-drop (length b) (at + length a) out,
+      sum,
+    )
+    (append-assoc (take at out) a (b ++ drop (at + length a + length b) out)
+    ∙ ap (λ (x : List ℕ). take at out ++ x) (sym (append-assoc a b (drop (at + length a + length b) out))))
 
 pasted-kept : {text old new : List ℕ} {at next : ℕ} → Pasted text at old next new → at + length text ≤ length old → length new ≡ length old
 pasted-kept {text = text} {old = old} {at = at} p h = ap length (p .holds) ∙ pasted-length at text old h
@@ -37,7 +45,8 @@ unfolding pasted over
 pasted-over {text = text} {old = old} p = let e : 0 + length text ≡ length text = omega arith in p .holds ∙ rw e
 
 -- one text, then another
-pub pasted-then : {a b old mid new : List ℕ} {at next last : ℕ} → Pasted a at old next mid → Pasted b next mid last new → at + length a + length b ≤ length old → Pasted (a ++ b) at old last new
+pub pasted-then : {a b old mid new : List ℕ} {at next last : ℕ} → Pasted a at old next mid → Pasted b next mid last new
+    → at + length a + length b ≤ length old → Pasted (a ++ b) at old last new
 pasted-then {a = a} {b = b} {old = old} {at = at} p q h =
     record {
       place = q .place ∙ rw (length-append a b) (omega (arith, p .place));
@@ -83,4 +92,5 @@ module _ {whole old todo out : List ℕ} {at next : ℕ} (part rest : List ℕ) 
   }
 
 pub listed-end : {whole : List ℕ} {at : ℕ} {old : List ℕ} {next : ℕ} {out : List ℕ} → Listed whole at old [] next out → Pasted whole at old next out
-listed-end {at = at} {old = old} {next = next} {out = out} l = subst (λ (x : List ℕ). Pasted x at old next out) (sym (append-nil (l .text)) ∙ l .splits) (l .pasted-so-far)
+listed-end {at = at} {old = old} {next = next} {out = out} l = subst (λ (x : List ℕ). Pasted x at old next out) (sym (append-nil (l .text)) ∙ l .splits)
+    (l .pasted-so-far)

@@ -46,7 +46,8 @@ between job number h = record { later = rest ++ end; split = all }
     end = cond (byDistance (job .header .strategy)) (distances (job .distances) ∷ []) []
 
     contours-are : take number (job .contours) ++ (getD (job .contours) number [] ∷ drop (suc number) (job .contours)) ≡ job .contours
-    contours-are = ap (λ (x : List (List EdgeSegment)). take number (job .contours) ++ x) (sym (drop-cons (job .contours) number [] h)) ∙ take-append-drop number (job .contours)
+    contours-are = ap (λ (x : List (List EdgeSegment)). take number (job .contours) ++ x) (sym (drop-cons (job .contours) number [] h))
+        ∙ take-append-drop number (job .contours)
 
     outline : header (job .header) ∷ flatten (map contourRecords (job .contours)) ≡ h₀ ++ (own ++ rest)
     outline =
@@ -66,7 +67,8 @@ cut-at job number h =
     let before = outlineRecords (job .header) (take number (job .contours)) in
     let own = contourRecords (getD (job .contours) number []) in
     ap (λ (x : List Record). recordBytes x ++ marked End []) (b .split)
-    ∙ ap (λ (x : List ℕ). x ++ marked End []) (bytes-append before (own ++ b .later) ∙ ap (λ (x : List ℕ). recordBytes before ++ x) (bytes-append own (b .later)))
+    ∙ ap (λ (x : List ℕ). x ++ marked End []) (bytes-append before (own ++ b .later)
+    ∙ ap (λ (x : List ℕ). recordBytes before ++ x) (bytes-append own (b .later)))
     ∙ append-assoc (recordBytes before) (recordBytes own ++ recordBytes (b .later)) (marked End [])
     ∙ ap (λ (x : List ℕ). recordBytes before ++ x) (append-assoc (recordBytes own) (recordBytes (b .later)) (marked End []))
 

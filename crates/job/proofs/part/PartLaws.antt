@@ -1,4 +1,5 @@
--- The search for a contour: what it has found so far is the place of that contour in the job so far, and lies in the file.
+-- The search for a contour: what it has found so far is the place of that contour in the job so far, and lies in the
+-- file.
 use mathlib.Core.Path.{_≡_, refl, sym, ap, subst, _∙_}
 use mathlib.Core.Logic.{_⊎_, inl, inr}
 use mathlib.Core.Bool.{Bool, true, false}
@@ -22,7 +23,8 @@ use Rattle.job.specs.declared.progress.Progress.{Progress}
 use Rattle.job.specs.declared.part.Span.{Span}
 use Rattle.job.specs.declared.part.Seek.{Seek}
 use Rattle.job.specs.declared.part.Seek.the-variants.{Passing, Open, Done}
-use Rattle.job.specs.Records.{Record, header, contour, edge, distances, ends, fails, atStart, among, inside, closing, allowed, recordMark, itemOf, phaseAfter, readRecord}
+use Rattle.job.specs.Records.{Record, header, contour, edge, distances, ends, fails, atStart, among, inside, closing, allowed, recordMark}
+use Rattle.job.specs.Records.{itemOf, phaseAfter, readRecord}
 use Rattle.job.specs.Job.{Job, withEdge, enter, Reading, reads, refuses, readJob, contourRecords, outlineRecords, recordBytes}
 use Rattle.job.specs.Progress.{begin, advanced}
 use Rattle.job.specs.Color.{acceptJob, hasJob, accepted}
@@ -31,7 +33,8 @@ use Rattle.job.proofs.patterns.PatternLaws.{AreBytes}
 use Rattle.job.proofs.records.ReadingLaws.{Read-as}
 use Rattle.job.proofs.progress.ReadyLaws.{Ready}
 use Rattle.job.proofs.progress.SoFarLaws.{soFar, bytes-append}
-use Rattle.job.proofs.progress.ProgressLaws.{Reached, reached-begin, begin-job, reached-next, next-job, reached-end, reached-fault, record-taken, is-ready, not-closing, with-edge-length, further}
+use Rattle.job.proofs.progress.ProgressLaws.{Reached, reached-begin, begin-job, reached-next, next-job, reached-end, reached-fault}
+use Rattle.job.proofs.progress.ProgressLaws.{record-taken, is-ready, not-closing, with-edge-length, further}
 
 -- what was found lies before a place
 abbrev Before : Seek → ℕ → Type 0
@@ -117,7 +120,8 @@ span-last job number at e placed =
     let before = outlineRecords h (take number (job .contours)) in
     let own = contourRecords (getD (job .contours) number []) in
     let size : at ≡ length (recordBytes before) + length (recordBytes own) =
-    placed ∙ ap (λ (x : List Record). length (recordBytes x)) (outline-last h (job .contours) number e) ∙ ap length (bytes-append before own) ∙ length-append (recordBytes before) (recordBytes own) in
+    placed ∙ ap (λ (x : List Record). length (recordBytes x)) (outline-last h (job .contours) number e) ∙ ap length (bytes-append before own)
+    ∙ length-append (recordBytes before) (recordBytes own) in
     rw size
 
 -- ---- what was found so far
@@ -125,7 +129,8 @@ span-last job number at e placed =
 abbrev Found : ℕ → Job → Phase → Seek → Type 0
 Found number job phase (Passing left) = length (job .contours) + left ≡ number
 Found number job phase (Open from) = (suc number ≡ length (job .contours)) × (inside phase ≡ true) × (from ≡ startIn job number)
-Found number job phase (Done span) = (number < length (job .contours)) × (span ≡ spanIn job number) × ((number + 2 ≤ length (job .contours)) ⊎ (closing phase ≡ true))
+Found number job phase (Done span) = (number < length (job .contours)) × (span ≡ spanIn job number)
+    × ((number + 2 ≤ length (job .contours)) ⊎ (closing phase ≡ true))
 
 module _ (job : Job) (number : ℕ) where
   abbrev more : Job
@@ -141,7 +146,8 @@ module _ (job : Job) (number : ℕ) where
 
   span-more : number < length (job .contours) → spanIn more number ≡ spanIn job number
   unfolding enter
-  span-more h = span-same more job number refl (take-append-le number (job .contours) ([] ∷ []) (omega arith)) (List·getD-append (job .contours) ([] ∷ []) [] number h)
+  span-more h = span-same more job number refl (take-append-le number (job .contours) ([] ∷ []) (omega arith))
+      (List·getD-append (job .contours) ([] ∷ []) [] number h)
 
   module _ (ds : List Float) where
     closed-length : length (enter job (distances ds) .contours) ≡ length (job .contours)
@@ -199,16 +205,25 @@ module _ (number : ℕ) (job : Job) (phase : Phase) (by : Strategy) (at : ℕ) (
   found-next (Passing left) (edge e) may still f = omega (arith, with-length job number e)
   found-next (Passing left) (distances ds) may still f = unfold enter in f
   found-next (Open from) (header h) may still f = absurd (omega (arith, ap length (none may)))
-  found-next (Open from) contour may still f =
-      (omega (arith, more-length job number), ap (λ (n : ℕ). record { start = n; end = at }) (f .2) ∙ span-last job number at (f .0) (placed-outline may) ∙ sym (span-more job number (omega arith)), inl (omega (arith, more-length job number)))
+  found-next (Open from) contour may still f = (
+    omega (arith, more-length job number),
+    ap (λ (n : ℕ). record { start = n; end = at }) (f .2) ∙ span-last job number at (f .0) (placed-outline may)
+        ∙ sym (span-more job number (omega arith)),
+    inl (omega (arith, more-length job number)),
+  )
   found-next (Open from) (edge e) may still f = (f .0 ∙ sym (with-length job number e), f .1, f .2 ∙ sym (start-with job number e (omega arith)))
   found-next (Open from) (distances ds) may still f = (
     omega (arith, closed-length job number ds),
-    ap (λ (n : ℕ). record { start = n; end = at }) (f .2) ∙ span-last job number at (f .0) (placed-outline (inside-among phase (f .1))) ∙ sym (span-closed job number ds),
+    ap (λ (n : ℕ). record { start = n; end = at }) (f .2) ∙ span-last job number at (f .0) (placed-outline (inside-among phase (f .1)))
+        ∙ sym (span-closed job number ds),
     inr refl,
   )
   found-next (Done span) (header h) may still f = absurd (omega (arith, ap length (none may)))
-  found-next (Done span) contour may still f = (omega (arith, more-length job number), f .1 ∙ sym (span-more job number (f .0)), inl (omega (arith, more-length job number)))
+  found-next (Done span) contour may still f = (
+    omega (arith, more-length job number),
+    f .1 ∙ sym (span-more job number (f .0)),
+    inl (omega (arith, more-length job number)),
+  )
   found-next (Done span) (edge e) may still f = go (f .2)
     where
       go : (number + 2 ≤ length (job .contours)) ⊎ (closing phase ≡ true) → Found number (enter job (edge e)) phase (Done span)
@@ -234,7 +249,8 @@ pub seeking-begin : (file : List ℕ) (number : ℕ) → Seeking file number beg
 seeking-begin file number = record { at = reached-begin file; found = rw (begin-job file) (omega arith); before = tt }
 
 module _ (file : List ℕ) (number : ℕ) (p : Progress) (q : Seek) (here : Seeking file number p q) where
-  pub seeking-next : (item : Item) (size : ℕ) → Read-as (readRecord (p .state) (drop (p .at) file)) item size → Seeking file number (advanced p item size) (sought q (p .at) item)
+  pub seeking-next : (item : Item) (size : ℕ) → Read-as (readRecord (p .state) (drop (p .at) file)) item size
+      → Seeking file number (advanced p item size) (sought q (p .at) item)
   seeking-next item size read =
       let at = here .at in
       let r = read .r in
@@ -243,7 +259,8 @@ module _ (file : List ℕ) (number : ℕ) (p : Progress) (q : Seek) (here : Seek
       rw (← read .is-item, ← read .is-size)
       (record {
         at = reached-next file p at r (read .rest) (read .is-next);
-        found = subst (λ (j : Job). Found number j (phaseAfter (p .state .phase) (itemOf r)) (sought q (p .at) (itemOf r))) (sym (next-job file p at r (read .rest) (read .is-next))) found;
+        found = subst (λ (j : Job). Found number j (phaseAfter (p .state .phase) (itemOf r)) (sought q (p .at) (itemOf r)))
+            (sym (next-job file p at r (read .rest) (read .is-next))) found;
         before = before-next q (p .at) _ (itemOf r) (omega (arith, further file p at r (read .rest) (read .is-next))) (here .before);
       })
 
@@ -256,7 +273,8 @@ module _ (file : List ℕ) (number : ℕ) (p : Progress) (q : Seek) (here : Seek
   seeking-inside = before-inside q (p .at) (length file) (here .at .within) (here .before)
 
 -- a file that is read meets no fault
-pub seeking-fault : (file : List ℕ) (p : Progress) → Reached file p → hasJob (readJob file) ≡ true → (refusal : Refusal) → readRecord (p .state) (drop (p .at) file) ≡ fails refusal → ⊥
+pub seeking-fault : (file : List ℕ) (p : Progress) → Reached file p → hasJob (readJob file) ≡ true → (refusal : Refusal)
+    → readRecord (p .state) (drop (p .at) file) ≡ fails refusal → ⊥
 seeking-fault file p at has refusal e =
     let no : hasJob (refuses refusal) ≡ true = ap hasJob (reached-fault file p at refusal e) ∙ has in
     let z : _≡_ {A = ℕ} 0 1 = cc in

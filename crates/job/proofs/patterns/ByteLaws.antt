@@ -36,7 +36,8 @@ little-number (b ∷ bytes) h =
     rw (low, high, little-number bytes (λ i. h (suc i)))
 
 pub little-taken : (n : ℕ) (bytes : List ℕ) → AreBytes bytes → n ≤ length bytes → little n (number (take n bytes)) ≡ take n bytes
-little-taken n bytes h k = ap (λ (m : ℕ). little m (number (take n bytes))) (sym (length-take-le n bytes k)) ∙ little-number (take n bytes) (are-taken n bytes h)
+little-taken n bytes h k = ap (λ (m : ℕ). little m (number (take n bytes))) (sym (length-take-le n bytes k))
+    ∙ little-number (take n bytes) (are-taken n bytes h)
 
 -- ---- floats
 
@@ -49,7 +50,8 @@ unfolding floatBytes
 float-then x xs = refl
 
 module _ (test : ℕ → Bool) (finite : (b : ℕ) → test b ≡ true → b % signBit ≤ 9218868437227405312) where
-  floats-back : (n : ℕ) (bytes : List ℕ) → AreBytes bytes → 8 * n ≤ length bytes → all test (words n bytes) ≡ true → floatBytes (floats (words n bytes)) ≡ take (8 * n) bytes
+  floats-back : (n : ℕ) (bytes : List ℕ) → AreBytes bytes → 8 * n ≤ length bytes → all test (words n bytes) ≡ true
+      → floatBytes (floats (words n bytes)) ≡ take (8 * n) bytes
   unfolding words floats all
   floats-back zero bytes h k t = no-floats
   floats-back (suc n) bytes h k t =
@@ -57,11 +59,13 @@ module _ (test : ℕ → Bool) (finite : (b : ℕ) → test b ≡ true → b % s
       let eight : length (take 8 bytes) ≡ 8 = length-take-le 8 bytes (omega arith) in
       let below : p < 2 ^ 64 = rw eight at (number-below (take 8 bytes) (are-taken 8 bytes h)) in
       let back : toBits binary64 (ofBits binary64 p) ≡ p = pattern-back p below (finite p (and-left (test p) (all test (words n (drop 8 bytes))) t)) in
-      let rest = floats-back n (drop 8 bytes) (are-dropped 8 bytes h) (rw length-drop (omega arith)) (and-right (test p) (all test (words n (drop 8 bytes))) t) in
+      let rest = floats-back n (drop 8 bytes) (are-dropped 8 bytes h) (rw length-drop (omega arith))
+      (and-right (test p) (all test (words n (drop 8 bytes))) t) in
       let e : 8 * suc n ≡ 8 + 8 * n = omega arith in
       rw (float-then, back, little-taken 8 bytes h (omega arith), rest, e) (sym (take-add 8 (8 * n) bytes))
 
-pub coordinates-back : (n : ℕ) (bytes : List ℕ) → AreBytes bytes → 8 * n ≤ length bytes → all isCoordinate (words n bytes) ≡ true → floatBytes (floats (words n bytes)) ≡ take (8 * n) bytes
+pub coordinates-back : (n : ℕ) (bytes : List ℕ) → AreBytes bytes → 8 * n ≤ length bytes → all isCoordinate (words n bytes) ≡ true
+    → floatBytes (floats (words n bytes)) ≡ take (8 * n) bytes
 coordinates-back = floats-back isCoordinate (λ b h. omega (arith, leb-true (b % signBit) 4697254411347427328 h))
 
 distance-finite : (b : ℕ) → isDistance b ≡ true → b % signBit ≤ 9218868437227405312
@@ -71,5 +75,6 @@ distance-finite b h = go (ltb b 9218868437227405312) refl h
     go true e k = omega (arith, ltb-true b 9218868437227405312 e)
     go false e k = omega (arith, eqb-true b signBit k)
 
-pub distances-back : (n : ℕ) (bytes : List ℕ) → AreBytes bytes → 8 * n ≤ length bytes → all isDistance (words n bytes) ≡ true → floatBytes (floats (words n bytes)) ≡ take (8 * n) bytes
+pub distances-back : (n : ℕ) (bytes : List ℕ) → AreBytes bytes → 8 * n ≤ length bytes → all isDistance (words n bytes) ≡ true
+    → floatBytes (floats (words n bytes)) ≡ take (8 * n) bytes
 distances-back = floats-back isDistance distance-finite

@@ -1,9 +1,11 @@
--- What the tests of bit patterns mean of the floats: a threshold lies from −1 to 1, a coordinate from −1,048,576 to 1,048,576, and a distance is finite and not below zero.
+-- What the tests of bit patterns mean of the floats: a threshold lies from −1 to 1, a coordinate from −1,048,576 to
+-- 1,048,576, and a distance is finite and not below zero.
 use mathlib.Core.Path.{_≡_, refl, sym, ap, _∙_}
 use mathlib.Core.Bool.{Bool, true, false, cond, _&&_, _||_}
 use Prim.Native.Nat.{ℕ, zero, suc, _+_, _*_, _/_, _%_, _^_, _<_, _≤_}
 use native.Mathlib.Omega.{arith}
-use native.Mathlib.Nat.{mul-le-mul-left, mul-le-mul-right, mul-lt-mul-of-pos-left, mul-lt-mul-of-pos-right, mul-one, one-mul, zero-mul, le-refl, mul-pos, lt-of-lt-of-le, lt-irrefl}
+use native.Mathlib.Nat.{mul-le-mul-left, mul-le-mul-right, mul-lt-mul-of-pos-left, mul-lt-mul-of-pos-right, mul-one, one-mul, zero-mul, le-refl}
+use native.Mathlib.Nat.{mul-pos, lt-of-lt-of-le, lt-irrefl}
 use lib.Dec.{leb, ltb, eqb, eqb·zero-suc, eqb·suc-zero}
 use lib.Pow.{pow-add, pow-mono, pow-lt, pow-pos}
 use lib.IntN.{ℤ, pos}
@@ -39,7 +41,8 @@ units-below (suc y) t k h m = rw (power k) (go (leb (suc y) (k + 1022)) refl)
     go : (b : Bool) → leb (suc y) (k + 1022) ≡ b → (2 ^ 52 + t) * 2 ^ y ≤ 2 ^ 52 * 2 ^ (k + 1022)
     go true e =
         let one : (2 ^ 52 + t) * 2 ^ y ≤ 2 ^ 53 * 2 ^ y = mul-le-mul-right (2 ^ y) (omega arith) in
-        let two : 2 ^ 52 * 2 ^ suc y ≤ 2 ^ 52 * 2 ^ (k + 1022) = mul-le-mul-left (2 ^ 52) (pow-mono {i = suc y} {j = k + 1022} (leb-true (suc y) (k + 1022) e)) in
+        let two : 2 ^ 52 * 2 ^ suc y ≤ 2 ^ 52 * 2 ^ (k + 1022) = mul-le-mul-left (2 ^ 52)
+        (pow-mono {i = suc y} {j = k + 1022} (leb-true (suc y) (k + 1022) e)) in
         let s : suc y ≡ 1 + y = omega arith in
         let three : 2 ^ suc y ≡ 2 * 2 ^ y = rw s (pow-add 2 1 y) in
         omega (arith, one, two, three)
@@ -55,7 +58,8 @@ units-above (suc y) t k h m = rw (power k) (go (leb (k + 1023) y) refl)
   where
     go : (b : Bool) → leb (k + 1023) y ≡ b → 2 ^ 52 * 2 ^ (k + 1022) < (2 ^ 52 + t) * 2 ^ y
     go true e =
-        let one : 2 ^ 52 * 2 ^ (k + 1022) < 2 ^ 52 * 2 ^ (k + 1023) = mul-lt-mul-of-pos-left (pow-lt {i = k + 1022} {j = k + 1023} (omega arith)) (omega arith) in
+        let one : 2 ^ 52 * 2 ^ (k + 1022) < 2 ^ 52 * 2 ^ (k + 1023) = mul-lt-mul-of-pos-left (pow-lt {i = k + 1022} {j = k + 1023} (omega arith))
+        (omega arith) in
         let two : 2 ^ 52 * 2 ^ (k + 1023) ≤ 2 ^ 52 * 2 ^ y = mul-le-mul-left (2 ^ 52) (pow-mono {i = k + 1023} {j = y} (leb-true (k + 1023) y e)) in
         let three : 2 ^ 52 * 2 ^ y ≤ (2 ^ 52 + t) * 2 ^ y = mul-le-mul-right (2 ^ y) (omega arith) in
         omega (arith, one, two, three)
@@ -91,7 +95,8 @@ module _ (k m u : ℕ) (e : ℤ) (v : m * up e * 2 ^ 1074 ≡ u * down e) where
       go : (b : Bool) → leb (m * up e * 1) (1 * 2 ^ k * down e) ≡ b → 1 * 2 ^ k * down e < m * up e * 1
       go true f =
           let less = leb-true (m * up e * 1) (1 * 2 ^ k * down e) f in
-          let no : u * 1 ≤ 2 ^ k * 2 ^ 1074 = transfer u (2 ^ k) (2 ^ 1074) 1 (m * up e) (2 ^ k) (down e) 1 (down-pos e) (omega arith) (sym v) refl (rw (one-mul (2 ^ k)) at less) in
+          let no : u * 1 ≤ 2 ^ k * 2 ^ 1074 = transfer u (2 ^ k) (2 ^ 1074) 1 (m * up e) (2 ^ k) (down e) 1 (down-pos e) (omega arith) (sym v) refl
+          (rw (one-mul (2 ^ k)) at less) in
           absurd (lt-irrefl _ (lt-of-lt-of-le h (rw (mul-one u) at no)))
       go false f = leb-false (m * up e * 1) (1 * 2 ^ k * down e) f
 
@@ -177,7 +182,8 @@ pattern-within k b few = go (leb 2047 x) refl
     go : (c : Bool) → leb 2047 x ≡ c → leb (b % 9223372036854775808) ((1023 + k) * 2 ^ 52) ≡ Within k (ofFields binary64 s x t)
     go true e =
         let full : x ≡ 2047 = omega (arith, leb-true 2047 x e) in
-        lt-leb (b % 9223372036854775808) ((1023 + k) * 2 ^ 52) (omega (arith, fields)) ∙ sym (ap (λ (y : ℕ). Within k (ofFields binary64 s y t)) full ∙ no-number k s t)
+        lt-leb (b % 9223372036854775808) ((1023 + k) * 2 ^ 52) (omega (arith, fields))
+        ∙ sym (ap (λ (y : ℕ). Within k (ofFields binary64 s y t)) full ∙ no-number k s t)
     go false e =
         ap (λ (y : ℕ). leb y ((1023 + k) * 2 ^ 52)) fields
         ∙ fields-within k x t (omega arith)
@@ -225,12 +231,14 @@ module _ (m u : ℕ) (e : ℤ) (v : m * up e * 2 ^ 1074 ≡ u * down e) where
     where
       go : (t : Bool) → eqb u 0 ≡ t → eqb (m * up e * 1) 0 ≡ eqb u 0
       go true f =
-          let at-most : m * up e * 1 ≤ 0 * down e = transfer (m * up e) 0 (down e) 1 u 0 (2 ^ 1074) 1 (pow-pos 1074) (omega arith) v refl (rw (eqb-true u 0 f) (le-refl 0)) in
+          let at-most : m * up e * 1 ≤ 0 * down e = transfer (m * up e) 0 (down e) 1 u 0 (2 ^ 1074) 1 (pow-pos 1074) (omega arith) v refl
+          (rw (eqb-true u 0 f) (le-refl 0)) in
           eq-eqb (m * up e * 1) 0 (omega (arith, zero-mul (down e))) ∙ sym f
       go false f =
           ne-eqb (m * up e * 1) 0
           (λ z.
-          let at-most : u * 1 ≤ 0 = transfer u 0 (2 ^ 1074) 1 (m * up e) 0 (down e) 1 (down-pos e) (omega arith) (sym v) refl (rw (z, zero-mul (down e)) (omega arith)) in
+          let at-most : u * 1 ≤ 0 = transfer u 0 (2 ^ 1074) 1 (m * up e) 0 (down e) 1 (down-pos e) (omega arith) (sym v) refl
+          (rw (z, zero-mul (down e)) (omega arith)) in
           eqb-false u 0 f (none u at-most))
           ∙ sym f
 
@@ -287,7 +295,8 @@ distance-means b fits = go (leb 2047 x) refl (leb 9223372036854775808 b) refl
     go : (c : Bool) → leb 2047 x ≡ c → (s : Bool) → leb 9223372036854775808 b ≡ s → isDistance b ≡ NotBelow (ofFields binary64 s x t)
     go true e s f =
         let full : x ≡ 2047 = omega (arith, leb-true 2047 x e) in
-        rw (le-ltb b 9218868437227405312 (omega arith), ne-eqb b 9223372036854775808 (λ z. omega arith)) (sym (ap (λ (y : ℕ). NotBelow (ofFields binary64 s y t)) full ∙ no-distance s t))
+        rw (le-ltb b 9218868437227405312 (omega arith), ne-eqb b 9223372036854775808 (λ z. omega arith))
+        (sym (ap (λ (y : ℕ). NotBelow (ofFields binary64 s y t)) full ∙ no-distance s t))
     go false e true f =
         let low = leb-false 2047 x e in
         let high = leb-true 9223372036854775808 b f in

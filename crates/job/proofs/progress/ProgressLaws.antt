@@ -1,4 +1,5 @@
--- How far a file is read: the counts that the code keeps are those of the job so far, and the records ahead decide the rest.
+-- How far a file is read: the counts that the code keeps are those of the job so far, and the records ahead decide
+-- the rest.
 use mathlib.Core.Path.{_≡_, refl, sym, ap, subst, _∙_}
 use mathlib.Core.Bool.{Bool, true, false, _&&_}
 use mathlib.Core.List.{List, [], _∷_, _++_, append-nil, append-assoc, flatten}
@@ -22,7 +23,9 @@ use Rattle.job.specs.declared.records.State.{State}
 use Rattle.job.specs.declared.records.Item.{Item}
 use Rattle.job.specs.declared.progress.Progress.{Progress}
 use Rattle.job.specs.declared.progress.Numbers.{Numbers}
-use Rattle.job.specs.Records.{Record, header, contour, edge, distances, Step, next, ends, fails, atStart, kindOf, inside, among, closing, byDistance, recordMark, coordinates, bytesOf, fits, start, recordSize, itemOf, phaseAfter, counted, readRecord, after, _then_, recordsFrom}
+use Rattle.job.specs.Records.{Record, header, contour, edge, distances, Step, next, ends, fails, atStart, kindOf, inside, among, closing}
+use Rattle.job.specs.Records.{byDistance, recordMark, coordinates, bytesOf, fits, start, recordSize, itemOf, phaseAfter, counted, readRecord}
+use Rattle.job.specs.Records.{after, _then_, recordsFrom}
 use Rattle.job.specs.Job.{Holdable, doubles, recordsOf, recordBytes, fileOf, thresholdOf, Job, noJob, withEdge, enter, reads, refuses, jobFrom, readJob}
 use Rattle.job.specs.Progress.{edgeCount, begin, advanced, numbersOf, Counts}
 use Rattle.job.proofs.progress.ReadyLaws.{Ready}
@@ -30,7 +33,8 @@ use Rattle.job.proofs.progress.SoFarLaws.{bytes-more, soFar, so-far-nex
 use Rattle.job.proofs.patterns.PatternLaws.{AreBytes}
 use Rattle.job.proofs.patterns.ByteLaws.{are-dropped}
 use Rattle.job.proofs.records.RecordLaws.{Allowed, controls-few, size-is, size-some}
-use Rattle.job.proofs.records.ReadingLaws.{Held, edgeFits, InRange, Read-as, end-is, end-may, end-size, Taken, taken, records-next, records-end, records-fault}
+use Rattle.job.proofs.records.ReadingLaws.{Held, edgeFits, InRange, Read-as, end-is, end-may, end-size, Taken, taken, records-next}
+use Rattle.job.proofs.records.ReadingLaws.{records-end, records-fault}
 
 -- ---- an edge more in the last contour
 
@@ -91,7 +95,12 @@ unfolding enter
 sound-next job (header h) bytes is-ready held fits so =
     record { threshold-fits = fits; coordinates-fit = so .coordinates-fit; distances-few = so .distances-few; distances-valid = so .distances-valid }
 sound-next job contour bytes is-ready held fits so =
-    record { threshold-fits = so .threshold-fits; coordinates-fit = rw (more-concat (job .contours)) (so .coordinates-fit); distances-few = so .distances-few; distances-valid = so .distances-valid }
+    record {
+      threshold-fits = so .threshold-fits;
+      coordinates-fit = rw (more-concat (job .contours)) (so .coordinates-fit);
+      distances-few = so .distances-few;
+      distances-valid = so .distances-valid;
+    }
 sound-next job (edge e) bytes is-ready held fits so =
     record {
       threshold-fits = so .threshold-fits;
@@ -109,7 +118,12 @@ unfolding enter
 holdable-next job (header h) bytes is-ready held are so =
     record { seed = held are .0; threshold = held are .1; coordinates-are = so .coordinates-are; distances-are = so .distances-are }
 holdable-next job contour bytes is-ready held are so =
-    record { seed = so .seed; threshold = so .threshold; coordinates-are = rw (more-concat (job .contours)) (so .coordinates-are); distances-are = so .distances-are }
+    record {
+      seed = so .seed;
+      threshold = so .threshold;
+      coordinates-are = rw (more-concat (job .contours)) (so .coordinates-are);
+      distances-are = so .distances-are;
+    }
 holdable-next job (edge e) bytes is-ready held are so =
     record {
       seed = so .seed;
@@ -218,7 +232,8 @@ none-after job s contour may none h = none (not-closing s contour may)
 none-after job s (edge e) may none h = none h
 none-after job s (distances ds) may none h = cc
 
-contours-after : (job : Job) (s : State) (r : Record) → s .numbers .contours ≡ length (job .contours) → fits (s .numbers) (recordMark r) ≡ true → length (job .contours) ≤ 64 → length (enter job r .contours) ≤ 64
+contours-after : (job : Job) (s : State) (r : Record) → s .numbers .contours ≡ length (job .contours) → fits (s .numbers) (recordMark r) ≡ true
+    → length (job .contours) ≤ 64 → length (enter job r .contours) ≤ 64
 unfolding enter
 contours-after job s (header x) e h few = few
 contours-after job s contour e h few = rw (length-append (job .contours) ([] ∷ [])) (omega (arith, ltb-true (s .numbers .contours) 64 h))
@@ -256,7 +271,8 @@ size-after job s at (header x) is-ready may few h = omega (arith, size-is (heade
     start Outside h = cc
     start Inside h = cc
     start Closing h = cc
-size-after job s at contour is-ready may few h = rw (length-append (job .contours) ([] ∷ []), more-concat (job .contours)) (omega (arith, size-is contour, among-besides (s .phase) may))
+size-after job s at contour is-ready may few h = rw (length-append (job .contours) ([] ∷ []), more-concat (job .contours))
+    (omega (arith, size-is contour, among-besides (s .phase) may))
 size-after job s at (edge e) is-ready may few h =
     rw (with-edge-length (job .contours) e, with-edge-concat (job .contours) e is-ready, length-append (flatten (job .contours)) (e ∷ [])) (omega (arith, size-is (edge e), controls-few (kindOf e)))
 size-after job s at (distances ds) is-ready may few h = omega (arith, among-besides (s .phase) (and-left (among (s .phase)) (byDistance (s .numbers .header .strategy)) may))
@@ -330,7 +346,8 @@ module _ (file : List ℕ) (p : Progress) (at : Reached file p) (r : Record) (re
     nothing-yet = nothing-next (p .state .phase) _ r _ (record-taken .may);
     asked = asked-next (at .job) (p .state .phase) _ r strategy-is (record-taken .may) (at .asked);
     placed = rw (further-records, bytes-more (soFar (p .state .phase) (at .job)) r, length-append) (ap (λ (n : ℕ). n + recordSize r) (at .placed));
-    passed = λ are. take-add (p .at) (recordSize r) file ∙ rw (further-records, bytes-more (soFar (p .state .phase) (at .job)) r, at .passed are, here-bytes are);
+    passed = λ are. take-add (p .at) (recordSize r) file ∙ rw
+        (further-records, bytes-more (soFar (p .state .phase) (at .job)) r, at .passed are, here-bytes are);
     holdable = λ are. holdable-next (at .job) r (drop (p .at) file) is-ready (record-taken .held) (are-dropped (p .at) file are) (at .holdable are);
   }
 
@@ -339,7 +356,8 @@ module _ (file : List ℕ) (p : Progress) (at : Reached file p) (r : Record) (re
   next-job = refl
 
 -- the same from what the code finds
-module _ (file : List ℕ) (p : Progress) (at : Reached file p) {item : Item} {size : ℕ} (read : Read-as (readRecord (p .state) (drop (p .at) file)) item size) where
+module _ (file : List ℕ) (p : Progress) (at : Reached file p) {item : Item} {size : ℕ}
+    (read : Read-as (readRecord (p .state) (drop (p .at) file)) item size) where
   pub counts-on : length file < 2 ^ 64 → Counts p size
   counts-on h = rw (← read .is-size) (counts file p at (read .r) (read .rest) (read .is-next) h)
 
@@ -347,14 +365,20 @@ module _ (file : List ℕ) (p : Progress) (at : Reached file p) {item : Item} {s
   reached-on = rw (← read .is-item, ← read .is-size) (reached-next file p at (read .r) (read .rest) (read .is-next))
 
   pub less-on : length file - (p .at + size) < length file - p .at
-  less-on = omega (arith, further file p at (read .r) (read .rest) (read .is-next), reached-next file p at (read .r) (read .rest) (read .is-next) .within, read .is-size)
+  less-on = omega (
+    arith,
+    further file p at (read .r) (read .rest) (read .is-next),
+    reached-next file p at (read .r) (read .rest) (read .is-next) .within,
+    read .is-size,
+  )
 
 -- the end of the file, and a fault
 pub reached-end : (file : List ℕ) (p : Progress) (at : Reached file p) → readRecord (p .state) (drop (p .at) file) ≡ ends → reads (at .job) ≡ readJob file
 unfolding jobFrom
 reached-end file p at e = sym (ap (jobFrom (at .job)) (records-end (p .state) (drop (p .at) file) e)) ∙ at .rest
 
-pub reached-fault : (file : List ℕ) (p : Progress) (at : Reached file p) (refusal : Refusal) → readRecord (p .state) (drop (p .at) file) ≡ fails refusal → refuses refusal ≡ readJob file
+pub reached-fault : (file : List ℕ) (p : Progress) (at : Reached file p) (refusal : Refusal) → readRecord (p .state) (drop (p .at) file) ≡ fails refusal
+    → refuses refusal ≡ readJob file
 unfolding jobFrom
 reached-fault file p at refusal e = sym (ap (jobFrom (at .job)) (records-fault (p .state) (drop (p .at) file) refusal e)) ∙ at .rest
 
@@ -384,7 +408,8 @@ ends-within zero file job p at h e =
     (readRecord (p .state) (drop (p .at) file)) refl
 ends-within (suc n) file job p at h e =
     ends-here file job p at e
-    (λ r rest f. ends-within n file job (onward file p at r rest f) (reached-next file p at r rest f) (omega (arith, further file p at r rest f, reached-next file p at r rest f .within)) e)
+    (λ r rest f. ends-within n file job (onward file p at r rest f) (reached-next file p at r rest f)
+    (omega (arith, further file p at r rest f, reached-next file p at r rest f .within)) e)
     (readRecord (p .state) (drop (p .at) file)) refl
 
 ends-at : (file : List ℕ) (job : Job) → readJob file ≡ reads job → Ends-at file job
@@ -405,7 +430,15 @@ pub bytes-few : (file : List ℕ) (job : Job) → readJob file ≡ reads job →
 bytes-few file job e =
     let end = ends-at file job e in
     let p = end .p in
-    omega (arith, end .at .sized, most (p .state .phase), end .at .contours-fit, end .at .edges-fit, end-size (p .state) (drop (p .at) file) (end .at-end), length-drop (p .at) file)
+    omega (
+      arith,
+      end .at .sized,
+      most (p .state .phase),
+      end .at .contours-fit,
+      end .at .edges-fit,
+      end-size (p .state) (drop (p .at) file) (end .at-end),
+      length-drop (p .at) file,
+    )
   where
     most : (phase : Phase) → besides phase ≤ 16151
     most Start = omega arith
@@ -426,7 +459,8 @@ file-of-job file job are e =
     let at = end .at in
     let last = end-is (p .state) (drop (p .at) file) (end .at-end) in
     let by : p .state .numbers .header .strategy ≡ at .job .header .strategy = ap (λ (n : Numbers). n .header .strategy) (at .numbers-are) in
-    let all : soFar (p .state .phase) (at .job) ≡ recordsOf (at .job) = so-far-end (at .job) (p .state .phase) (rw by at (end-may (p .state) (drop (p .at) file) (end .at-end))) (at .asked) in
+    let all : soFar (p .state .phase) (at .job) ≡ recordsOf (at .job) = so-far-end (at .job) (p .state .phase)
+    (rw by at (end-may (p .state) (drop (p .at) file) (end .at-end))) (at .asked) in
     sym (take-append-drop (p .at) file)
     ∙ ap (λ (x : List ℕ). x ++ drop (p .at) file) (at .passed are ∙ ap recordBytes all)
     ∙ ap (λ (x : List ℕ). recordBytes (recordsOf (at .job)) ++ x) last

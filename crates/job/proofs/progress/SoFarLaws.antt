@@ -1,4 +1,5 @@
--- The records read so far, in order: those of the job so far. At the end they are the job's, and what a file can hold is in them.
+-- The records read so far, in order: those of the job so far. At the end they are the job's, and what a file can hold
+-- is in them.
 use mathlib.Core.Path.{_≡_, refl, sym, ap, _∙_}
 use mathlib.Core.Bool.{Bool, true, false, _&&_}
 use mathlib.Core.List.{List, [], _∷_, _++_, map, map-append, append-nil, append-assoc, flatten}
@@ -21,7 +22,8 @@ use Rattle.job.specs.declared.records.Mark.the-variants.{End}
 use Rattle.job.specs.declared.records.Phase.{Phase}
 use Rattle.job.specs.declared.records.Phase.the-variants.{Start, Outside, Inside, Closing}
 use Rattle.job.specs.Patterns.{words, floats}
-use Rattle.job.specs.Records.{Record, header, contour, edge, distances, atStart, among, closing, byDistance, allowed, recordMark, itemOf, phaseAfter, controls, coordinates, edgeOf, bytesOf}
+use Rattle.job.specs.Records.{Record, header, contour, edge, distances, atStart, among, closing, byDistance, allowed, recordMark, itemOf}
+use Rattle.job.specs.Records.{phaseAfter, controls, coordinates, edgeOf, bytesOf}
 use Rattle.job.specs.Job.{Job, withEdge, enter, contourRecords, outlineRecords, recordsOf, recordBytes, doubles}
 use Rattle.job.proofs.progress.ReadyLaws.{Ready}
 
@@ -62,7 +64,8 @@ outline-contour : (job : Job) → outlineRecords (job .header) (job .contours ++
 unfolding outlineRecords
 outline-contour job = rw (contours-more (job .contours))
 
-outline-edge : (job : Job) (e : EdgeSegment) → 0 < length (job .contours) → outlineRecords (job .header) (withEdge (job .contours) e) ≡ outlineRecords (job .header) (job .contours) ++ (edge e ∷ [])
+outline-edge : (job : Job) (e : EdgeSegment) → 0 < length (job .contours)
+    → outlineRecords (job .header) (withEdge (job .contours) e) ≡ outlineRecords (job .header) (job .contours) ++ (edge e ∷ [])
 unfolding outlineRecords
 outline-edge job e h = rw (contours-edge (job .contours) e h)
 
@@ -90,7 +93,8 @@ so-far-next job Outside by (distances ds) may ready none = refl
 so-far-next job Inside by (distances ds) may ready none = refl
 so-far-next job Closing by (distances ds) may ready none = cc
 
-pub so-far-end : (job : Job) (phase : Phase) → allowed phase (job .header .strategy) End ≡ true → (closing phase ≡ true → byDistance (job .header .strategy) ≡ true) → soFar phase job ≡ recordsOf job
+pub so-far-end : (job : Job) (phase : Phase) → allowed phase (job .header .strategy) End ≡ true
+    → (closing phase ≡ true → byDistance (job .header .strategy) ≡ true) → soFar phase job ≡ recordsOf job
 unfolding recordsOf
 so-far-end job Start may asked = cc
 so-far-end job Outside may asked = rw (not-true (byDistance (job .header .strategy)) may) (sym (append-nil (outlineRecords (job .header) (job .contours))))
@@ -99,14 +103,16 @@ so-far-end job Closing may asked = rw (asked refl)
 
 -- the strategy asks for distances where they were read
 pub asked-next : (job : Job) (phase : Phase) (by : Strategy) (r : Record) → by ≡ job .header .strategy → allowed phase by (recordMark r) ≡ true
-    → (closing phase ≡ true → byDistance (job .header .strategy) ≡ true) → closing (phaseAfter phase (itemOf r)) ≡ true → byDistance (enter job r .header .strategy) ≡ true
+    → (closing phase ≡ true → byDistance (job .header .strategy) ≡ true) → closing (phaseAfter phase (itemOf r)) ≡ true
+    → byDistance (enter job r .header .strategy) ≡ true
 unfolding enter
 asked-next job phase by (header h) e may asked c = cc
 asked-next job phase by contour e may asked c = cc
 asked-next job phase by (edge x) e may asked c = asked c
 asked-next job phase by (distances ds) e may asked c = rw (← e) (and-right (among phase) (byDistance by) may)
 
-pub nothing-next : (phase : Phase) (by : Strategy) (r : Record) (contours : List (List EdgeSegment)) → allowed phase by (recordMark r) ≡ true → atStart (phaseAfter phase (itemOf r)) ≡ true → contours ≡ []
+pub nothing-next : (phase : Phase) (by : Strategy) (r : Record) (contours : List (List EdgeSegment)) → allowed phase by (recordMark r) ≡ true
+    → atStart (phaseAfter phase (itemOf r)) ≡ true → contours ≡ []
 nothing-next phase by (header h) contours may s = cc
 nothing-next phase by contour contours may s = cc
 nothing-next Start by (edge e) contours may s = cc

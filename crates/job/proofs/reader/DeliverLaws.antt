@@ -40,7 +40,8 @@ unfolding readInto
 delivers-refused reading old refusal e = rw e (record { answers = refl; holds = untouched old })
 
 module _ (reading : Reading) (n : Numbers) (a : As-job reading n) (old : Buffers) where
-  pub delivers-short : hasRoom n old ≡ false → Delivers (readInto reading old) (read.Refused ResultTooShort) (old .lengths) (old .kinds) (old .points) (old .distances)
+  pub delivers-short : hasRoom n old ≡ false → Delivers (readInto reading old) (read.Refused ResultTooShort) (old .lengths) (old .kinds) (old .points)
+      (old .distances)
   unfolding readInto
   delivers-short h =
       let short : hasRoom (numbersOf (a .job)) old ≡ false = rw (a .numbers) at h in
@@ -54,4 +55,7 @@ module _ (reading : Reading) (n : Numbers) (a : As-job reading n) (old : Buffers
   unfolding readInto
   delivers-job lengths kinds points distances h holds =
       let room : hasRoom (numbersOf (a .job)) old ≡ true = rw (a .numbers) at h in
-      rw (a .is-read, room) (record { answers = ap read.Job (a .numbers); holds = subst (λ (r : Reading). Hold (filled r old) lengths kinds points distances) (a .is-read) holds })
+      rw (a .is-read, room) (record {
+        answers = ap read.Job (a .numbers);
+        holds = subst (λ (r : Reading). Hold (filled r old) lengths kinds points distances) (a .is-read) holds;
+      })

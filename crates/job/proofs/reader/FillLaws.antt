@@ -17,7 +17,8 @@ use Rattle.job.specs.declared.records.State.{State}
 use Rattle.job.specs.declared.records.Item.{Item}
 use Rattle.job.specs.declared.progress.Progress.{Progress}
 use Rattle.job.specs.Patterns.{words, floats}
-use Rattle.job.specs.Records.{Record, header, contour, edge, distances, Step, next, ends, fails, controls, kindOf, edgeOf, itemOf, closing, recordMark, recordSize, readRecord, after, Records, complete, fault, _then_, recordsFrom}
+use Rattle.job.specs.Records.{Record, header, contour, edge, distances, Step, next, ends, fails, controls, kindOf, edgeOf, itemOf, closing}
+use Rattle.job.specs.Records.{recordMark, recordSize, readRecord, after, Records, complete, fault, _then_, recordsFrom}
 use Rattle.job.specs.Job.{Job, withEdge, enter, Reading, reads, refuses, jobFrom, readJob}
 use Rattle.job.specs.Progress.{edgeCount, numbersOf, begin, advanced}
 use Rattle.job.specs.Reader.{Fits, filled}
@@ -25,7 +26,9 @@ use Rattle.job.specs.Buffers.{Buffers, buffers, kindsOf, placesOf, kindN
 use Rattle.job.proofs.records.RecordLaws.{Allowed, size-is}
 use Rattle.job.proofs.records.ReadingLaws.{Taken, taken, Read-as, records-end, records-fault}
 use Rattle.job.proofs.progress.ReadyLaws.{Ready}
-use Rattle.job.proofs.progress.ProgressLaws.{Reached, reached-begin, begin-job, reached-next, next-job, reached-end, reached-fault, with-edge-length, with-edge-concat, more-concat, not-closing, record-taken, is-ready, contours-are, edges-are, ahead}
+use Rattle.job.proofs.progress.ProgressLaws.{Reached, reached-begin, begin-job, reached-next, next-job, reached-end, reached-fault}
+use Rattle.job.proofs.progress.ProgressLaws.{with-edge-length, with-edge-concat, more-concat, not-closing, record-taken, is-ready}
+use Rattle.job.proofs.progress.ProgressLaws.{contours-are, edges-are, ahead}
 use Rattle.job.proofs.buffers.BufferLaws.{over-more, over-length, over-set, over-getD, over-part}
 use Rattle.job.proofs.buffers.StoredLaws.{map-snoc, lengths-edge, last-few, kind-number, kinds-edge, places-edge, kinds-length}
 
@@ -85,7 +88,8 @@ pub record Roomy (contours edges distances : ℕ) (old : Buffers) : Type 0 where
   pub places-fit : 8 * edges ≤ length (old .points)
   pub distances-fit : distances ≤ length (old .distances)
 
-roomy : (job : Job) (old : Buffers) → hasRoom (numbersOf job) old ≡ true → Roomy (length (job .contours)) (edgeCount (job .contours)) (length (job .distances)) old
+roomy : (job : Job) (old : Buffers) → hasRoom (numbersOf job) old ≡ true
+    → Roomy (length (job .contours)) (edgeCount (job .contours)) (length (job .distances)) old
 unfolding roomFor
 roomy job old h =
     let l = leb (length (job .contours)) (length (old .lengths)) in
@@ -102,7 +106,8 @@ roomy job old h =
       distances-fit = leb-true _ _ (a .1);
     }
 
-fitting : (job : Job) (old : Buffers) (contours edges : ℕ) → length (job .contours) ≤ contours → edgeCount (job .contours) ≤ edges → Roomy contours edges (length (job .distances)) old → Fitting (stored job) old
+fitting : (job : Job) (old : Buffers) (contours edges : ℕ) → length (job .contours) ≤ contours → edgeCount (job .contours) ≤ edges
+    → Roomy contours edges (length (job .distances)) old → Fitting (stored job) old
 unfolding stored
 fitting job old contours edges h k room = record {
   lengths-fit = omega (arith, length-map (job .contours) (λ (c : List EdgeSegment). length c), room .contours-fit);
@@ -115,7 +120,8 @@ fitting job old contours edges h k room = record {
 
 same : {l l' k k' : List ℕ} {p p' d d' : List Float} → l ≡ l' → k ≡ k' → p ≡ p' → d ≡ d' → buffers l k p d ≡ buffers l' k' p' d'
 same {l' = l'} {k = k} {k' = k'} {p = p} {p' = p'} {d = d} a b c e =
-    ap (λ (x : List ℕ). buffers x k p d) a ∙ ap (λ (x : List ℕ). buffers l' x p d) b ∙ ap (λ (x : List Float). buffers l' k' x d) c ∙ ap (λ (x : List Float). buffers l' k' p' x) e
+    ap (λ (x : List ℕ). buffers x k p d) a ∙ ap (λ (x : List ℕ). buffers l' x p d) b ∙ ap (λ (x : List Float). buffers l' k' x d) c
+    ∙ ap (λ (x : List Float). buffers l' k' p' x) e
 
 module _ (job : Job) (old : Buffers) (s : State) (bytes : List ℕ)
     (contours-at : s .numbers .contours ≡ length (job .contours)) (edges-at : s .numbers .edges ≡ edgeCount (job .contours)) where
@@ -128,7 +134,8 @@ module _ (job : Job) (old : Buffers) (s : State) (bytes : List ℕ)
   count : length (sizes contours) ≡ length contours
   count = length-map contours (λ (c : List EdgeSegment). length c)
 
-  written-contour : Fitting (stored (enter job contour)) old → written (itemOf contour) (s .numbers) bytes (overEach (stored job) old) ≡ overEach (stored (enter job contour)) old
+  written-contour : Fitting (stored (enter job contour)) old → written (itemOf contour) (s .numbers) bytes (overEach (stored job) old) ≡ overEach
+      (stored (enter job contour)) old
   unfolding written overEach stored enter
   written-contour fit =
       let more : sizes (contours ++ ([] ∷ [])) ≡ sizes contours ++ (0 ∷ []) = map-snoc (λ (c : List EdgeSegment). length c) contours [] in
@@ -149,18 +156,23 @@ module _ (job : Job) (old : Buffers) (s : State) (bytes : List ℕ)
       let all : flatten (withEdge contours e) ≡ edges ++ (e ∷ []) = with-edge-concat contours e opened in
       let last : s .numbers .contours - 1 ≡ length contours - 1 = omega arith in
       let inside : length contours - 1 < length (sizes contours) = omega (arith, count) in
-      let fewer : length (sizes contours) ≤ length (old .lengths) = omega (arith, count, fit .lengths-fit, length-map (withEdge contours e) (λ (c : List EdgeSegment). length c), with-edge-length contours e) in
+      let fewer : length (sizes contours) ≤ length (old .lengths) = omega
+      (arith, count, fit .lengths-fit, length-map (withEdge contours e) (λ (c : List EdgeSegment). length c), with-edge-length contours e) in
       let at : s .numbers .edges ≡ length (kindsOf edges) = edges-at ∙ sym (kinds-length edges) in
       let kinds : kindsOf (flatten (withEdge contours e)) ≡ kindsOf edges ++ (kindNumber (kindOf e) ∷ []) = ap kindsOf all ∙ kinds-edge edges e ∙ ap (λ (n : ℕ). kindsOf edges ++ (n ∷ [])) (kind-number e) in
       let points : placesOf (flatten (withEdge contours e)) ≡ placesOf edges ++ toStored e .points = ap placesOf all ∙ places-edge edges e in
       same
-      (rw (last, over-getD (sizes contours) (old .lengths) (length contours - 1) 0 inside) (over-set (sizes contours) (old .lengths) (length contours - 1) _ inside fewer)
+      (rw (last, over-getD (sizes contours) (old .lengths) (length contours - 1) 0 inside)
+      (over-set (sizes contours) (old .lengths) (length contours - 1) _ inside fewer)
       ∙ ap (λ (x : List ℕ). over x (old .lengths)) (sym (lengths-edge contours e opened)))
       (ap (λ (n : ℕ). set (over (kindsOf edges) (old .kinds)) n (kindNumber (kindOf e))) at
-      ∙ over-more (kindsOf edges) (old .kinds) (kindNumber (kindOf e)) (omega (arith, fit .kinds-fit, ap length kinds, length-append (kindsOf edges) (kindNumber (kindOf e) ∷ [])))
+      ∙ over-more (kindsOf edges) (old .kinds) (kindNumber (kindOf e))
+      (omega (arith, fit .kinds-fit, ap length kinds, length-append (kindsOf edges) (kindNumber (kindOf e) ∷ [])))
       ∙ ap (λ (x : List ℕ). over x (old .kinds)) (sym kinds))
-      (ap (λ (x : EdgeSegment). take (8 * s .numbers .edges) (over (placesOf edges) (old .points)) ++ (toStored x .points ++ drop 8 (drop (8 * s .numbers .edges) (over (placesOf edges) (old .points))))) (sym held)
-      ∙ over-part (placesOf edges) (toStored e .points) (old .points) (8 * s .numbers .edges) 8 (omega (arith, edges-at, points-length edges)) (sym (places-length e))
+      (ap (λ (x : EdgeSegment). take (8 * s .numbers .edges) (over (placesOf edges) (old .points))
+      ++ (toStored x .points ++ drop 8 (drop (8 * s .numbers .edges) (over (placesOf edges) (old .points))))) (sym held)
+      ∙ over-part (placesOf edges) (toStored e .points) (old .points) (8 * s .numbers .edges) 8 (omega (arith, edges-at, points-length edges))
+      (sym (places-length e))
       ∙ ap (λ (x : List Float). over x (old .points)) (sym points))
       refl
 
@@ -169,7 +181,8 @@ module _ (job : Job) (old : Buffers) (s : State) (bytes : List ℕ)
   unfolding written overEach stored enter over
   written-distances ds none held = same refl refl refl (rw none (ap (λ (x : List Float). x ++ drop (length x) (old .distances)) (sym held)))
 
-  written-next : (r : Record) (rest : List ℕ) → Taken s bytes r rest → Ready job r → (closing (s .phase) ≡ false → job .distances ≡ []) → Fitting (stored (enter job r)) old
+  written-next : (r : Record) (rest : List ℕ) → Taken s bytes r rest → Ready job r → (closing (s .phase) ≡ false → job .distances ≡ [])
+      → Fitting (stored (enter job r)) old
       → written (itemOf r) (s .numbers) bytes (overEach (stored job) old) ≡ overEach (stored (enter job r)) old
   written-next (header h) rest t ready none fit = unfold written overEach stored enter in refl
   written-next contour rest t ready none fit = written-contour fit
@@ -180,10 +193,12 @@ module _ (job : Job) (old : Buffers) (s : State) (bytes : List ℕ)
   room-contour : Fitting (stored (enter job contour)) old → Room (itemOf contour) (s .numbers) bytes (overEach (stored job) old)
   unfolding overEach stored enter
   room-contour fit =
-      let more : length (sizes (contours ++ ([] ∷ []))) ≡ length contours + 1 = length-map (contours ++ ([] ∷ [])) (λ (c : List EdgeSegment). length c) ∙ length-append contours ([] ∷ []) in
+      let more : length (sizes (contours ++ ([] ∷ []))) ≡ length contours + 1 = length-map (contours ++ ([] ∷ [])) (λ (c : List EdgeSegment). length c)
+      ∙ length-append contours ([] ∷ []) in
       rw (over-length (sizes contours) (old .lengths) (omega (arith, count, more, fit .lengths-fit))) (omega (arith, more, fit .lengths-fit))
 
-  room-edge : (e : EdgeSegment) → 0 < length contours → edgeCount contours ≤ 256 → 2 + 16 * controls (kindOf e) ≤ length bytes → Fitting (stored (enter job (edge e))) old
+  room-edge : (e : EdgeSegment) → 0 < length contours → edgeCount contours ≤ 256 → 2 + 16 * controls (kindOf e) ≤ length bytes
+      → Fitting (stored (enter job (edge e))) old
       → Room (itemOf (edge e)) (s .numbers) bytes (overEach (stored job) old)
   unfolding overEach stored enter
   room-edge e opened few whole fit =
@@ -205,15 +220,18 @@ module _ (job : Job) (old : Buffers) (s : State) (bytes : List ℕ)
   unfolding overEach stored enter over
   room-distances ds none whole fit = (rw none (fit .distances-fit), whole)
 
-  room-next : (r : Record) (rest : List ℕ) → Taken s bytes r rest → Ready job r → (closing (s .phase) ≡ false → job .distances ≡ []) → edgeCount contours ≤ 256 → Fitting (stored (enter job r)) old
+  room-next : (r : Record) (rest : List ℕ) → Taken s bytes r rest → Ready job r → (closing (s .phase) ≡ false → job .distances ≡ [])
+      → edgeCount contours ≤ 256 → Fitting (stored (enter job r)) old
       → Room (itemOf r) (s .numbers) bytes (overEach (stored job) old)
   room-next (header h) rest t ready none few fit = tt
   room-next contour rest t ready none few fit = room-contour fit
   room-next (edge e) rest t ready none few fit = room-edge e ready few (omega (arith, t .whole, size-is (edge e))) fit
-  room-next (distances ds) rest t ready none few fit = room-distances ds (none (not-closing s (distances ds) (t .may))) (omega (arith, t .whole, size-is (distances ds))) fit
+  room-next (distances ds) rest t ready none few fit = room-distances ds (none (not-closing s (distances ds) (t .may)))
+      (omega (arith, t .whole, size-is (distances ds))) fit
 
 -- the distances of the job so far are those of the whole, or none
-distances-so-far : (job whole : Job) (s : State) (bytes rest : List ℕ) (r : Record) → Allowed s (recordMark r) → (closing (s .phase) ≡ false → job .distances ≡ [])
+distances-so-far : (job whole : Job) (s : State) (bytes rest : List ℕ) (r : Record) → Allowed s (recordMark r)
+    → (closing (s .phase) ≡ false → job .distances ≡ [])
     → jobFrom (enter job r) (recordsFrom (after s (itemOf r)) rest) ≡ reads whole → length (enter job r .distances) ≤ length (whole .distances)
 unfolding enter
 distances-so-far job whole s bytes rest (header h) may none e = omega (arith, ap length (none (not-closing s (header h) may)))
@@ -239,7 +257,12 @@ module _ (file : List ℕ) (p : Progress) (at : Reached file p) (r : Record) (re
         contours-fit = space .contours-fit;
         edges-fit = space .edges-fit;
         places-fit = space .places-fit;
-        distances-fit = omega (arith, space .distances-fit, distances-so-far (at .job) whole (p .state) file (drop (p .at + recordSize r) file) r (t .may) (at .none-yet) still);
+        distances-fit = omega (
+          arith,
+          space .distances-fit,
+          distances-so-far (at .job) whole (p .state) file (drop (p .at + recordSize r) file) r (t .may)
+              (at .none-yet) still,
+        );
       })
 
   room-here : Room (itemOf r) (p .state .numbers) (drop (p .at) file) (overEach (stored (at .job)) old)
@@ -273,7 +296,8 @@ filling-begin file old = record {
   distances-kept = refl;
 }
 
-held-as : (b : Buffers) {lengths kinds : List ℕ} {points distances : List Float} → Hold b lengths kinds points distances → buffers lengths kinds points distances ≡ b
+held-as : (b : Buffers) {lengths kinds : List ℕ} {points distances : List Float} → Hold b lengths kinds points distances
+    → buffers lengths kinds points distances ≡ b
 held-as b h = same (h .lengths-are) (h .kinds-are) (h .points-are) (h .distances-are)
 
 record Whole (reading : Reading) (old : Buffers) : Type 0 where
@@ -299,7 +323,8 @@ module _ (file : List ℕ) (old : Buffers) (fits : Fits (readJob file) old) (p :
         rw (held-as (overEach (stored (filling .at .job)) old) (filling .holds), ← read .is-item)
         (room-here file p (filling .at) (read .r) (read .rest) (read .is-next) old (whole .job) (whole .is) (whole .room))
 
-    pub filling-next : (lengths' kinds' : List ℕ) (points' ds' : List Float) → Hold (written item (p .state .numbers) (drop (p .at) file) before) lengths' kinds' points' ds'
+    pub filling-next : (lengths' kinds' : List ℕ) (points' ds' : List Float)
+        → Hold (written item (p .state .numbers) (drop (p .at) file) before) lengths' kinds' points' ds'
         → length lengths' ≡ length lengths → length kinds' ≡ length kinds → length points' ≡ length points → length ds' ≡ length ds
         → Filling file old (advanced p item size) lengths' kinds' points' ds'
     filling-next lengths' kinds' points' ds' h l k q d =

@@ -18,7 +18,8 @@ use Rattle.job.specs.declared.records.Kind.the-variants.{Line, Quadratic
 use Rattle.job.specs.declared.records.Mark.{Mark}
 use Rattle.job.specs.declared.records.Marked.the-variants.{Known}
 use Rattle.job.specs.Patterns.{number, little, words, floats, floatBytes, isCoordinate, isDistance}
-use Rattle.job.specs.Records.{Record, header, contour, edge, distances, letters, markAmong, marks, markOf, marked, strategyNumber, strategyOf, knownStrategy, controls, coordinates, edgeOf, recordMark, fieldsOf, bytesOf}
+use Rattle.job.specs.Records.{Record, header, contour, edge, distances, letters, markAmong, marks, markOf, marked, strategyNumber, strategyOf}
+use Rattle.job.specs.Records.{knownStrategy, controls, coordinates, edgeOf, recordMark, fieldsOf, bytesOf}
 use Rattle.job.proofs.patterns.PatternLaws.{AreBytes, number-below, floats-length}
 use Rattle.job.proofs.patterns.ByteLaws.{are-taken, are-dropped, little-taken, coordinates-back, distances-back}
 
@@ -85,7 +86,8 @@ module _ (bytes : List ℕ) (are : AreBytes bytes) where
 
   word-below : (n : ℕ) → n + 8 ≤ length bytes → 17 ≤ length bytes → n + 8 ≤ 17 → number (take 8 (drop n headerBody)) < 2 ^ 64
   word-below n k whole few =
-      let long : length (take 8 (drop n headerBody)) ≡ 8 = length-take-le 8 (drop n headerBody) (rw length-drop (omega (arith, length-take-le 17 bytes whole))) in
+      let long : length (take 8 (drop n headerBody)) ≡ 8 = length-take-le 8 (drop n headerBody)
+      (rw length-drop (omega (arith, length-take-le 17 bytes whole))) in
       rw long at (number-below (take 8 (drop n headerBody)) (are-taken 8 (drop n headerBody) (are-dropped n headerBody (are-taken 17 bytes are))))
 
   pub header-below : 17 ≤ length bytes → (headerIn .seed < 2 ^ 64) × (headerIn .threshold < 2 ^ 64)
@@ -99,15 +101,18 @@ module _ (bytes : List ℕ) (are : AreBytes bytes) where
       let seed = little-taken 8 (drop 1 body) (are-dropped 1 body ok) (rw length-drop (omega arith)) in
       let threshold = little-taken 8 (drop 9 body) (are-dropped 9 body ok) (rw length-drop (omega arith)) in
       let last : take 8 (drop 9 body) ≡ drop 9 body = take-all 8 (drop 9 body) (rw length-drop (omega arith)) in
-      let split : take 8 (drop 1 body) ++ drop 9 body ≡ drop 1 body = ap (λ (x : List ℕ). take 8 (drop 1 body) ++ x) (sym (drop-drop 8 1 body)) ∙ take-append-drop 8 (drop 1 body) in
+      let split : take 8 (drop 1 body) ++ drop 9 body ≡ drop 1 body = ap (λ (x : List ℕ). take 8 (drop 1 body) ++ x) (sym (drop-drop 8 1 body))
+      ∙ take-append-drop 8 (drop 1 body) in
       let all : getD body 0 0 ∷ drop 1 body ≡ body = sym (drop-cons body 0 0 (omega arith)) in
-      rw (header-fields, strategy-back (getD body 0 0) known, seed, threshold, last, split) (ap (λ (x : List ℕ). x ++ drop 17 bytes) all ∙ take-append-drop 17 bytes)
+      rw (header-fields, strategy-back (getD body 0 0) known, seed, threshold, last, split)
+      (ap (λ (x : List ℕ). x ++ drop 17 bytes) all ∙ take-append-drop 17 bytes)
 
   pub contour-bytes : fieldsOf contour ++ bytes ≡ bytes
   unfolding fieldsOf
   contour-bytes = refl
 
-  floats-fields : (n : ℕ) → 8 * n ≤ length bytes → all isCoordinate (words n (take (8 * n) bytes)) ≡ true → floatBytes (floats (words n (take (8 * n) bytes))) ++ drop (8 * n) bytes ≡ bytes
+  floats-fields : (n : ℕ) → 8 * n ≤ length bytes → all isCoordinate (words n (take (8 * n) bytes)) ≡ true
+      → floatBytes (floats (words n (take (8 * n) bytes))) ++ drop (8 * n) bytes ≡ bytes
   floats-fields n whole within =
       let body = take (8 * n) bytes in
       let long : length body ≡ 8 * n = length-take-le (8 * n) bytes whole in
@@ -120,10 +125,18 @@ module _ (bytes : List ℕ) (are : AreBytes bytes) where
   edge-bytes Quadratic whole within = floats-fields 6 whole within
   edge-bytes Cubic whole within = floats-fields 8 whole within
 
-  pub distances-bytes : let count = number (take 2 bytes) in 2 ≤ length bytes → 8 * count ≤ length (drop 2 bytes) → all isDistance (words count (drop 2 bytes)) ≡ true
+  pub distances-bytes : let count = number (take 2 bytes) in 2 ≤ length bytes → 8 * count ≤ length (drop 2 bytes)
+      → all isDistance (words count (drop 2 bytes)) ≡ true
       → fieldsOf (distances (floats (words count (drop 2 bytes)))) ++ drop (8 * count) (drop 2 bytes) ≡ bytes
   distances-bytes two whole within =
       let count = number (take 2 bytes) in
       let rest = drop 2 bytes in
-      rw (distances-fields, floats-length count rest, little-taken 2 bytes are two, distances-back count rest (are-dropped 2 bytes are) whole within, append-assoc, take-append-drop (8 * count) rest)
+      rw (
+        distances-fields,
+        floats-length count rest,
+        little-taken 2 bytes are two,
+        distances-back count rest (are-dropped 2 bytes are) whole within,
+        append-assoc,
+        take-append-drop (8 * count) rest,
+      )
       (take-append-drop 2 bytes)

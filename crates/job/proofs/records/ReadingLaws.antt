@@ -30,12 +30,15 @@ use Rattle.job.specs.declared.records.State.{State}
 use Rattle.job.specs.declared.records.Item.{Item}
 use Rattle.job.specs.declared.records.Found.the-variants as found
 use Rattle.job.specs.Patterns.{number, words, floats, isThreshold, isCoordinate, isDistance}
-use Rattle.job.specs.Records.{strategyOf, recordMark, marked, bytesOf, Record, header, contour, edge, distances, Step, next, ends, fails, require, knownStrategy, controls, bodySize, allowed, fits, kindOf, edgeOf, recordSize, itemOf, foundOf, markOf, readHeader, readEdge, readDistances, readEnd, readBody, readMarked, readRecord, after, Records, complete, fault, _then_, recordsWithin, recordsFrom}
+use Rattle.job.specs.Records.{strategyOf, recordMark, marked, bytesOf, Record, header, contour, edge, distances, Step, next, ends, fails}
+use Rattle.job.specs.Records.{require, knownStrategy, controls, bodySize, allowed, fits, kindOf, edgeOf, recordSize, itemOf, foundOf, markOf}
+use Rattle.job.specs.Records.{readHeader, readEdge, readDistances, readEnd, readBody, readMarked, readRecord, after, Records, complete, fault}
+use Rattle.job.specs.Records.{_then_, recordsWithin, recordsFrom}
 use Rattle.job.specs.Job.{thresholdOf}
 use Rattle.job.proofs.patterns.PatternLaws.{AreBytes, floats-length}
 use Rattle.job.proofs.patterns.PatternMeaning.{threshold-means, coordinate-means, distance-below, distance-means}
 use Rattle.job.proofs.records.BytesLaws.{Lettered, letters-of, marked-bytes, header-below, header-bytes, contour-bytes, edge-bytes, distances-bytes}
-use Rattle.job.proofs.records.RecordLaws.{Allowed, size-is, size-some}
+use Rattle.job.proofs.records.RecordLaws.{Allowed, kind-of-edge, size-is, size-some}
 
 -- ---- a record that was read
 
@@ -72,7 +75,8 @@ OfStep s bytes ends = (bytes ≡ marked End []) × Allowed s End
 OfStep s bytes (fails refusal) = Unit
 
 -- a test passes, or there is nothing to show
-required : (s : State) (bytes : List ℕ) (b : Bool) (refusal : Refusal) (step : Step) → (b ≡ true → OfStep s bytes step) → OfStep s bytes (require b refusal step)
+required : (s : State) (bytes : List ℕ) (b : Bool) (refusal : Refusal) (step : Step) → (b ≡ true → OfStep s bytes step)
+    → OfStep s bytes (require b refusal step)
 required s bytes true refusal step f = f refl
 required s bytes false refusal step f = tt
 
@@ -97,7 +101,8 @@ distances-fit (b ∷ ps) h =
     let valid : validDistance (ofBits binary64 b) ≡ true = sym (distance-means b (distance-below b here)) ∙ here in
     rw valid (distances-fit ps (and-right (isDistance b) (all isDistance ps) h))
 
-edge-fits : (kind : Kind) (body : List ℕ) → all isCoordinate (words (2 * controls kind) body) ≡ true → edgeFits (edgeOf kind (floats (words (2 * controls kind) body))) ≡ true
+edge-fits : (kind : Kind) (body : List ℕ) → all isCoordinate (words (2 * controls kind) body) ≡ true
+    → edgeFits (edgeOf kind (floats (words (2 * controls kind) body))) ≡ true
 unfolding toStored words floats
 edge-fits Line body h = coordinates-fit (words 4 body) ∙ h
 edge-fits Quadratic body h = coordinates-fit (words 6 body) ∙ h
@@ -118,7 +123,8 @@ module _ (s : State) (a b : ℕ) (bytes : List ℕ) where
   after-letters : AreBytes all-bytes → AreBytes bytes
   after-letters h i = h (suc (suc i))
 
-  header-taken : Lettered a b Header → Allowed s Header → fits (s .numbers) Header ≡ true → 17 ≤ length bytes → OfStep s all-bytes (readHeader (take 17 bytes) (drop 17 bytes))
+  header-taken : Lettered a b Header → Allowed s Header → fits (s .numbers) Header ≡ true → 17 ≤ length bytes
+      → OfStep s all-bytes (readHeader (take 17 bytes) (drop 17 bytes))
   unfolding readHeader
   header-taken l may room whole =
       let body = take 17 bytes in
@@ -127,26 +133,35 @@ module _ (s : State) (a b : ℕ) (bytes : List ℕ) where
       let found = next (header h) (drop 17 bytes) in
       required s all-bytes (knownStrategy (getD body 0 0)) UnknownKind (require (isThreshold threshold) BadThreshold found)
       (λ known. required s all-bytes (isThreshold threshold) BadThreshold found
-      (λ within. record { may = may; room = room; whole = omega (arith, size-is (header h)); beyond = rw (size-is (header h)); held = λ are. header-below bytes (after-letters are) whole; is-bytes = λ are. marked-bytes a b bytes _ (header h) l (header-bytes bytes (after-letters are) whole known); in-range = threshold-fits h within }))
+      (λ within. record {
+        may = may;
+        room = room;
+        whole = omega (arith, size-is (header h));
+        beyond = rw (size-is (header h));
+        held = λ are. header-below bytes (after-letters are) whole;
+        is-bytes = λ are. marked-bytes a b bytes _ (header h) l (header-bytes bytes (after-letters are) whole known);
+        in-range = threshold-fits h within;
+      }))
 
   edge-taken : (kind : Kind) → Lettered a b (Edge kind) → Allowed s (Edge kind) → fits (s .numbers) (Edge kind) ≡ true → 16 * controls kind ≤ length bytes
       → OfStep s all-bytes (readEdge kind (take (16 * controls kind) bytes) (drop (16 * controls kind) bytes))
   unfolding readEdge
-  edge-taken Line l may room whole =
-      let ps = words 4 (take 32 bytes) in
-      let e = edgeOf Line (floats ps) in
-      required s all-bytes (all isCoordinate ps) BadCoordinate (next (edge e) (drop 32 bytes))
-      (λ within. record { may = may; room = room; whole = omega (arith, size-is (edge e)); beyond = rw (size-is (edge e)); held = refl; is-bytes = λ are. marked-bytes a b bytes _ (edge e) l (edge-bytes bytes (after-letters are) Line whole within); in-range = edge-fits Line (take 32 bytes) within })
-  edge-taken Quadratic l may room whole =
-      let ps = words 6 (take 48 bytes) in
-      let e = edgeOf Quadratic (floats ps) in
-      required s all-bytes (all isCoordinate ps) BadCoordinate (next (edge e) (drop 48 bytes))
-      (λ within. record { may = may; room = room; whole = omega (arith, size-is (edge e)); beyond = rw (size-is (edge e)); held = refl; is-bytes = λ are. marked-bytes a b bytes _ (edge e) l (edge-bytes bytes (after-letters are) Quadratic whole within); in-range = edge-fits Quadratic (take 48 bytes) within })
-  edge-taken Cubic l may room whole =
-      let ps = words 8 (take 64 bytes) in
-      let e = edgeOf Cubic (floats ps) in
-      required s all-bytes (all isCoordinate ps) BadCoordinate (next (edge e) (drop 64 bytes))
-      (λ within. record { may = may; room = room; whole = omega (arith, size-is (edge e)); beyond = rw (size-is (edge e)); held = refl; is-bytes = λ are. marked-bytes a b bytes _ (edge e) l (edge-bytes bytes (after-letters are) Cubic whole within); in-range = edge-fits Cubic (take 64 bytes) within })
+  edge-taken kind l may room whole =
+      let body = take (16 * controls kind) bytes in
+      let ps = words (2 * controls kind) body in
+      let e = edgeOf kind (floats ps) in
+      let same : kindOf e ≡ kind = kind-of-edge kind (floats ps) in
+      let takes : recordSize (edge e) ≡ 2 + 16 * controls kind = omega (arith, size-is (edge e), ap controls same) in
+      required s all-bytes (all isCoordinate ps) BadCoordinate (next (edge e) (drop (16 * controls kind) bytes))
+      (λ within. record {
+        may = may;
+        room = room;
+        whole = omega (arith, takes);
+        beyond = rw takes (drop-drop (16 * controls kind) 2 all-bytes);
+        held = rw same;
+        is-bytes = λ are. marked-bytes a b bytes _ (edge e) (rw same l) (edge-bytes bytes (after-letters are) kind whole within);
+        in-range = edge-fits kind body within;
+      })
 
   distances-taken : Lettered a b Distances → Allowed s Distances → 2 ≤ length bytes → OfStep s all-bytes (readDistances (take 2 bytes) (drop 2 bytes))
   unfolding readDistances
@@ -166,7 +181,8 @@ module _ (s : State) (a b : ℕ) (bytes : List ℕ) where
         whole = omega (arith, takes, leb-true (8 * count) (length rest) there, length-drop 2 bytes);
         beyond = rw takes (drop-drop (8 * count) 4 all-bytes);
         held = (omega (arith, size, leb-true count 2016 few), rw size);
-        is-bytes = λ are. marked-bytes a b bytes _ (distances (floats patterns)) l (distances-bytes bytes (after-letters are) whole (leb-true (8 * count) (length rest) there) within);
+        is-bytes = λ are. marked-bytes a b bytes _ (distances (floats patterns)) l
+            (distances-bytes bytes (after-letters are) whole (leb-true (8 * count) (length rest) there) within);
         in-range = distances-fit patterns within;
       })))
 
@@ -174,7 +190,15 @@ module _ (s : State) (a b : ℕ) (bytes : List ℕ) where
       → OfStep s all-bytes (readBody mark (take (bodySize mark) bytes) (drop (bodySize mark) bytes))
   unfolding readBody
   body-taken Header l may room whole = header-taken l may room whole
-  body-taken Contour l may room whole = record { may = may; room = room; whole = omega (arith, size-is contour); beyond = rw (size-is contour); held = tt; is-bytes = λ are. marked-bytes a b bytes bytes contour l (contour-bytes bytes (after-letters are)); in-range = tt }
+  body-taken Contour l may room whole = record {
+    may = may;
+    room = room;
+    whole = omega (arith, size-is contour);
+    beyond = rw (size-is contour);
+    held = tt;
+    is-bytes = λ are. marked-bytes a b bytes bytes contour l (contour-bytes bytes (after-letters are));
+    in-range = tt;
+  }
   body-taken (Edge kind) l may room whole = edge-taken kind l may room whole
   body-taken Distances l may room whole = distances-taken l may whole
   body-taken End l may room whole = end-taken s a b bytes l may
@@ -244,12 +268,14 @@ records-step s [] = refl
 records-step s (b ∷ bytes) = go (readRecord s (b ∷ bytes)) (of-step s (b ∷ bytes))
   where
     go : (step : Step) → OfStep s (b ∷ bytes) step
-        → elim step [ next r rest ↦ r then recordsWithin (length bytes) (after s (itemOf r)) rest | ends ↦ complete | fails refusal ↦ fault refusal ] ≡ proceed s step
+        → elim step [ next r rest ↦ r then recordsWithin (length bytes) (after s (itemOf r)) rest | ends ↦ complete | fails refusal ↦ fault refusal ]
+        ≡ proceed s step
     go (next r rest) t = ap (λ (x : Records). r then x) (enough (length bytes) (length rest) (after s (itemOf r)) rest (omega (arith, shorter t)) (omega arith))
     go ends t = refl
     go (fails refusal) t = refl
 
-pub records-next : (s : State) (bytes : List ℕ) (r : Record) (rest : List ℕ) → readRecord s bytes ≡ next r rest → recordsFrom s bytes ≡ r then recordsFrom (after s (itemOf r)) rest
+pub records-next : (s : State) (bytes : List ℕ) (r : Record) (rest : List ℕ) → readRecord s bytes ≡ next r rest
+    → recordsFrom s bytes ≡ r then recordsFrom (after s (itemOf r)) rest
 records-next s bytes r rest e = records-step s bytes ∙ ap (proceed s) e
 
 pub records-end : (s : State) (bytes : List ℕ) → readRecord s bytes ≡ ends → recordsFrom s bytes ≡ complete

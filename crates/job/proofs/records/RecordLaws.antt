@@ -21,7 +21,9 @@ use Rattle.job.specs.declared.records.Marked.the-variants.{Known}
 use borrow.Author.Tests.{le-leb}
 use Rattle.job.specs.declared.records.Item.the-variants as item
 use Rattle.job.specs.Patterns.{number, words, floats, isThreshold, isCoordinate, isDistance}
-use Rattle.job.specs.Records.{Record, header, contour, edge, distances, next, fails, require, knownStrategy, strategyOf, recordMark, coordinates, bytesOf, recordSize, controls, allowed, fits, bodySize, markOf, readBody, readMarked, readRecord, foundOf, readHeader, readEdge, readDistances, readEnd, kindOf, edgeOf}
+use Rattle.job.specs.Records.{Record, header, contour, edge, distances, next, fails, require, knownStrategy, strategyOf, recordMark}
+use Rattle.job.specs.Records.{coordinates, bytesOf, recordSize, controls, allowed, fits, bodySize, markOf, readBody, readMarked, readRecord}
+use Rattle.job.specs.Records.{foundOf, readHeader, readEdge, readDistances, readEnd, kindOf, edgeOf}
 use Rattle.job.proofs.patterns.PatternLaws.{floats-length, float-bytes-length}
 
 -- ---- what is found does not turn on the bytes after a record
@@ -136,7 +138,8 @@ no-letters s (a ∷ b ∷ bytes) h = absurd (omega arith)
 abbrev pub Allowed : State → Mark → Type 0
 Allowed s mark = allowed (s .phase) (s .numbers .header .strategy) mark ≡ true
 
-pub marked-body : (s : State) (mark : Mark) (bytes : List ℕ) (size : ℕ) → Allowed s mark → fits (s .numbers) mark ≡ true → size ≡ bodySize mark → size ≤ length bytes
+pub marked-body : (s : State) (mark : Mark) (bytes : List ℕ) (size : ℕ) → Allowed s mark → fits (s .numbers) mark ≡ true → size ≡ bodySize mark
+    → size ≤ length bytes
     → readMarked s (Known mark) bytes ≡ readBody mark (take size bytes) (drop size bytes)
 unfolding readMarked
 marked-body s mark bytes size may room e h =

@@ -79,7 +79,8 @@ returns : tie.Need-returns Inv-loop μ-loop
 returns c =
     let start = c .before .before .before .before in
     let all = floats (words (start .args .n) (start .args .bytes .now)) in
-    c .before .loop .inv .2 ∙ ap (λ (x : List Float). over x (start .args .to .now)) (take-all (c .before .loop .i) all (omega (arith, floats-length (start .args .n) (start .args .bytes .now))))
+    c .before .loop .inv .2 ∙ ap (λ (x : List Float). over x (start .args .to .now))
+    (take-all (c .before .loop .i) all (omega (arith, floats-length (start .args .n) (start .args .bytes .now))))
 
 pub write-floats-spec : {M : Type 1} → statement M
 write-floats-spec =

@@ -18,7 +18,8 @@ use Rattle.job.proofs.buffers.write_item.Tie as tie
 module _ (c : tie.Start) where
   room : (item : Item) → c .args .item ≡ item
       → Room item (c .args .n) (c .args .bytes .now) (buffers (c .args .lengths .now) (c .args .kinds .now) (c .args .points .now) (c .args .distances .now))
-  room item e = subst (λ (i : Item). Room i (c .args .n) (c .args .bytes .now) (buffers (c .args .lengths .now) (c .args .kinds .now) (c .args .points .now) (c .args .distances .now))) e (c .pre)
+  room item e = subst (λ (i : Item). Room i (c .args .n) (c .args .bytes .now)
+      (buffers (c .args .lengths .now) (c .args .kinds .now) (c .args .points .now) (c .args .distances .now))) e (c .pre)
 
 module _ (c : tie.After-item) where
   abbrev entry : tie.Start
@@ -27,7 +28,8 @@ module _ (c : tie.After-item) where
   abbrev kind : Kind
   kind = c .item .given .0 .0
 
-  edge-room : Room (Edge kind) (entry .args .n) (entry .args .bytes .now) (buffers (entry .args .lengths .now) (entry .args .kinds .now) (entry .args .points .now) (entry .args .distances .now))
+  edge-room : Room (Edge kind) (entry .args .n) (entry .args .bytes .now)
+      (buffers (entry .args .lengths .now) (entry .args .kinds .now) (entry .args .points .now) (entry .args .distances .now))
   edge-room = room entry (Edge kind) (c .item .given .1)
 
   -- the place of the last contour
@@ -45,7 +47,8 @@ module _ (c : tie.After-item2) where
   abbrev entry2 : tie.Start
   entry2 = c .before .before .before .before .before .before .before
 
-  distances-room : Room (Distances (c .item2 .given .0 .0)) (entry2 .args .n) (entry2 .args .bytes .now) (buffers (entry2 .args .lengths .now) (entry2 .args .kinds .now) (entry2 .args .points .now) (entry2 .args .distances .now))
+  distances-room : Room (Distances (c .item2 .given .0 .0)) (entry2 .args .n) (entry2 .args .bytes .now)
+      (buffers (entry2 .args .lengths .now) (entry2 .args .kinds .now) (entry2 .args .points .now) (entry2 .args .distances .now))
   distances-room = room entry2 (Distances (c .item2 .given .0 .0)) (c .item2 .given .1)
 
 enum-told : tie.Need-enum-told
@@ -143,7 +146,10 @@ part-write-floats-end : tie.Need-part-write-floats-end
 part-write-floats-end c = search needs
 
 write-floats-requires : tie.Need-write-floats-requires
-write-floats-requires c κs = (simp (length-take, length-drop) (omega (arith, distances-room (c .before .before .before))), omega (arith, distances-room (c .before .before .before)))
+write-floats-requires c κs = (
+  simp (length-take, length-drop) (omega (arith, distances-room (c .before .before .before))),
+  omega (arith, distances-room (c .before .before .before)),
+)
 
 returns : tie.Need-returns
 unfolding written

@@ -19,8 +19,11 @@ mul-write-floats c = search needs
 
 write-floats-requires : tie.Need-write-floats-requires
 write-floats-requires c κs =
-    let start = c .before .before .before .before .before .before .before .before in
-    (omega (arith, c .before .controls .ensures), rw (c .before .before .before .before .clear .ensures, length-replicate) (omega (arith, c .before .controls .ensures, controls-few (start .args .kind))))
+    let start = c .before .before .before .before .before .before .before .before in (
+      omega (arith, c .before .controls .ensures),
+      rw (c .before .before .before .before .clear .ensures, length-replicate)
+          (omega (arith, c .before .controls .ensures, controls-few (start .args .kind))),
+    )
 
 same-length : tie.Need-same-length
 same-length c = search needs
@@ -29,7 +32,8 @@ returns : tie.Need-returns
 returns c =
     let clear = c .before .before .before .before .before .before .before in
     let start = c .before .before .before .before .before .before .before .before .before .before .before in
-    c .before .before .write-floats .ensures ∙ rw (c .before .before .before .before .controls .ensures, clear .clear .ensures, start .pre .1) (places-from (start .args .kind) (start .args .body .now))
+    c .before .before .write-floats .ensures ∙ rw (c .before .before .before .before .controls .ensures, clear .clear .ensures, start .pre .1)
+    (places-from (start .args .kind) (start .args .body .now))
 
 pub write-points-spec : {M : Type 1} → statement M
 write-points-spec =

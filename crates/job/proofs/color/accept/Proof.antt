@@ -36,7 +36,8 @@ by-distance-requires c κs = search needs
 
 returns : tie.Need-returns
 unfolding acceptJob
-returns c = accept-plain (readJob (file (scanned (c .before)))) _ (told (read-at (c .before))) (sym (c .before .by-distance .ensures) ∙ not-true (c .before .by-distance .result) (c .if1 .taken))
+returns c = accept-plain (readJob (file (scanned (c .before)))) _ (told (read-at (c .before)))
+    (sym (c .before .by-distance .ensures) ∙ not-true (c .before .by-distance .result) (c .if1 .taken))
 
 check-requires : tie.Need-check-requires
 check-requires c κs = search needs
@@ -54,7 +55,8 @@ returns-2 : tie.Need-returns-2
 unfolding acceptJob checkFile
 returns-2 c =
     let checked = c .before .before in
-    accept-edges (readJob (file (scanned (checked .before .before)))) _ _ (told (read-at (checked .before .before))) (sym (c .enum-told .given .1) ∙ checked .check .ensures)
+    accept-edges (readJob (file (scanned (checked .before .before)))) _ _ (told (read-at (checked .before .before)))
+    (sym (c .enum-told .given .1) ∙ checked .check .ensures)
 
 returns-3 : tie.Need-returns-3
 unfolding acceptJob checkFile

@@ -1,4 +1,5 @@
--- `job::color::check` meets its contract: by distance the splines are counted, else the colouring answers. Its own buffers hold every job and result.
+-- `job::color::check` meets its contract: by distance the splines are counted, else the colouring answers. Its own
+-- buffers hold every job and result.
 use mathlib.Core.Path.{_≡_, refl, sym, ap, _∙_}
 use mathlib.Core.Bool.{true}
 use native.Mathlib.Omega.{arith}

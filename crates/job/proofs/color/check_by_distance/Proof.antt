@@ -37,7 +37,8 @@ module _ (c : tie.After-slice-known12) where
   abbrev start : tie.Start
   start = began (wrote .before)
 
-  holding : Holding (file start) (start .args .n) (old start) (wrote .fill .last .1 .0) (wrote .fill .last .1 .1 .0) (wrote .fill .last .1 .1 .1 .0) (wrote .fill .last .1 .1 .1 .1 .0)
+  holding : Holding (file start) (start .args .n) (old start) (wrote .fill .last .1 .0) (wrote .fill .last .1 .1 .0) (wrote .fill .last .1 .1 .1 .0)
+      (wrote .fill .last .1 .1 .1 .1 .0)
   holding = holding-of _ _ _ (start .pre .0 .told) _ _ _ _ (wrote .fill .ensures)
 
 abbrev stored-at : tie.After-float → tie.After-slice-known12

@@ -9,7 +9,8 @@ use Rattle.job.specs.declared.progress.Read.the-variants as read
 use Rattle.job.specs.Job.{readJob}
 use Rattle.job.specs.Progress.{answerOf}
 use Rattle.job.specs.Buffers.{Buffers, buffers}
-use Rattle.job.proofs.color.ColorLaws.{Holding, fits-jobs, holding-of, color-refused, held-colored, edges-most, contours-within, kinds-within, places-within, distances-within}
+use Rattle.job.proofs.color.ColorLaws.{Holding, fits-jobs, holding-of, color-refused, held-colored, edges-most, contours-within, kinds-within}
+use Rattle.job.proofs.color.ColorLaws.{places-within, distances-within}
 use borrow.Author.Needs.{needs}
 use Rattle.job.proofs.color.color_in.Statement.{statement}
 use Rattle.job.proofs.color.color_in.Tie as tie
@@ -49,7 +50,8 @@ module _ (c : tie.After-slice-known12) where
   abbrev start : tie.Start
   start = begun chosen
 
-  holding : Holding (file start) (chosen .n .given .0 .0) (old start) (wrote .fill .last .1 .0) (wrote .fill .last .1 .1 .0) (wrote .fill .last .1 .1 .1 .0) (wrote .fill .last .1 .1 .1 .1 .0)
+  holding : Holding (file start) (chosen .n .given .0 .0) (old start) (wrote .fill .last .1 .0) (wrote .fill .last .1 .1 .0) (wrote .fill .last .1 .1 .1 .0)
+      (wrote .fill .last .1 .1 .1 .1 .0)
   holding = holding-of _ _ _ (told chosen) _ _ _ _ (wrote .fill .ensures)
 
 abbrev stored-at : tie.After-float → tie.After-slice-known12

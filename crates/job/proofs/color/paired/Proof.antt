@@ -14,13 +14,23 @@ pair-count-requires : tie.Need-pair-count-requires
 pair-count-requires c κs = search needs
 
 returns-2 : tie.Need-returns-2
-returns-2 c = rw (c .before .before .before .before .counted .given .1, le-leb _ 64 (c .before .before .if1 .left), ← c .before .pair-count .ensures, ne-eqb _ _ (c .if2 .taken))
+returns-2 c = rw (
+  c .before .before .before .before .counted .given .1,
+  le-leb _ 64 (c .before .before .if1 .left),
+  ← c .before .pair-count .ensures,
+  ne-eqb _ _ (c .if2 .taken),
+)
 
 enum-known-counted-2 : tie.Need-enum-known-counted-2
 enum-known-counted-2 c = search needs
 
 returns-3 : tie.Need-returns-3
-returns-3 c = rw (c .before .before .before .before .counted .given .1, le-leb _ 64 (c .before .before .if1 .left), ← c .before .pair-count .ensures, eq-eqb _ _ (c .if2 .left))
+returns-3 c = rw (
+  c .before .before .before .before .counted .given .1,
+  le-leb _ 64 (c .before .before .if1 .left),
+  ← c .before .pair-count .ensures,
+  eq-eqb _ _ (c .if2 .left),
+)
 
 returns-4 : tie.Need-returns-4
 returns-4 c = rw (c .before .counted2 .given .1)

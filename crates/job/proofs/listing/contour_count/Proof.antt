@@ -20,13 +20,15 @@ enum-told c = search needs
 returns : tie.Need-returns
 returns c =
     let scanned = c .before .before .before in
-    let job = answer-job (readJob (scanned .before .before .args .file .now)) (c .before .n .given .0 .0) (sym (c .before .n .given .1) ∙ scanned .scan .ensures) in
+    let job = answer-job (readJob (scanned .before .before .args .file .now)) (c .before .n .given .0 .0)
+    (sym (c .before .n .given .1) ∙ scanned .scan .ensures) in
     ap (λ (n : Numbers). n .contours) (job .numbers) ∙ sym (ap contourCount (job .is-read))
 
 returns-2 : tie.Need-returns-2
 returns-2 c =
     let scanned = c .before .before in
-    sym (ap contourCount (answer-refused (readJob (scanned .before .before .args .file .now)) (c .enum-told .given .0 .0) (sym (c .enum-told .given .1) ∙ scanned .scan .ensures)))
+    sym (ap contourCount (answer-refused (readJob (scanned .before .before .args .file .now)) (c .enum-told .given .0 .0)
+    (sym (c .enum-told .given .1) ∙ scanned .scan .ensures)))
 
 pub contour-count-spec : {M : Type 1} → statement M
 contour-count-spec = tie.close (tie.spec scan-requires enum-known-n enum-told returns returns-2)

@@ -58,7 +58,8 @@ returns-2 c =
     let written = put .before .before .before .before in
     let fits = put .before .before .before .if1 .left in
     list-fits (file written) (out written) (written .text .result) (counted written) (put .put-word .last .0) (omega arith)
-    (pasted-over (put .put-word .ensures) ∙ ap (λ (text : List ℕ). over text (out written)) (take-over (fileText (file written)) _ (written .text .ensures .holds) (counted written)))
+    (pasted-over (put .put-word .ensures) ∙ ap (λ (text : List ℕ). over text (out written))
+    (take-over (fileText (file written)) _ (written .text .ensures .holds) (counted written)))
 
 pub listing-spec : {M : Type 1} → statement M
 listing-spec =

@@ -11,7 +11,8 @@ use Rattle.job.proofs.listing.put_contour.Statement.{statement}
 use Rattle.job.proofs.listing.put_contour.Tie as tie
 
 abbrev Inv-loop : tie.InvT-loop
-Inv-loop out₀ at contour kinds colors next₀ i₀ out next i = (i ≤ length kinds) × (length out ≡ length out₀) × Listed (contourLines contour 0 kinds colors) at out₀ (contourLines contour i (drop i kinds) (drop i colors)) next out
+Inv-loop out₀ at contour kinds colors next₀ i₀ out next i = (i ≤ length kinds) × (length out ≡ length out₀)
+    × Listed (contourLines contour 0 kinds colors) at out₀ (contourLines contour i (drop i kinds) (drop i colors)) next out
 
 abbrev μ-loop : tie.MeasureT-loop
 μ-loop out₀ at contour kinds colors next₀ i₀ out next i = length kinds - i
@@ -58,8 +59,11 @@ loop-less c = omega arith
 
 loop-again : tie.Need-loop-again Inv-loop μ-loop
 loop-again c =
-    let l = c .before .before .before .before .before .before in
-    (omega arith, c .before .before .put-line .kept .0 ∙ at l .loop .inv .1, listed-next (here l) (rest l) (step l) (at l .loop .inv .2) (c .before .before .put-line .ensures))
+    let l = c .before .before .before .before .before .before in (
+      omega arith,
+      c .before .before .put-line .kept .0 ∙ at l .loop .inv .1,
+      listed-next (here l) (rest l) (step l) (at l .loop .inv .2) (c .before .before .put-line .ensures),
+    )
 
 same-length : tie.Need-same-length Inv-loop μ-loop
 same-length c = c .before .loop .inv .1

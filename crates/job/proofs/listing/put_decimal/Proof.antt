@@ -18,10 +18,13 @@ written {at = at} {next = next} {old = old} {new = new} e p = subst (λ (x : ℕ
 one : (c : tie.Then1) → decimal (c .before .before .args .n) ≡ (digit (c .before .before .args .n) ∷ [])
 one c = decimal-one (c .before .before .args .n) (c .if1 .taken)
 
-two : (c : tie.Then2) → decimal (c .before .before .before .args .n) ≡ (digit (c .before .before .before .args .n / 10) ∷ digit (c .before .before .before .args .n % 10) ∷ [])
+two : (c : tie.Then2) → decimal (c .before .before .before .args .n)
+    ≡ (digit (c .before .before .before .args .n / 10) ∷ digit (c .before .before .before .args .n % 10) ∷ [])
 two c = decimal-two (c .before .before .before .args .n) (c .before .if1 .left) (c .if2 .taken)
 
-three : (c : tie.Else2) → decimal (c .before .before .before .args .n) ≡ (digit (c .before .before .before .args .n / 10 / 10) ∷ digit (c .before .before .before .args .n / 10 % 10) ∷ digit (c .before .before .before .args .n % 10) ∷ [])
+three : (c : tie.Else2) → decimal (c .before .before .before .args .n)
+    ≡ (digit (c .before .before .before .args .n / 10 / 10) ∷ digit (c .before .before .before .args .n / 10 % 10) ∷ digit
+    (c .before .before .before .args .n % 10) ∷ [])
 three c = decimal-three (c .before .before .before .args .n) (c .if2 .left) (c .before .before .before .pre .0)
 
 digit-requires : tie.Need-digit-requires
@@ -49,7 +52,13 @@ put-requires-3 : tie.Need-put-requires-3
 put-requires-3 c κs =
     let start = c .before .before .before .before .before .before .before .before .before .before in
     let place = c .before .before .before .before .before .before .before in
-    omega (arith, ap length (two place), start .pre .1, c .before .before .before .before .put2 .ensures .place, c .before .before .before .before .put2 .kept .0)
+    omega (
+      arith,
+      ap length (two place),
+      start .pre .1,
+      c .before .before .before .before .put2 .ensures .place,
+      c .before .before .before .before .put2 .kept .0,
+    )
 
 same-length-2 : tie.Need-same-length-2
 same-length-2 c = search needs
@@ -61,7 +70,8 @@ returns-2 c =
     let digit = c .before .before .before .before .before .before .before .before in
     let put = c .before .before .before .before .before .before .before in
     rw (two place)
-    (pasted-then (written (digit .digit2 .ensures) (put .put2 .ensures)) (written (c .before .before .before .digit3 .ensures) (c .before .before .put3 .ensures)) (omega (arith, ap length (two place), start .pre .1)))
+    (pasted-then (written (digit .digit2 .ensures) (put .put2 .ensures))
+    (written (c .before .before .before .digit3 .ensures) (c .before .before .put3 .ensures)) (omega (arith, ap length (two place), start .pre .1)))
 
 digit-requires-4 : tie.Need-digit-requires-4
 digit-requires-4 c κs = search needs
@@ -76,7 +86,13 @@ put-requires-5 : tie.Need-put-requires-5
 put-requires-5 c κs =
     let start = c .before .before .before .before .before .before .before .before .before .before in
     let place = c .before .before .before .before .before .before .before in
-    omega (arith, ap length (three place), start .pre .1, c .before .before .before .before .put4 .ensures .place, c .before .before .before .before .put4 .kept .0)
+    omega (
+      arith,
+      ap length (three place),
+      start .pre .1,
+      c .before .before .before .before .put4 .ensures .place,
+      c .before .before .before .before .put4 .kept .0,
+    )
 
 digit-requires-6 : tie.Need-digit-requires-6
 digit-requires-6 c κs = search needs
@@ -86,7 +102,15 @@ put-requires-6 c κs =
     let start = c .before .before .before .before .before .before .before .before .before .before .before .before .before .before .before in
     let place = c .before .before .before .before .before .before .before .before .before .before .before .before in
     let put = c .before .before .before .before .before .before .before .before .before in
-    omega (arith, ap length (three place), start .pre .1, put .put4 .ensures .place, put .put4 .kept .0, c .before .before .before .before .put5 .ensures .place, c .before .before .before .before .put5 .kept .0)
+    omega (
+      arith,
+      ap length (three place),
+      start .pre .1,
+      put .put4 .ensures .place,
+      put .put4 .kept .0,
+      c .before .before .before .before .put5 .ensures .place,
+      c .before .before .before .before .put5 .kept .0,
+    )
 
 same-length-3 : tie.Need-same-length-3
 same-length-3 c = search needs
@@ -102,7 +126,8 @@ returns-3 c =
     let long = three place in
     let room = start .pre .1 in
     rw long
-    (pasted-then (pasted-then (written (digit .digit4 .ensures) (put .put4 .ensures)) (written (digit2 .digit5 .ensures) (put2 .put5 .ensures)) (omega (arith, ap length long)))
+    (pasted-then (pasted-then (written (digit .digit4 .ensures) (put .put4 .ensures)) (written (digit2 .digit5 .ensures) (put2 .put5 .ensures))
+    (omega (arith, ap length long)))
     (written (c .before .before .before .digit6 .ensures) (c .before .before .put6 .ensures)) (omega (arith, ap length long)))
 
 pub put-decimal-spec : {M : Type 1} → statement M

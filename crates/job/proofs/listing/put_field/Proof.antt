@@ -24,7 +24,8 @@ returns : tie.Need-returns
 returns c =
     let put-decimal = c .before .before .before .before .before .before in
     let start = c .before .before .before .before .before .before .before .before .before in
-    pasted-then (put-decimal .put-decimal .ensures) (c .before .before .put .ensures) (omega (arith, start .pre .1, field-length (start .args .n) (start .args .byte)))
+    pasted-then (put-decimal .put-decimal .ensures) (c .before .before .put .ensures)
+    (omega (arith, start .pre .1, field-length (start .args .n) (start .args .byte)))
 
 pub put-field-spec : {M : Type 1} → statement M
 put-field-spec = tie.close (tie.spec put-decimal-requires put-requires same-length returns)

@@ -30,11 +30,18 @@ module _ (c : tie.After-put-field2) where
   abbrev start : tie.Start
   start = c .before .before .before .before .before .before .before
 
-  fields : Pasted (field (contour start) space ++ field (place start) space) (start .args .at) (start .args .out .now) (c .put-field2 .result) (c .put-field2 .last .0)
-  fields = pasted-then (c .before .before .before .before .put-field .ensures) (c .put-field2 .ensures) (omega (arith, room start, field-length (contour start) space, field-length (place start) space))
+  fields : Pasted (field (contour start) space ++ field (place start) space) (start .args .at) (start .args .out .now) (c .put-field2 .result)
+      (c .put-field2 .last .0)
+  fields = pasted-then (c .before .before .before .before .put-field .ensures) (c .put-field2 .ensures)
+      (omega (arith, room start, field-length (contour start) space, field-length (place start) space))
 
   fields-length : length (field (contour start) space ++ field (place start) space) ≡ length (decimal (contour start)) + length (decimal (place start)) + 2
-  fields-length = omega (arith, length-append (field (contour start) space) (field (place start) space), field-length (contour start) space, field-length (place start) space)
+  fields-length = omega (
+    arith,
+    length-append (field (contour start) space) (field (place start) space),
+    field-length (contour start) space,
+    field-length (place start) space,
+  )
 
   kept : length (c .put-field2 .last .0) ≡ length (start .args .out .now)
   kept = omega (arith, c .put-field2 .kept .0, c .before .before .before .before .put-field .kept .0)
@@ -47,8 +54,17 @@ put-field-requires c κs =
 put-field-requires-2 : tie.Need-put-field-requires-2
 put-field-requires-2 c κs =
     let s = c .before .before .before .before .before .before in
-    let first = c .before .before .before in
-    (s .pre .1, omega (arith, room s, field-length (contour s) space, field-length (place s) space, first .put-field .ensures .place, first .put-field .kept .0))
+    let first = c .before .before .before in (
+      s .pre .1,
+      omega (
+        arith,
+        room s,
+        field-length (contour s) space,
+        field-length (place s) space,
+        first .put-field .ensures .place,
+        first .put-field .kept .0,
+      ),
+    )
 
 letter-requires : tie.Need-letter-requires
 letter-requires c κs = search needs
@@ -68,8 +84,21 @@ put-field-requires-3 : tie.Need-put-field-requires-3
 put-field-requires-3 c κs =
     let four = c .before .before .before in
     let three = four .before .before .before .before in
-    let two = three .before .before .before .before .before in
-    (omega (arith, start two .fits .color), omega (arith, room (start two), fields two .place, fields-length two, kept two, three .put .ensures .place, three .put .kept .0, four .put2 .ensures .place, four .put2 .kept .0, field-length (color (start two)) newline))
+    let two = three .before .before .before .before .before in (
+      omega (arith, start two .fits .color),
+      omega (
+        arith,
+        room (start two),
+        fields two .place,
+        fields-length two,
+        kept two,
+        three .put .ensures .place,
+        three .put .kept .0,
+        four .put2 .ensures .place,
+        four .put2 .kept .0,
+        field-length (color (start two)) newline,
+      ),
+    )
 
 same-length : tie.Need-same-length
 same-length c = search needs
@@ -88,9 +117,17 @@ returns c =
     pasted-then (fields two) (three .put .ensures) (omega (arith, room s, fields-length two)) in
     let spaced : Pasted ((first ++ (kind ∷ [])) ++ (space ∷ [])) (s .args .at) old (four .put2 .result) (four .put2 .last .0) =
     pasted-then lettered (four .put2 .ensures) (omega (arith, room s, fields-length two, length-append first (kind ∷ []))) in
-    let all = pasted-then spaced (five .put-field3 .ensures) (omega (arith, room s, fields-length two, length-append first (kind ∷ []), length-append (first ++ (kind ∷ [])) (space ∷ []), field-length (color s) newline)) in
+    let all = pasted-then spaced (five .put-field3 .ensures) (omega (
+      arith,
+      room s,
+      fields-length two,
+      length-append first (kind ∷ []),
+      length-append (first ++ (kind ∷ [])) (space ∷ []),
+      field-length (color s) newline,
+    )) in
     subst (λ (x : List ℕ). Pasted x (s .args .at) old (five .put-field3 .result) (five .put-field3 .last .0))
-    (ap (λ (k : ℕ). ((first ++ (k ∷ [])) ++ (space ∷ [])) ++ field (color s) newline) (three .before .letter .ensures) ∙ line-fields (contour s) (place s) (s .args .kind) (color s)) all
+    (ap (λ (k : ℕ). ((first ++ (k ∷ [])) ++ (space ∷ [])) ++ field (color s) newline) (three .before .letter .ensures)
+    ∙ line-fields (contour s) (place s) (s .args .kind) (color s)) all
 
 pub put-line-spec : {M : Type 1} → statement M
 put-line-spec =

@@ -56,7 +56,8 @@ module _ (c : tie.In-loop Inv-loop μ-loop) where
   here = contourLines contour 0 (take k (drop from (start .args .kinds .now))) (take k (drop from (start .args .colors .now)))
 
   abbrev rest : List ℕ
-  rest = lines (contour + 1) (drop (contour + 1) (start .args .lengths .now)) (drop (from + n) (start .args .kinds .now)) (drop (from + n) (start .args .colors .now))
+  rest = lines (contour + 1) (drop (contour + 1) (start .args .lengths .now)) (drop (from + n) (start .args .kinds .now))
+      (drop (from + n) (start .args .colors .now))
 
   step : lines contour (drop contour (start .args .lengths .now)) (drop from (start .args .kinds .now)) (drop from (start .args .colors .now)) ≡ here ++ rest
   step = rw is-n (shape-step contour from n (start .args .lengths .now) (start .args .kinds .now) (start .args .colors .now) (c .loop-test .taken) refl)
@@ -98,8 +99,14 @@ part-put-contour-end-2 c = omega (arith, inside (c .before .before .before), sta
 
 put-contour-requires : tie.Need-put-contour-requires Inv-loop μ-loop
 put-contour-requires c κs =
-    let l = c .before .before .before .before in
-    ((omega (arith, start l .pre .0 .0), simp (length-take, length-drop) (omega (arith, start l .pre .0 .1)), simp (length-take, length-drop) (omega (arith, start l .pre .0 .3))), listed-room (here l) (rest l) (step l) (at l .loop .inv .3))
+    let l = c .before .before .before .before in (
+      (
+        omega (arith, start l .pre .0 .0),
+        simp (length-take, length-drop) (omega (arith, start l .pre .0 .1)),
+        simp (length-take, length-drop) (omega (arith, start l .pre .0 .3)),
+      ),
+      listed-room (here l) (rest l) (step l) (at l .loop .inv .3),
+    )
 
 add-contour : tie.Need-add-contour Inv-loop μ-loop
 add-contour c = omega arith
@@ -124,7 +131,8 @@ returns : tie.Need-returns Inv-loop μ-loop
 unfolding shapeLines cut
 returns c =
     let start = c .before .before .before .before .before .before in
-    let none : drop (c .before .loop .contour) (start .args .lengths .now) ≡ [] = drop-of-length-le (start .args .lengths .now) {i = c .before .loop .contour} (omega arith) in
+    let none : drop (c .before .loop .contour) (start .args .lengths .now) ≡ [] = drop-of-length-le
+    (start .args .lengths .now) {i = c .before .loop .contour} (omega arith) in
     listed-end (rw none at (c .before .loop .inv .3))
 
 pub put-shape-spec : {M : Type 1} → statement M

@@ -53,8 +53,11 @@ loop-less c = omega arith
 
 loop-again : tie.Need-loop-again Inv-loop μ-loop
 loop-again c =
-    let l = c .before .before .before .before .before in
-    (omega arith, c .before .before .put .kept .0 ∙ at l .loop .inv .1, listed-next (here l) (rest l) (step l) (at l .loop .inv .2) (c .before .before .put .ensures))
+    let l = c .before .before .before .before .before in (
+      omega arith,
+      c .before .before .put .kept .0 ∙ at l .loop .inv .1,
+      listed-next (here l) (rest l) (step l) (at l .loop .inv .2) (c .before .before .put .ensures),
+    )
 
 same-length : tie.Need-same-length Inv-loop μ-loop
 same-length c = c .before .loop .inv .1

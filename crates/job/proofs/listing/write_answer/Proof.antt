@@ -125,7 +125,8 @@ returns : tie.Need-returns
 returns c =
     let written = c .before .before in
     let counted = written .before .before .before .before .before in
-    subst (λ (x : List ℕ). Pasted x 0 (began (coloring counted) .args .text .now) (written .write-listing .result) (written .write-listing .last .1 .1 .1 .0)) (sym (at-front counted .text))
+    subst (λ (x : List ℕ). Pasted x 0 (began (coloring counted) .args .text .now) (written .write-listing .result)
+    (written .write-listing .last .1 .1 .1 .0)) (sym (at-front counted .text))
     (written .write-listing .ensures)
 
 same-length-6 : tie.Need-same-length-6
@@ -147,7 +148,8 @@ returns-2 : tie.Need-returns-2
 returns-2 c =
     let written = c .before .before in
     let refusal = written .before .before .before in
-    subst (λ (x : List ℕ). Pasted x 0 (began (refusing refusal) .args .text .now) (written .write-refusal .result) (written .write-refusal .last .1 .0)) (sym (refused refusal))
+    subst (λ (x : List ℕ). Pasted x 0 (began (refusing refusal) .args .text .now) (written .write-refusal .result) (written .write-refusal .last .1 .0))
+    (sym (refused refusal))
     (written .write-refusal .ensures)
 
 pub write-answer-spec : {M : Type 1} → statement M

@@ -54,8 +54,10 @@ returns c =
     let shape = word .before .before .before .before .before in
     let s = shape .before .before .before .before .before .before in
     let old = s .args .out .now in
-    let two : Pasted (lines s ++ edgesWord) 0 old (word .put-word .result) (word .put-word .last .0) = pasted-then (shape .put-shape .ensures) (word .put-word .ensures) (omega (arith, room s)) in
-    subst (λ (x : List ℕ). Pasted x 0 old (field .put-field .result) (field .put-field .last .0)) (listing-parts (s .args .lengths .now) (s .args .kinds .now) (s .args .colors .now) (s .pre .0 .2))
+    let two : Pasted (lines s ++ edgesWord) 0 old (word .put-word .result) (word .put-word .last .0) = pasted-then (shape .put-shape .ensures)
+    (word .put-word .ensures) (omega (arith, room s)) in
+    subst (λ (x : List ℕ). Pasted x 0 old (field .put-field .result) (field .put-field .last .0))
+    (listing-parts (s .args .lengths .now) (s .args .kinds .now) (s .args .colors .now) (s .pre .0 .2))
     (pasted-then two (field .put-field .ensures) (omega (arith, room s, length-append (lines s) edgesWord)))
 
 pub write-listing-spec : {M : Type 1} → statement M

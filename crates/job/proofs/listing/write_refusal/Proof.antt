@@ -28,8 +28,17 @@ cast-put-field c = search needs
 put-field-requires : tie.Need-put-field-requires
 put-field-requires c κs =
     let word = c .before .before .before .before in
-    let s = word .before .before .before .before in
-    (omega (arith, c .number .ok), omega (arith, s .pre, refusal-length (s .args .refusal), ap (λ (n : ℕ). length (field n newline)) (c .number .ensures), word .put-word .ensures .place, word .put-word .kept .0))
+    let s = word .before .before .before .before in (
+      omega (arith, c .number .ok),
+      omega (
+        arith,
+        s .pre,
+        refusal-length (s .args .refusal),
+        ap (λ (n : ℕ). length (field n newline)) (c .number .ensures),
+        word .put-word .ensures .place,
+        word .put-word .kept .0,
+      ),
+    )
 
 same-length : tie.Need-same-length
 same-length c = search needs
@@ -42,7 +51,8 @@ returns c =
     let old = s .args .out .now in
     subst (λ (x : List ℕ). Pasted x 0 old (c .before .before .put-field .result) (c .before .before .put-field .last .0))
     (ap (λ (n : ℕ). refusedWord ++ field n newline) (number .number .ensures) ∙ refusal-parts (s .args .refusal))
-    (pasted-then (word .put-word .ensures) (c .before .before .put-field .ensures) (omega (arith, s .pre, refusal-length (s .args .refusal), ap (λ (n : ℕ). length (field n newline)) (number .number .ensures))))
+    (pasted-then (word .put-word .ensures) (c .before .before .put-field .ensures)
+    (omega (arith, s .pre, refusal-length (s .args .refusal), ap (λ (n : ℕ). length (field n newline)) (number .number .ensures))))
 
 pub write-refusal-spec : {M : Type 1} → statement M
 write-refusal-spec =

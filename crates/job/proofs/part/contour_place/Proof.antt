@@ -28,8 +28,10 @@ accepted-requires c κs = search needs
 
 returns : tie.Need-returns
 returns c =
-    let tested = c .before in
-    (sym (place-refused (file tested) (start tested .args .number) (sym (tested .accepted .ensures) ∙ not-true (tested .accepted .result) (c .if1 .taken))), record { ordered = omega arith; within = omega arith })
+    let tested = c .before in (
+      sym (place-refused (file tested) (start tested .args .number) (sym (tested .accepted .ensures) ∙ not-true (tested .accepted .result) (c .if1 .taken))),
+      record { ordered = omega arith; within = omega arith },
+    )
 
 contour-span-requires : tie.Need-contour-span-requires
 contour-span-requires c κs = ap hasJob (accepted-same (file (c .before)) (is-accepted c)) ∙ is-accepted c
@@ -37,8 +39,11 @@ contour-span-requires c κs = ap hasJob (accepted-same (file (c .before)) (is-ac
 returns-2 : tie.Need-returns-2
 unfolding contourPlace
 returns-2 c =
-    let tested = c .before in
-    (c .contour-span .ensures .0 ∙ ap (λ (r : Reading). placeIn r (start (tested .before) .args .number)) (accepted-same (file (tested .before)) (is-accepted tested)), c .contour-span .ensures .1)
+    let tested = c .before in (
+      c .contour-span .ensures .0 ∙ ap (λ (r : Reading). placeIn r (start (tested .before) .args .number))
+          (accepted-same (file (tested .before)) (is-accepted tested)),
+      c .contour-span .ensures .1,
+    )
 
 pub contour-place-spec : {M : Type 1} → statement M
 contour-place-spec = tie.close (tie.spec accepted-requires returns contour-span-requires returns-2)

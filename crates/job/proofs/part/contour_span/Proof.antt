@@ -90,8 +90,10 @@ span-of-requires c κs = search needs
 returns : tie.Need-returns Inv-loop μ-loop
 returns c =
     let f = c .before .before .before in
-    rw (c .span-of .ensures)
-    (seeking-end (file f) (number f) (p f) (at f .loop .q) (at f .loop .inv) (found-end _ (sym (c .before .enum-told .given .1) ∙ read f)), seeking-inside (file f) (number f) (p f) (at f .loop .q) (at f .loop .inv))
+    rw (c .span-of .ensures) (
+      seeking-end (file f) (number f) (p f) (at f .loop .q) (at f .loop .inv) (found-end _ (sym (c .before .enum-told .given .1) ∙ read f)),
+      seeking-inside (file f) (number f) (p f) (at f .loop .q) (at f .loop .inv),
+    )
 
 enum-told-2 : tie.Need-enum-told-2 Inv-loop μ-loop
 enum-told-2 c = search needs

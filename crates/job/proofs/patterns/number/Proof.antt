@@ -1,4 +1,5 @@
--- `job::patterns::number` meets its contract. The loop goes from the highest byte down: what it has is the number of the bytes passed.
+-- `job::patterns::number` meets its contract. The loop goes from the highest byte down: what it has is the number of
+-- the bytes passed.
 use mathlib.Core.Path.{_≡_, sym, ap, _∙_}
 use Prim.Native.Nat.{ℕ, suc, _+_, _*_, _-_, _≤_, _<_, _^_}
 use native.Mathlib.Omega.{arith}

@@ -75,13 +75,18 @@ loop-less : tie.Need-loop-less Inv-loop μ-loop
 loop-less c = omega arith
 
 loop-again : tie.Need-loop-again Inv-loop μ-loop
-loop-again c = (omega arith, at (c .before) .loop .inv .1 ∙ all-next _ _ _ _ (here (c .before)) (sym (tested (c .before)) ∙ not-false _ (c .if1 .left)) ∙ rw add-one)
+loop-again c = (
+  omega arith,
+  at (c .before) .loop .inv .1 ∙ all-next _ _ _ _ (here (c .before)) (sym (tested (c .before)) ∙ not-false _ (c .if1 .left))
+      ∙ rw add-one,
+)
 
 returns-2 : tie.Need-returns-2 Inv-loop μ-loop
 unfolding all
 returns-2 c =
     let start = c .before .before .before in
-    let end : c .before .loop .i ≡ length (words (start .args .n) (start .args .bytes .now)) = omega (arith, words-length (start .args .n) (start .args .bytes .now)) in
+    let end : c .before .loop .i ≡ length (words (start .args .n) (start .args .bytes .now)) = omega
+    (arith, words-length (start .args .n) (start .args .bytes .now)) in
     sym (c .before .loop .inv .1 ∙ rw (end, drop-length))
 
 pub words-within-spec : {M : Type 1} → statement M

@@ -17,7 +17,8 @@ use Rattle.job.proofs.reader.fill.Statement.{statement}
 use Rattle.job.proofs.reader.fill.Tie as tie
 
 abbrev Inv-loop : tie.InvT-loop
-Inv-loop file lengths₀ kinds₀ points₀ distances₀ p₀ lengths kinds points distances p = Filling file (buffers lengths₀ kinds₀ points₀ distances₀) p lengths kinds points distances
+Inv-loop file lengths₀ kinds₀ points₀ distances₀ p₀ lengths kinds points distances p = Filling file
+    (buffers lengths₀ kinds₀ points₀ distances₀) p lengths kinds points distances
 
 abbrev μ-loop : tie.MeasureT-loop
 μ-loop file lengths₀ kinds₀ points₀ distances₀ p₀ lengths kinds points distances p = length file - p .at
@@ -50,9 +51,11 @@ module _ (c : tie.After-item Inv-loop μ-loop) where
   as-read : Read-as (readRecord (p found .state) (drop (p found .at) (file found))) (c .item .given .0 .0) (c .item .given .0 .1 .0)
   as-read = found-item _ _ _ (sym (c .item .given .1) ∙ read found)
 
-  has-room : Room (c .item .given .0 .0) (p found .state .numbers) (drop (p found .at) (file found)) (buffers (at found .loop .lengths) (at found .loop .kinds) (at found .loop .points) (at found .loop .distances))
+  has-room : Room (c .item .given .0 .0) (p found .state .numbers) (drop (p found .at) (file found))
+      (buffers (at found .loop .lengths) (at found .loop .kinds) (at found .loop .points) (at found .loop .distances))
   has-room =
-      filling-room (file found) (old found) (start found .pre) (p found) (at found .loop .lengths) (at found .loop .kinds) (at found .loop .points) (at found .loop .distances)
+      filling-room (file found) (old found) (start found .pre) (p found) (at found .loop .lengths) (at found .loop .kinds) (at found .loop .points)
+      (at found .loop .distances)
       (at found .loop .inv) _ _ as-read
 
 -- the record, written
@@ -68,9 +71,12 @@ module _ (c : tie.After-write-item Inv-loop μ-loop) where
   next =
       let f = found chosen in
       let item = chosen .item .given .0 .0 in
-      filling-next (file f) (old f) (start f .pre) (p f) (turn .loop .lengths) (turn .loop .kinds) (turn .loop .points) (turn .loop .distances) (turn .loop .inv) item _ (as-read chosen)
+      filling-next (file f) (old f) (start f .pre) (p f) (turn .loop .lengths) (turn .loop .kinds) (turn .loop .points) (turn .loop .distances)
+      (turn .loop .inv) item _ (as-read chosen)
       (c .write-item .last .1 .1 .1 .0) (c .write-item .last .1 .1 .1 .1 .0) (c .write-item .last .1 .1 .1 .1 .1 .0) (c .write-item .last .1 .1 .1 .1 .1 .1 .0)
-      (subst (λ (x : List ℕ). Hold (written item (p f .state .numbers) x (buffers (turn .loop .lengths) (turn .loop .kinds) (turn .loop .points) (turn .loop .distances))) (c .write-item .last .1 .1 .1 .0) (c .write-item .last .1 .1 .1 .1 .0) (c .write-item .last .1 .1 .1 .1 .1 .0) (c .write-item .last .1 .1 .1 .1 .1 .1 .0))
+      (subst (λ (x : List ℕ). Hold (written item (p f .state .numbers) x
+      (buffers (turn .loop .lengths) (turn .loop .kinds) (turn .loop .points) (turn .loop .distances))) (c .write-item .last .1 .1 .1 .0)
+      (c .write-item .last .1 .1 .1 .1 .0) (c .write-item .last .1 .1 .1 .1 .1 .0) (c .write-item .last .1 .1 .1 .1 .1 .1 .0))
       (part-after (p f .at) (file f)) (c .write-item .ensures))
       (c .write-item .kept .1 .1 .1 .0) (c .write-item .kept .1 .1 .1 .1 .0) (c .write-item .kept .1 .1 .1 .1 .1 .0) (c .write-item .kept .1 .1 .1 .1 .1 .1 .0)
 
@@ -108,7 +114,8 @@ write-item-requires : tie.Need-write-item-requires Inv-loop μ-loop
 write-item-requires c κs =
     let i = c .before .before .before .before .before .before .before in
     let f = found i in
-    subst (λ (x : List ℕ). Room (i .item .given .0 .0) (p f .state .numbers) x (buffers (at f .loop .lengths) (at f .loop .kinds) (at f .loop .points) (at f .loop .distances)))
+    subst (λ (x : List ℕ). Room (i .item .given .0 .0) (p f .state .numbers) x
+    (buffers (at f .loop .lengths) (at f .loop .kinds) (at f .loop .points) (at f .loop .distances)))
     (sym (part-after (p f .at) (file f))) (has-room i)
 
 advance-requires : tie.Need-advance-requires Inv-loop μ-loop

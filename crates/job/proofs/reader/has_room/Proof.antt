@@ -22,7 +22,11 @@ returns-3 c = rw (le-leb _ _ (c .before .before .before .before .if1 .left), le-
 
 returns-4 : tie.Need-returns-4
 unfolding roomFor
-returns-4 c = rw (le-leb _ _ (c .before .before .before .before .before .if1 .left), le-leb _ _ (c .before .before .before .if2 .left), le-leb _ _ (c .before .if3 .left))
+returns-4 c = rw (
+  le-leb _ _ (c .before .before .before .before .before .if1 .left),
+  le-leb _ _ (c .before .before .before .if2 .left),
+  le-leb _ _ (c .before .if3 .left),
+)
 
 pub has-room-spec : {M : Type 1} → statement M
 has-room-spec = tie.close (tie.spec returns returns-2 mul-if3 returns-3 returns-4)

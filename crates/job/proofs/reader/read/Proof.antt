@@ -53,13 +53,15 @@ has-room-requires c κs = answer-few (file (start (c .before))) (numbers (c .bef
 returns : tie.Need-returns
 returns c =
     let j = c .before .before .before in
-    delivers-short (acceptJob (file (start j))) (numbers j) (job j) (old (start j)) (room (c .before) false (not-true (c .before .has-room .result) (c .if1 .taken)))
+    delivers-short (acceptJob (file (start j))) (numbers j) (job j) (old (start j))
+    (room (c .before) false (not-true (c .before .has-room .result) (c .if1 .taken)))
 
 fill-requires : tie.Need-fill-requires
 fill-requires c κs =
     let tested = c .before .before .before .before in
     let j = tested .before .before .before in
-    rw (same j) (fits-buffers (acceptJob (file (start j))) (numbers j) (job j) (old (start j)) (room (tested .before) true (not-false (tested .before .has-room .result) (tested .if1 .left))))
+    rw (same j) (fits-buffers (acceptJob (file (start j))) (numbers j) (job j) (old (start j))
+    (room (tested .before) true (not-false (tested .before .has-room .result) (tested .if1 .left))))
 
 enum-known-refusal : tie.Need-enum-known-refusal
 enum-known-refusal c = search needs

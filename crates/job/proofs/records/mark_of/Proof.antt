@@ -58,7 +58,14 @@ returns-13 c = rw (c .before .if12 .taken, ne-eqb _ _ (c .if13 .left))
 
 returns-14 : tie.Need-returns-14
 unfolding markOf
-returns-14 c = rw (ne-eqb _ _ (c .before .before .before .before .before .if1 .left), ne-eqb _ _ (c .before .before .before .before .if3 .left), ne-eqb _ _ (c .before .before .before .if6 .left), ne-eqb _ _ (c .before .before .if8 .left), ne-eqb _ _ (c .before .if10 .left), ne-eqb _ _ (c .if12 .left))
+returns-14 c = rw (
+  ne-eqb _ _ (c .before .before .before .before .before .if1 .left),
+  ne-eqb _ _ (c .before .before .before .before .if3 .left),
+  ne-eqb _ _ (c .before .before .before .if6 .left),
+  ne-eqb _ _ (c .before .before .if8 .left),
+  ne-eqb _ _ (c .before .if10 .left),
+  ne-eqb _ _ (c .if12 .left),
+)
 
 pub mark-of-spec : {M : Type 1} → statement M
 mark-of-spec =

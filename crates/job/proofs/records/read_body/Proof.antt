@@ -44,7 +44,8 @@ read-end-requires c κs = search needs
 
 returns : tie.Need-returns
 unfolding readBody
-returns c = rw (c .before .enum-told .given .1) (c .read-header .ensures ∙ sym (header-rest (c .before .before .before .before .before .args .body .now) (c .before .before .before .before .before .args .rest .now)))
+returns c = rw (c .before .enum-told .given .1) (c .read-header .ensures
+    ∙ sym (header-rest (c .before .before .before .before .before .args .body .now) (c .before .before .before .before .before .args .rest .now)))
 
 returns-2 : tie.Need-returns-2
 unfolding readBody
@@ -54,7 +55,8 @@ returns-3 : tie.Need-returns-3
 unfolding readBody
 returns-3 c =
     let start = c .before .before .before .before .before .before in
-    rw (c .before .before .mark .given .1) (c .read-edge .ensures ∙ sym (edge-rest (c .before .before .mark .given .0 .0) (start .args .body .now) (start .args .rest .now)))
+    rw (c .before .before .mark .given .1) (c .read-edge .ensures
+    ∙ sym (edge-rest (c .before .before .mark .given .0 .0) (start .args .body .now) (start .args .rest .now)))
 
 returns-4 : tie.Need-returns-4
 unfolding readBody

@@ -42,7 +42,13 @@ returns-3 c =
 
 returns-4 : tie.Need-returns-4
 unfolding readDistances
-returns-4 c = rw (← c .before .before .before .before .number .ensures, le-leb _ 2016 (c .before .before .before .if1 .left), le-leb _ _ (c .before .before .if2 .left), ← c .before .words-within .ensures, c .if3 .left)
+returns-4 c = rw (
+  ← c .before .before .before .before .number .ensures,
+  le-leb _ 2016 (c .before .before .before .if1 .left),
+  le-leb _ _ (c .before .before .if2 .left),
+  ← c .before .words-within .ensures,
+  c .if3 .left,
+)
 
 pub read-distances-spec : {M : Type 1} → statement M
 read-distances-spec =

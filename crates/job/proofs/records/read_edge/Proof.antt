@@ -20,8 +20,10 @@ words-within-requires : tie.Need-words-within-requires
 words-within-requires c κs = search needs
 
 -- the coordinates, tested
-tested : (c : tie.After-words-within) → c .words-within .result ≡ all isCoordinate (words (2 * controls (c .before .before .before .args .kind)) (c .before .before .before .args .body .now))
-tested c = c .words-within .ensures ∙ ap (λ (k : ℕ). all isCoordinate (words (2 * k) (c .before .before .before .args .body .now))) (c .before .controls .ensures)
+tested : (c : tie.After-words-within) → c .words-within .result ≡ all isCoordinate
+    (words (2 * controls (c .before .before .before .args .kind)) (c .before .before .before .args .body .now))
+tested c = c .words-within .ensures ∙ ap (λ (k : ℕ). all isCoordinate (words (2 * k) (c .before .before .before .args .body .now)))
+    (c .before .controls .ensures)
 
 add-t9 : tie.Need-add-t9
 add-t9 c = search needs

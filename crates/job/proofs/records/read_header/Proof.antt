@@ -1,4 +1,5 @@
--- `job::records::read_header` meets its contract: the strategy, then the threshold, whose pattern comes back from its float.
+-- `job::records::read_header` meets its contract: the strategy, then the threshold, whose pattern comes back from its
+-- float.
 use mathlib.Core.Path.{_≡_, sym, ap, _∙_}
 use mathlib.Core.Bool.{true}
 use mathlib.Core.List.{List}
@@ -84,7 +85,8 @@ returns-4 c =
     let t = c .before .before in
     let within = sym (t .is-threshold .ensures) ∙ not-false (t .is-threshold .result) (c .before .if3 .left) in
     rw (c .strategy-of .ensures)
-    (header-found (body t) _ (t .before .before .before .number .result) (t .before .number2 .result) (low t) (high t) (omega arith) (t .before .before .before .number .ensures) (t .before .number2 .ensures) within)
+    (header-found (body t) _ (t .before .before .before .number .result) (t .before .number2 .result) (low t) (high t) (omega arith)
+    (t .before .before .before .number .ensures) (t .before .number2 .ensures) within)
 
 pub read-header-spec : {M : Type 1} → statement M
 read-header-spec =

@@ -64,7 +64,8 @@ returns-4 c =
     c .read-body .ensures
     ∙ ap foundOf
     (ap (readBody (start .args .mark) (take size (start .args .bytes .now))) (part-after size (start .args .bytes .now))
-    ∙ sym (marked-body (start .args .s) (start .args .mark) (start .args .bytes .now) size (may (sized .before .before .before)) (room (sized .before)) (sized .body-size .ensures) (c .before .before .before .if3 .left)))
+    ∙ sym (marked-body (start .args .s) (start .args .mark) (start .args .bytes .now) size (may (sized .before .before .before)) (room (sized .before))
+    (sized .body-size .ensures) (c .before .before .before .if3 .left)))
 
 pub read-marked-spec : {M : Type 1} → statement M
 read-marked-spec =
