@@ -1,6 +1,7 @@
 //! A font's glyphs, their outlines read by ttf-parser.
 
-use crate::source::{Bounds, Contour, EdgeSegment, Shape, SignedDistance, Vector2};
+use crate::source::{Contour, EdgeSegment, Shape, Vector2, cross};
+use crate::winding::{Fill, orient};
 use std::fmt;
 use ttf_parser::kern::{Format, Subtable};
 use ttf_parser::{Face, GlyphId, OutlineBuilder};
@@ -25,7 +26,10 @@ impl fmt::Display for Name {
 pub struct Glyph {
     pub name: Name,
     pub advance: f64,
+    /// Its contours with the inside on their right, and its cusps pushed apart.
     pub shape: Shape,
+    /// What the font draws.
+    pub fill: Fill,
 }
 
 /// Lengths that belong to the font as a whole, in ems.
@@ -71,7 +75,8 @@ impl<'a> Font<'a> {
         }
     }
 
-    /// A glyph's outline; none where there is no such glyph or its outline is damaged, and empty where it has nothing to draw.
+    /// A glyph's outline; none where there is no such glyph or its outline is damaged, and empty where it has nothing
+    /// to draw.
     pub fn glyph(&self, name: Name) -> Option<Glyph> {
         let id = self.id(name)?;
         let mut pen = Pen::default();
@@ -81,8 +86,10 @@ impl<'a> Font<'a> {
         if read.is_none() && shape.edge_count() > 0 {
             return None;
         }
+        let fill = Fill::new(&shape);
         orient(&mut shape);
-        Some(Glyph { name, advance: self.face.glyph_hor_advance(id).unwrap_or(0).into(), shape })
+        shape.normalize();
+        Some(Glyph { name, advance: self.face.glyph_hor_advance(id).unwrap_or(0).into(), shape, fill })
     }
 
     pub fn metrics(&self) -> Metrics {
@@ -147,6 +154,14 @@ fn v(x: f32, y: f32) -> Vector2 {
     Vector2::new(x.into(), y.into())
 }
 
+/// A cubic as docs/src makes it, but one whose control points are at one place is no line for that.
+fn cubic(p0: Vector2, p1: Vector2, p2: Vector2, p3: Vector2) -> EdgeSegment {
+    if p1 == p2 && cross(p1 - p0, p3 - p2) != 0.0 {
+        return EdgeSegment::Cubic([p0, p1, p2, p3]);
+    }
+    EdgeSegment::cubic(p0, p1, p2, p3)
+}
+
 impl OutlineBuilder for Pen {
     fn move_to(&mut self, x: f32, y: f32) {
         self.shape.add_contour(Contour::new());
@@ -163,7 +178,7 @@ impl OutlineBuilder for Pen {
     }
 
     fn curve_to(&mut self, x1: f32, y1: f32, x2: f32, y2: f32, x: f32, y: f32) {
-        self.add(EdgeSegment::cubic(self.at, v(x1, y1), v(x2, y2), v(x, y)), v(x, y));
+        self.add(cubic(self.at, v(x1, y1), v(x2, y2), v(x, y)), v(x, y));
     }
 
     fn close(&mut self) {
@@ -171,25 +186,6 @@ impl OutlineBuilder for Pen {
         if self.shape.contours.last().is_some_and(Contour::is_empty) {
             self.shape.contours.pop();
         }
-    }
-}
-
-/// Turns every contour round where the outside would count as inside: fonts draw either way.
-fn orient(shape: &mut Shape) {
-    if shape.contours.is_empty() {
-        return;
-    }
-    let Bounds { l, b, r, t } = shape.get_bounds(0.0);
-    let outside = Vector2::new(l - (r - l) - 1.0, b - (t - b) - 1.0);
-    let mut nearest = SignedDistance::default();
-    for edge in shape.contours.iter().flat_map(|contour| &contour.segments) {
-        let (distance, _) = edge.signed_distance(outside);
-        if distance.is_closer_than(nearest) {
-            nearest = distance;
-        }
-    }
-    if nearest.distance > 0.0 {
-        shape.contours.iter_mut().for_each(Contour::reverse);
     }
 }
 
@@ -207,6 +203,15 @@ mod tests {
         pen.close();
         let edge = EdgeSegment::cubic(v(0.0, 0.0), v(6.0, 6.0), v(-6.0, 6.0), v(0.0, 0.0));
         assert_eq!(pen.shape.contours[0].segments, [edge]);
+    }
+
+    #[test]
+    fn control_points_at_one_place() {
+        let points = [v(0.0, 0.0), v(3.0, 5.0), v(3.0, 5.0), v(6.0, 0.0)];
+        let [p0, p1, p2, p3] = points;
+        assert_eq!(cubic(p0, p1, p2, p3), EdgeSegment::Cubic(points));
+        let [p0, p1, p2, p3] = [v(0.0, 0.0), v(2.0, 2.0), v(2.0, 2.0), v(6.0, 6.0)];
+        assert_eq!(cubic(p0, p1, p2, p3), EdgeSegment::Line([p0, p3]));
     }
 
     #[test]

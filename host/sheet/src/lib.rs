@@ -1,7 +1,10 @@
 //! `sheet`: a font in, a sheet of multi-channel distance fields out.
 
+pub mod between;
 pub mod charset;
 pub mod correction;
+pub mod distance;
+pub mod draw;
 pub mod field;
 pub mod font;
 pub mod frame;
@@ -10,4 +13,6 @@ pub mod output;
 pub mod pack;
 pub mod picture;
 pub mod sheet;
+pub mod sign;
 pub mod source;
+pub mod winding;

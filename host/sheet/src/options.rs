@@ -3,6 +3,8 @@
 use clap::{Parser, ValueEnum};
 use merelsplum::job::Strategy;
 use sheet::charset::Charset;
+use sheet::correction::{Check, Correction, Mode};
+use sheet::draw::Drawing;
 use sheet::font::{Font, Name};
 use sheet::sheet::Settings;
 use std::f64::consts::PI;
@@ -44,6 +46,35 @@ pub struct Options {
     /// Width of the range in which distances are told apart, in pixels, 1 to 128
     #[arg(long, value_name = "PIXELS", default_value = "2", value_parser = |text: &str| number(text, 1.0..=128.0))]
     pxrange: f64,
+
+    /// What is corrected between pixels, and by how much measuring: auto-mixed, auto-fast, auto-full, edge-fast,
+    /// edge-full, distance-fast, distance-full, disabled
+    #[arg(long, value_name = "MODE", default_value = "auto-mixed", value_parser = error_correction)]
+    errorcorrection: (Mode, Check),
+
+    /// How much faster than a distance a value may change between pixels before it counts as an error
+    #[arg(long, value_name = "RATIO", default_value_t = Correction::default().deviation, value_parser = |text: &str| number(text, 1.0..=1e6))]
+    errordeviationratio: f64,
+
+    /// How much nearer to the exact distance a correction must come
+    #[arg(long, value_name = "RATIO", default_value_t = Correction::default().improve, value_parser = |text: &str| number(text, 1.0..=1e6))]
+    errorimproveratio: f64,
+
+    /// Joins contours that overlap (preset)
+    #[arg(long, overrides_with = "nooverlap")]
+    overlap: bool,
+
+    /// Takes it that no contours overlap
+    #[arg(long, overrides_with = "overlap")]
+    nooverlap: bool,
+
+    /// Holds every place to the side of the outline that it is on (preset)
+    #[arg(long, overrides_with = "noscanline")]
+    scanline: bool,
+
+    /// Lets the distance alone decide the side
+    #[arg(long, overrides_with = "scanline")]
+    noscanline: bool,
 
     /// Threads; 0 for as many as the machine has
     #[arg(long, value_name = "NUMBER", default_value = "0", value_parser = threads)]
@@ -94,6 +125,24 @@ fn angle(text: &str) -> Result<f64, String> {
     if angle > 0.0 && angle < PI { Ok(angle) } else { Err("not above 0 and below 180D".to_owned()) }
 }
 
+/// The modes of msdf-atlas-gen by all their names there.
+fn error_correction(name: &str) -> Result<(Mode, Check), String> {
+    Ok(match name {
+        "disabled" | "none" | "0" => (Mode::Disabled, Check::Nothing),
+        "auto-mixed" | "auto" | "default" | "mixed" => (Mode::EdgePriority, Check::AtEdge),
+        "auto-fast" | "fast" => (Mode::EdgePriority, Check::Nothing),
+        "auto-full" | "full" => (Mode::EdgePriority, Check::Always),
+        "distance-fast" | "distance" | "indiscriminate-fast" | "indiscriminate" => (Mode::Indiscriminate, Check::Nothing),
+        "distance-full" | "indiscriminate-full" => (Mode::Indiscriminate, Check::Always),
+        "edge-fast" => (Mode::EdgeOnly, Check::Nothing),
+        "edge-full" | "edge" => (Mode::EdgeOnly, Check::Always),
+        _ => {
+            let names = "auto-mixed, auto-fast, auto-full, edge-fast, edge-full, distance-fast, distance-full and disabled";
+            return Err(format!("the modes are {names}"));
+        }
+    })
+}
+
 impl Options {
     /// What no single option shows.
     pub fn check(&self) -> Result<(), String> {
@@ -122,7 +171,17 @@ impl Options {
             angle: self.angle,
             seed: self.seed,
             size: self.size,
-            pxrange: self.pxrange,
+            drawing: Drawing {
+                pxrange: self.pxrange,
+                overlap: !self.nooverlap,
+                scanline: !self.noscanline,
+                correction: Correction {
+                    mode: self.errorcorrection.0,
+                    check: self.errorcorrection.1,
+                    deviation: self.errordeviationratio,
+                    improve: self.errorimproveratio,
+                },
+            },
         }
     }
 }

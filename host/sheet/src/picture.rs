@@ -3,6 +3,7 @@
 use crate::frame::Frame;
 use crate::sheet::{Image, Sheet};
 use crate::source::{EdgeSegment, Vector2, dot, median, segment};
+use crate::winding::Fill;
 use merelsplum::{Colored, EdgeColor};
 use rayon::prelude::*;
 use std::io::{self, Write};
@@ -118,9 +119,10 @@ impl Canvas {
             Vector2::new(x + zoom * along, y + zoom * (top - up))
         };
         let (edges, colors): (Vec<_>, Vec<_>) = colored.contours.iter().flatten().map(|(e, c)| (segment(e), rgb(*c))).unzip();
+        let fill = Fill::of_edges(edges.iter().copied());
         for row in y as usize..((y + zoom * top) as usize).min(self.height()) {
             let up = top - (row as f64 + 0.5 - y) / zoom;
-            for (from, to) in inside(&edges, frame.point(0.0, up).y) {
+            for (from, to) in fill.scanline(frame.point(0.0, up).y).stretches() {
                 let [from, to] = [from, to].map(|along| place(Vector2::new(along, 0.0)).x.round() as usize);
                 self.pixels[row * self.width..][from..to].fill(INK);
             }
@@ -167,22 +169,7 @@ pub fn rgb(color: EdgeColor) -> [u8; 3] {
 
 /// The stretches of the line at height y that are inside, by winding.
 pub fn inside(edges: &[EdgeSegment], y: f64) -> Vec<(f64, f64)> {
-    let mut crossings = Vec::new();
-    for edge in edges {
-        let mut found = [(0.0, 0); 3];
-        let count = edge.scanline_intersections(y, &mut found);
-        crossings.extend_from_slice(&found[..count]);
-    }
-    crossings.sort_by(|a, b| a.0.total_cmp(&b.0));
-    let mut winding = 0;
-    let mut stretches = Vec::new();
-    for pair in crossings.windows(2) {
-        winding += pair[0].1;
-        if winding != 0 {
-            stretches.push((pair[0].0, pair[1].0));
-        }
-    }
-    stretches
+    Fill::of_edges(edges.iter().copied()).scanline(y).stretches()
 }
 
 #[cfg(test)]

@@ -1,11 +1,11 @@
 //! A sheet: glyphs coloured, their fields drawn and packed into one picture.
 
-use crate::correction::correct;
-use crate::field::Field;
+use crate::draw::Drawing;
 use crate::font::{Glyph, Name};
 use crate::frame::Frame;
 use crate::pack::{Packing, pack};
 use crate::source::{self, spline_distances};
+use crate::winding::Fill;
 use merelsplum::job::{Job, Strategy};
 use merelsplum::{Colored, Outline, Refusal, collect_splines};
 use rayon::prelude::*;
@@ -19,8 +19,7 @@ pub struct Settings {
     pub seed: u64,
     /// Pixels an em.
     pub size: f64,
-    /// How many pixels the field goes from 0 to 1 in.
-    pub pxrange: f64,
+    pub drawing: Drawing,
 }
 
 /// A square of pixels, by rows from the top: a byte for each channel.
@@ -35,6 +34,7 @@ pub struct Cell {
     pub advance: f64,
     pub job: Job,
     pub colored: Colored,
+    pub fill: Fill,
     pub frame: Frame,
     /// Its first pixel in the sheet, from the left.
     pub x: usize,
@@ -75,8 +75,8 @@ impl Settings {
         let seed = glyph_seed(self.strategy, self.seed, place);
         let job = job(source::outline(&glyph.shape), self.strategy, self.angle.sin(), seed)?;
         let colored = job.color()?;
-        let frame = Frame::new(&glyph.shape, self.size / units_per_em, self.pxrange);
-        Ok(Cell { name: glyph.name, advance: glyph.advance, job, colored, frame, x: 0, y: 0 })
+        let frame = Frame::new(&glyph.shape, self.size / units_per_em, self.drawing.pxrange);
+        Ok(Cell { name: glyph.name, advance: glyph.advance, job, colored, fill: glyph.fill, frame, x: 0, y: 0 })
     }
 
     /// Packs glyphs that are coloured and draws their fields, with a call of `each` after each; none where no sheet holds them.
@@ -84,7 +84,7 @@ impl Settings {
         let sizes: Vec<_> = cells.iter().map(|cell| (cell.frame.width, cell.frame.height)).collect();
         let Packing { side, places } = pack(&sizes)?;
         let draw = |cell: &Cell| {
-            let pixels = pixels(&cell.colored, &cell.frame, self.pxrange);
+            let pixels = self.drawing.pixels(&cell.colored, &cell.fill, &cell.frame);
             each();
             pixels
         };
@@ -97,19 +97,8 @@ impl Settings {
                 image.pixels[start..start + pixels.len()].copy_from_slice(pixels);
             }
         }
-        Some(Sheet { size: self.size, pxrange: self.pxrange, cells, image })
+        Some(Sheet { size: self.size, pxrange: self.drawing.pxrange, cells, image })
     }
-}
-
-/// A glyph's field as bytes, by rows from the top: 0 from half a range outside on, 255 from half a range inside on.
-pub fn pixels(colored: &Colored, frame: &Frame, pxrange: f64) -> Vec<[u8; 3]> {
-    let field = Field::new(colored);
-    let value = |distance: f64| (distance * frame.scale / pxrange + 0.5).clamp(0.0, 1.0);
-    let pixel = |x: usize, y: usize| field.at(frame.point(x as f64 + 0.5, y as f64 + 0.5)).map(value);
-    let places = (0..frame.height).rev().flat_map(|y| (0..frame.width).map(move |x| (x, y)));
-    let mut values: Vec<[f64; 3]> = places.map(|(x, y)| pixel(x, y)).collect();
-    correct(&mut values, frame.width, pxrange);
-    values.into_iter().map(|value| value.map(|v| (255.0 * v).round() as u8)).collect()
 }
 
 #[cfg(test)]

@@ -235,6 +235,44 @@ fn options_change_the_colors() {
     }
 }
 
+/// Each mode draws another sheet than without correction, and the names of msdf-atlas-gen are known.
+#[test]
+fn modes_of_correction() {
+    let folder = Folder::new("modes_of_correction");
+    let sheet = |options: &[&str]| {
+        let common = ["--chars", "K..T", "--size", "20", "--pxrange", "4", "--imageout", "sheet.png"];
+        let output = with_font(&folder, &[options, &common].concat());
+        assert_eq!((output.status.code(), lines(&output)), (Some(0), vec![]), "{options:?}");
+        fs::read(folder.file("sheet.png")).unwrap()
+    };
+    let preset = sheet(&[]);
+    let same: [&[&str]; 5] = [
+        &["--errorcorrection", "auto-mixed"],
+        &["--errorcorrection", "auto"],
+        &["--overlap", "--scanline"],
+        &["--noscanline", "--scanline"],
+        &["--errordeviationratio", "1.1111111111111112", "--errorimproveratio", "1.1111111111111112"],
+    ];
+    same.iter().for_each(|options| assert_eq!(sheet(options), preset, "{options:?}"));
+    let disabled = sheet(&["--errorcorrection", "disabled"]);
+    for mode in ["auto-mixed", "auto-fast", "auto-full", "edge-fast", "edge-full", "distance-fast", "distance-full"] {
+        assert_ne!(sheet(&["--errorcorrection", mode]), disabled, "{mode}");
+    }
+}
+
+/// A font's ✦ has its contour the other way round than its letters; A and ✦ are drawn back as they are.
+#[test]
+fn either_way_round() {
+    let folder = Folder::new("either_way_round");
+    let output = with_font(&folder, &["--chars", "0x2726", "--size", "32", "--pxrange", "4", "--imageout", "sheet.png"]);
+    assert_eq!(output.status.code(), Some(0));
+    let (width, _, field) = picture::<3>(&folder.file("sheet.png"));
+    let inside = |pixel: &[u8; 3]| median(pixel[0].into(), pixel[1].into(), pixel[2].into()) > 127.5;
+    assert!(!inside(&field[0]), "a corner of the box");
+    let part = field.iter().filter(|pixel| inside(pixel)).count() as f64 / f64::from(width * width);
+    assert!(part > 0.1 && part < 0.5, "{part} is inside");
+}
+
 /// The snowman has 543 edges.
 #[test]
 fn a_refused_glyph() {
@@ -287,6 +325,9 @@ fn help() {
     {
         assert!(text.contains(&format!("--{option}")), "{option}");
     }
+    for option in ["errorcorrection", "errordeviationratio", "errorimproveratio", "nooverlap", "noscanline"] {
+        assert!(text.contains(&format!("--{option}")), "{option}");
+    }
 }
 
 /// One line on standard error, status 2, and nothing written.
@@ -328,6 +369,8 @@ fn bad_input() {
         &["--font", &font, "--size", "large"],
         &["--font", &font, "--pxrange", "0"],
         &["--font", &font, "--pxrange", "inf"],
+        &["--font", &font, "--errorcorrection", "some"],
+        &["--font", &font, "--errordeviationratio", "0.5"],
         &["--font", &font, "--threads", "-1"],
         &["--font", &font, "--threads", "0.5"],
         &["--font", &font, "--threads", "257"],
