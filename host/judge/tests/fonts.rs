@@ -4,7 +4,7 @@ use judge::wrong::{Sheet, measure};
 use merelsplum::job::Strategy;
 use sheet::draw::Drawing;
 use sheet::font::{Font, Name};
-use sheet::json::describe;
+use sheet::json::{YOrigin, describe};
 use sheet::sheet::Settings;
 use std::process::Command;
 
@@ -20,10 +20,17 @@ fn file(package: &str, end: &str) -> Vec<u8> {
 
 /// A sheet as it is preset.
 fn draw(font: &Font, names: &[Name], size: f64) -> sheet::sheet::Sheet {
-    let settings = Settings { strategy: Strategy::InkTrap, angle: 3.0, seed: 0, size, drawing: Drawing::new(PXRANGE) };
+    let settings =
+        Settings { strategy: Strategy::InkTrap, angle: 3.0, seed: 0, size, drawing: Drawing::new(PXRANGE), standins: true };
     let glyphs = names.iter().enumerate().filter_map(|(place, &name)| Some((place, font.glyph(name)?)));
     let color = |(place, glyph)| settings.color(glyph, place, font.units_per_em()).ok();
-    settings.draw(glyphs.filter_map(color).collect(), || ()).unwrap()
+    let mut sheet = settings.lay_out(glyphs.filter_map(color).collect()).unwrap();
+    settings.draw(&mut sheet, || ());
+    sheet
+}
+
+fn colors(sheet: &sheet::sheet::Sheet) -> Vec<[u8; 3]> {
+    sheet.image.pixels.iter().map(|&[r, g, b, _]| [r, g, b]).collect()
 }
 
 /// No glyph has more than half a pixel wrong, and all together have no more than the limit for each size.
@@ -32,12 +39,12 @@ fn check(file: &[u8], names: impl Fn(&Font) -> Vec<Name>, limits: &[(f64, f64)])
     for &(size, limit) in limits {
         let names = names(&font);
         let sheet = draw(&font, &names, size);
-        let json = serde_json::from_str(&describe(&font, &sheet)).unwrap();
-        let drawn = Sheet { width: sheet.image.side, pixels: &sheet.image.pixels, json: &json };
-        let wrong = measure(&drawn, file).unwrap();
+        let json = serde_json::from_str(&describe(&font, &sheet, YOrigin::Bottom)).unwrap();
+        let wrong = measure(&Sheet { width: sheet.image.side, pixels: &colors(&sheet), json: &json }, file).unwrap();
         let total: f64 = wrong.iter().map(|glyph| glyph.pixels).sum();
         println!("{size} pixels an em: {total:.3} wrong pixels in {} glyphs", wrong.len());
-        assert!(10 * wrong.len() >= 9 * names.len() - 60, "{} of {}", wrong.len(), names.len());
+        assert_eq!(wrong.len(), sheet.cells.iter().filter(|cell| !cell.frame.is_empty()).count());
+        assert_eq!(sheet.cells.len(), names.len(), "none is left out");
         if let Some(glyph) = wrong.iter().find(|glyph| glyph.pixels > 0.5) {
             panic!("{} at {size} pixels an em: {} wrong pixels", glyph.name, glyph.pixels);
         }
@@ -89,12 +96,12 @@ fn faults_are_found() {
     let file = file("fonts-dejavu-core", "/DejaVuSans.ttf");
     let font = Font::new(&file).unwrap();
     let sheet = draw(&font, &[Name::Character('█')], 32.0);
-    let json = serde_json::from_str(&describe(&font, &sheet)).unwrap();
+    let json = serde_json::from_str(&describe(&font, &sheet, YOrigin::Bottom)).unwrap();
     let side = sheet.image.side;
     let wrong = |pixels: &[[u8; 3]]| measure(&Sheet { width: side, pixels, json: &json }, &file).unwrap()[0].pixels;
-    assert_eq!(wrong(&sheet.image.pixels), 0.0);
+    assert_eq!(wrong(&colors(&sheet)), 0.0);
     let (height, width) = (sheet.cells[0].frame.height, sheet.cells[0].frame.width);
-    let mut pixels = sheet.image.pixels.clone();
+    let mut pixels = colors(&sheet);
     pixels[height / 2 * side + width / 2] = [0; 3];
     let hole = wrong(&pixels);
     assert!(hole > 0.25 && hole < 4.0, "{hole}");

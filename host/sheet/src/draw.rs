@@ -13,9 +13,43 @@ use rayon::prelude::*;
 /// The side of the squares that pixels are measured in.
 const SQUARE: usize = 4;
 
+/// The kinds of fields, named as in msdf-atlas-gen.
+#[derive(Clone, Copy, Debug, PartialEq, Eq)]
+pub enum Type {
+    /// The true distance.
+    Sdf,
+    /// The distance, perpendicular beyond the ends of edges.
+    Psdf,
+    /// A distance in each of three channels.
+    Msdf,
+    /// Those three, and the true distance in a fourth.
+    Mtsdf,
+}
+
+impl Type {
+    pub fn name(self) -> &'static str {
+        match self {
+            Type::Sdf => "sdf",
+            Type::Psdf => "psdf",
+            Type::Msdf => "msdf",
+            Type::Mtsdf => "mtsdf",
+        }
+    }
+
+    /// How many channels a pixel has.
+    pub fn channels(self) -> usize {
+        match self {
+            Type::Sdf | Type::Psdf => 1,
+            Type::Msdf => 3,
+            Type::Mtsdf => 4,
+        }
+    }
+}
+
 /// How fields are drawn.
 #[derive(Clone, Copy, Debug)]
 pub struct Drawing {
+    pub kind: Type,
     /// How many pixels the field goes from 0 to 1 in.
     pub pxrange: f64,
     /// Whether contours that overlap are joined.
@@ -28,17 +62,43 @@ pub struct Drawing {
 impl Drawing {
     /// As it is preset, at some range.
     pub fn new(pxrange: f64) -> Drawing {
-        Drawing { pxrange, overlap: true, scanline: true, correction: Correction::default() }
+        Drawing { kind: Type::Msdf, pxrange, overlap: true, scanline: true, correction: Correction::default() }
     }
 
-    /// A glyph's field, by rows from the top: 0.5 on the outline, 0 half a range outside, 1 half a range inside. `fill`
-    /// is what the font draws.
-    pub fn values(&self, colored: &Colored, fill: &Fill, frame: &Frame) -> Vec<[f64; 3]> {
+    /// A glyph's field, by rows from the top: red, green, blue, and the true distance, which stands in all four where
+    /// the field has one channel. 0.5 is on the outline, 0 half a range outside, 1 half a range inside. `fill` is what
+    /// the font draws.
+    pub fn values(&self, colored: &Colored, fill: &Fill, frame: &Frame) -> Vec<[f64; 4]> {
         let field = Field::with(colored, self.overlap, true);
-        let mut values = self.measured(frame, || field.channels());
+        match self.kind {
+            Type::Sdf => self.single(fill, frame, || field.distance()).into_iter().map(|[value]| [value; 4]).collect(),
+            Type::Psdf => self.single(fill, frame, || field.perpendicular()).into_iter().map(|[value]| [value; 4]).collect(),
+            Type::Msdf => self.colors(&field, colored, fill, frame).into_iter().map(|[r, g, b]| [r, g, b, 1.0]).collect(),
+            Type::Mtsdf => {
+                let alpha = self.single(fill, frame, || field.distance());
+                let colors = self.colors(&field, colored, fill, frame);
+                colors.into_iter().zip(alpha).map(|([r, g, b], [a])| [r, g, b, a]).collect()
+            }
+        }
+    }
+
+    /// Distances of one kind, held to the fill.
+    fn single<'a, const N: usize>(
+        &self,
+        fill: &Fill,
+        frame: &Frame,
+        measure: impl Fn() -> Measure<'a, N> + Sync,
+    ) -> Vec<[f64; N]> {
+        let mut values = self.measured(frame, measure);
         if self.scanline {
             sign::correct(&mut values, frame, fill);
         }
+        values
+    }
+
+    /// The three channels, corrected.
+    fn colors(&self, field: &Field, colored: &Colored, fill: &Fill, frame: &Frame) -> Vec<[f64; 3]> {
+        let mut values = self.single(fill, frame, || field.channels());
         if self.correction.mode == Mode::Disabled {
             return values;
         }
@@ -61,7 +121,7 @@ impl Drawing {
     }
 
     /// The same as bytes.
-    pub fn pixels(&self, colored: &Colored, fill: &Fill, frame: &Frame) -> Vec<[u8; 3]> {
+    pub fn pixels(&self, colored: &Colored, fill: &Fill, frame: &Frame) -> Vec<[u8; 4]> {
         self.values(colored, fill, frame).into_iter().map(|value| value.map(byte)).collect()
     }
 

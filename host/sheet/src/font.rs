@@ -1,10 +1,10 @@
 //! A font's glyphs, their outlines read by ttf-parser.
 
+use crate::kerning::Kerning;
 use crate::source::{Contour, EdgeSegment, Shape, Vector2, cross};
 use crate::winding::{Fill, orient};
 use std::fmt;
-use ttf_parser::kern::{Format, Subtable};
-use ttf_parser::{Face, GlyphId, OutlineBuilder};
+use ttf_parser::{Face, GlyphId, OutlineBuilder, Tag};
 
 /// What a glyph is called: by its character, or by its place in the font.
 #[derive(Clone, Copy, Debug, PartialEq, Eq)]
@@ -46,13 +46,33 @@ pub struct Font<'a> {
 }
 
 impl<'a> Font<'a> {
+    /// The first face of a file.
     pub fn new(file: &'a [u8]) -> Result<Font<'a>, String> {
-        let face = Face::from_slice(file, 0).map_err(|error| format!("not a font ({error})"))?;
+        Font::face(file, 0)
+    }
+
+    /// A face of a file, which may be a collection.
+    pub fn face(file: &'a [u8], number: u32) -> Result<Font<'a>, String> {
+        let count = ttf_parser::fonts_in_collection(file).unwrap_or(1);
+        if number >= count {
+            return Err(format!("no face {number}: there are {count}, counted from 0"));
+        }
+        let face = Face::from_slice(file, number).map_err(|error| format!("not a font ({error})"))?;
         let tables = face.tables();
         if tables.glyf.is_none() && tables.cff.is_none() && tables.cff2.is_none() {
             return Err("a font without outlines".to_owned());
         }
         Ok(Font { face })
+    }
+
+    /// Sets an axis of a variable font, by its tag of four letters.
+    pub fn vary(&mut self, tag: &str, value: f64) -> Result<(), String> {
+        let known: Vec<String> = self.face.variation_axes().into_iter().map(|axis| axis.tag.to_string()).collect();
+        let bytes: Option<[u8; 4]> = tag.as_bytes().try_into().ok();
+        let set = bytes.and_then(|bytes| self.face.set_variation(Tag::from_bytes(&bytes), value as f32));
+        set.ok_or_else(|| {
+            format!("no axis {tag}: there are {}", if known.is_empty() { "none".to_owned() } else { known.join(" ") })
+        })
     }
 
     pub fn units_per_em(&self) -> f64 {
@@ -86,9 +106,7 @@ impl<'a> Font<'a> {
         if read.is_none() && shape.edge_count() > 0 {
             return None;
         }
-        let fill = Fill::new(&shape);
-        orient(&mut shape);
-        shape.normalize();
+        let fill = prepare(&mut shape);
         Some(Glyph { name, advance: self.face.glyph_hor_advance(id).unwrap_or(0).into(), shape, fill })
     }
 
@@ -109,20 +127,11 @@ impl<'a> Font<'a> {
     /// The pairs of these glyphs that go nearer or further apart, and by how much, in units.
     pub fn kerning(&self, names: &[Name]) -> Vec<(Name, Name, f64)> {
         let ids: Vec<(Name, GlyphId)> = names.iter().filter_map(|&name| Some((name, self.id(name)?))).collect();
-        let tables = self.face.tables().kern.into_iter().flat_map(|kern| kern.subtables);
-        let plain = |t: &Subtable| t.horizontal && !t.variable && !t.has_state_machine && !t.has_cross_stream;
-        let tables: Vec<Subtable> = tables.filter(plain).collect();
-        // only a list of pairs shows what it has nothing for
-        let kerns = |left: GlyphId| {
-            tables.iter().any(|table| match table.format {
-                Format::Format0(list) => list.pairs.into_iter().any(|pair| pair.left() == left),
-                _ => true,
-            })
-        };
+        let kerning = Kerning::new(&self.face);
         let mut pairs = Vec::new();
-        for &(first, left) in ids.iter().filter(|(_, id)| kerns(*id)) {
+        for &(first, left) in ids.iter().filter(|(_, id)| kerning.has(*id)) {
             for &(second, right) in &ids {
-                let units = tables.iter().filter_map(|table| table.glyphs_kerning(left, right)).map(f64::from).sum();
+                let units = kerning.pair(left, right);
                 if units != 0.0 {
                     pairs.push((first, second, units));
                 }
@@ -130,6 +139,14 @@ impl<'a> Font<'a> {
         }
         pairs
     }
+}
+
+/// Turns the contours of a shape so that the inside is on their right, and pushes its cusps apart; what the font draws.
+fn prepare(shape: &mut Shape) -> Fill {
+    let fill = Fill::new(shape);
+    orient(shape);
+    shape.normalize();
+    fill
 }
 
 /// Collects the contours that a font draws. Edges of no length are dropped, and curves that are lines become lines.
@@ -203,6 +220,34 @@ mod tests {
         pen.close();
         let edge = EdgeSegment::cubic(v(0.0, 0.0), v(6.0, 6.0), v(-6.0, 6.0), v(0.0, 0.0));
         assert_eq!(pen.shape.contours[0].segments, [edge]);
+    }
+
+    /// Its two curves meet at the origin in a turn of 180 degrees, and inside is what the font draws, whichever way it
+    /// draws.
+    #[test]
+    fn a_cusp_is_pushed_apart() {
+        for reversed in [false, true] {
+            let mut pen = Pen::default();
+            pen.move_to(0.0, 0.0);
+            pen.quad_to(20.0, 0.0, 40.0, 20.0);
+            pen.line_to(40.0, -20.0);
+            pen.quad_to(20.0, 0.0, 0.0, 0.0);
+            pen.close();
+            let mut shape = pen.shape;
+            if reversed {
+                shape.contours[0].reverse();
+            }
+            let fill = prepare(&mut shape);
+            let edges = &shape.contours[0].segments;
+            let ways = |edge: &EdgeSegment| [-edge.direction(1.0), edge.direction(0.0)];
+            let from_origin = edges.iter().flat_map(|edge| {
+                [edge.point(1.0), edge.point(0.0)].into_iter().zip(ways(edge)).filter(|(point, _)| *point == Vector2::ZERO)
+            });
+            let mut heights: Vec<f64> = from_origin.map(|(_, way)| way.y).collect();
+            heights.sort_by(f64::total_cmp);
+            assert!(heights.len() == 2 && heights[0] < 0.0 && heights[1] > 0.0, "{heights:?}");
+            assert!(fill.inside(v(30.0, 0.0)) && !fill.inside(v(-1.0, 0.0)) && !fill.inside(v(30.0, 15.0)));
+        }
     }
 
     #[test]

@@ -44,7 +44,8 @@ pub fn segment(edge: &Edge) -> EdgeSegment {
     }
 }
 
-fn edge(segment: &EdgeSegment) -> Edge {
+/// An edge as the library has it.
+pub fn edge(segment: &EdgeSegment) -> Edge {
     let p = |v: Vector2| [v.x, v.y];
     match *segment {
         EdgeSegment::Line(v) => Edge::Line(v.map(p)),

@@ -4,7 +4,7 @@ mod common;
 
 use merelsplum::job::Strategy;
 use merelsplum::{Colored, EdgeColor};
-use sheet::draw::Drawing;
+use sheet::draw::{Drawing, Type};
 use sheet::field::Field;
 use sheet::font::{Font, Name};
 use sheet::frame::Frame;
@@ -19,7 +19,7 @@ const PXRANGE: f64 = 4.0;
 /// By how much of its area a glyph that is drawn back differs from its outline.
 fn error(colored: &Colored, fill: &Fill, frame: &Frame) -> f64 {
     let side = frame.width.max(frame.height);
-    let mut image = Image { side, pixels: vec![[0; 3]; side * side] };
+    let mut image = Image { kind: Type::Msdf, side, pixels: vec![[0; 4]; side * side] };
     for (row, line) in Drawing::new(PXRANGE).pixels(colored, fill, frame).chunks(frame.width).enumerate() {
         image.pixels[row * side..][..frame.width].copy_from_slice(line);
     }

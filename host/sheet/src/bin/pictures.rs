@@ -3,7 +3,7 @@
 
 use merelsplum::job::Strategy;
 use merelsplum::{Colored, EdgeColor};
-use sheet::draw::Drawing;
+use sheet::draw::{Drawing, Type};
 use sheet::field::{Field, middle};
 use sheet::font::{Font, Glyph, Name};
 use sheet::frame::Frame;
@@ -83,9 +83,10 @@ fn corners(font: &Font) -> Result<Canvas, String> {
                 let (across, down) = ((x as f64 + 0.5) / zoom, (y as f64 + 0.5) / zoom);
                 if across < frame.width as f64 && down < frame.height as f64 {
                     let inside = image.coverage(across, down, PXRANGE, zoom);
-                    let pixel = image.pixels[down as usize * image.side + across as usize];
+                    let [r, g, b, _] = image.pixels[down as usize * image.side + across as usize];
                     let row = y + MARGIN as usize;
-                    picture.pixels[row * 4 * PANEL + left + x] = if drawn_back { mix([255; 3], [0; 3], inside) } else { pixel };
+                    picture.pixels[row * 4 * PANEL + left + x] =
+                        if drawn_back { mix([255; 3], [0; 3], inside) } else { [r, g, b] };
                 }
             }
             caption(&mut picture, font, name, panel * PANEL + PANEL / 2)?;
@@ -101,9 +102,9 @@ fn fitted(font: &Font, glyph: &Glyph, size: f64, pxrange: f64) -> (Frame, f64) {
 }
 
 /// A field as the top left of a square picture.
-fn square(pixels: &[[u8; 3]], frame: &Frame) -> Image {
+fn square(pixels: &[[u8; 4]], frame: &Frame) -> Image {
     let side = frame.width.max(frame.height);
-    let mut image = Image { side, pixels: vec![[0; 3]; side * side] };
+    let mut image = Image { kind: Type::Msdf, side, pixels: vec![[0; 4]; side * side] };
     for (row, line) in pixels.chunks(frame.width).enumerate() {
         image.pixels[row * side..][..frame.width].copy_from_slice(line);
     }
