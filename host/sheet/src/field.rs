@@ -89,7 +89,7 @@ impl Field {
         let mut parts: Vec<Part> = Vec::new();
         let mut place = 0;
         let apart = overlap && overlaps(&shape);
-        for contour in &shape.contours {
+        for contour in shape.contours.iter().filter(|contour| !contour.is_empty()) {
             let edges = edges(contour, place);
             place += edges.len();
             match parts.first_mut() {
@@ -433,6 +433,22 @@ mod tests {
         assert_eq!(depth(&field, 3.5, 2.0), 0.5);
         assert_eq!(depth(&field, 5.0, 3.0), 2.0);
         assert_eq!(depth(&field, 8.0, 3.0), -1.0);
+    }
+
+    /// A contour without edges counts for nothing, alone, first, and between contours that overlap.
+    #[test]
+    fn empty_contours() {
+        let full = colored(&[(0.0, 0.0, 4.0), (3.0, 1.0, 4.0)]);
+        let with = |places: &[usize]| {
+            let mut colored = full.clone();
+            places.iter().for_each(|&place| colored.contours.insert(place, vec![]));
+            Field::new(&colored)
+        };
+        for (x, y) in [(3.5, 2.0), (5.0, 3.0), (8.0, 3.0), (-1.0, -1.0)] {
+            assert_eq!(depth(&with(&[0, 2, 4]), x, y), depth(&with(&[]), x, y));
+        }
+        let nothing = Field::new(&Colored { contours: vec![vec![]; 2] });
+        assert_eq!(depth(&nothing, 0.0, 0.0), f64::MIN);
     }
 
     /// The field is the same, to the bit, whether or not edges are left out that cannot be nearest: in each channel,
