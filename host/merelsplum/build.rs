@@ -7,7 +7,10 @@ fn main() {
     let repository = Path::new(env!("CARGO_MANIFEST_DIR")).join("../..");
     let folder = env::var_os("MERELSPLUM_LIB_DIR").map_or_else(|| repository.join("target/staticlib"), PathBuf::from);
     let library = folder.join("libcapi.a");
-    assert!(library.exists(), "{} is not there: run `rt staticlib capi`", library.display());
+    if !library.exists() {
+        println!("cargo::error=run `rt staticlib capi`: {} is not there", library.display());
+        return;
+    }
     println!("cargo:rerun-if-env-changed=MERELSPLUM_LIB_DIR");
     println!("cargo:rerun-if-changed={}", library.display());
     println!("cargo:rustc-link-search=native={}", folder.display());

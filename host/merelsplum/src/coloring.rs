@@ -21,8 +21,27 @@ fn color(outline: &Outline, entry: impl FnOnce(&ffi::Flat, &mut FlatResult) -> u
     Ok(colored(&out))
 }
 
+/// The threshold for an angle in radians from which a turn is a corner: its sine.
+///
+/// ```
+/// use merelsplum::{Outline, edge_coloring_simple, threshold};
+///
+/// let almost_straight = Outline::polygon(&[[0.0, 0.0], [4.0, 1.0], [8.0, 0.0], [4.0, 9.0]]);
+/// let colors = |angle: f64| edge_coloring_simple(&almost_straight, threshold(angle), 0);
+/// assert_ne!(colors(3.0)?, colors(1.6)?);
+/// # Ok::<(), merelsplum::Refusal>(())
+/// ```
+#[must_use]
+pub fn threshold(angle: f64) -> f64 {
+    angle.sin()
+}
+
 /// Goes round each contour and changes the colour at every corner. `threshold` is the sine of the angle from which a turn is a corner,
 /// -1 to 1; `seed` picks among colours that are as good as each other.
+///
+/// # Errors
+///
+/// [`Refusal::TooMany`], [`Refusal::BadThreshold`] or [`Refusal::BadCoordinate`].
 ///
 /// ```
 /// use merelsplum::{Outline, Refusal, edge_coloring_simple};
@@ -38,6 +57,10 @@ pub fn edge_coloring_simple(outline: &Outline, threshold: f64, seed: u64) -> Res
 
 /// As [`edge_coloring_simple`], but a spline that is shorter than both its neighbours, as at an ink trap, takes the colour that they leave
 /// over, and they change colours as if it was not there.
+///
+/// # Errors
+///
+/// As [`edge_coloring_simple`].
 ///
 /// ```
 /// use merelsplum::{Colored, EdgeColor::*, Outline, edge_coloring_ink_trap, edge_coloring_simple};
@@ -55,6 +78,10 @@ pub fn edge_coloring_ink_trap(outline: &Outline, threshold: f64, seed: u64) -> R
 /// Gives splines that are near each other different colours. `distances` has one for each pair i < j of the splines that
 /// [`collect_splines`] numbers, by i and then by j: finite, not below zero, and 0 where the two touch.
 ///
+/// # Errors
+///
+/// As [`edge_coloring_simple`], and [`Refusal::LengthMismatch`] or [`Refusal::BadDistance`].
+///
 /// ```
 /// use merelsplum::{EdgeColor::*, Outline, collect_splines, edge_coloring_by_distance};
 ///
@@ -71,6 +98,10 @@ pub fn edge_coloring_by_distance(outline: &Outline, threshold: f64, seed: u64, d
 }
 
 /// Cuts an outline into splines, for [`edge_coloring_by_distance`].
+///
+/// # Errors
+///
+/// As [`edge_coloring_simple`].
 ///
 /// ```
 /// use merelsplum::{Edge, Outline, collect_splines};

@@ -53,6 +53,10 @@ pub struct Job {
 impl Job {
     /// Reads a job file. How many splines there are, and whether the distances are as many as their pairs, is not looked at here:
     /// [`check`] does that.
+    ///
+    /// # Errors
+    ///
+    /// The first fault of the file.
     pub fn read(file: &[u8]) -> Result<Job, Refusal> {
         let outline = Flat { lengths: vec![0; MAX_CONTOURS], kinds: vec![0; MAX_EDGES], points: vec![0.0; 8 * MAX_EDGES] };
         let mut flat = FlatJob { outline, distances: vec![0.0; MAX_DISTANCES], numbers: [0; 6] };
@@ -77,6 +81,10 @@ impl Job {
     }
 
     /// Colours the outline by the job's strategy.
+    ///
+    /// # Errors
+    ///
+    /// What the colouring refuses.
     pub fn color(&self) -> Result<Colored, Refusal> {
         match self.strategy {
             Strategy::Simple => edge_coloring_simple(&self.outline, self.threshold, self.seed),
@@ -87,6 +95,7 @@ impl Job {
 
     /// The job as a file. Nothing is looked at: a job that cannot be coloured gives a file that is refused. This writer is plain Rust and
     /// not proved.
+    #[must_use]
     pub fn to_bytes(&self) -> Vec<u8> {
         let mut file = b"JB".to_vec();
         file.push(self.strategy as u8);
@@ -110,11 +119,19 @@ impl Job {
 }
 
 /// Whether a file is accepted: how many edges it has once coloured, or why it is refused.
+///
+/// # Errors
+///
+/// The first fault of the file.
 pub fn check(file: &[u8]) -> Result<usize, Refusal> {
     answer(ffi::job_check(file)).map(|edges| edges as usize)
 }
 
 /// Reads and colours a file.
+///
+/// # Errors
+///
+/// The first fault of the file.
 pub fn color(file: &[u8]) -> Result<Colored, Refusal> {
     let mut out = FlatResult::new(MAX_CONTOURS, MAX_RESULT_EDGES);
     answer(ffi::job_color(file, &mut out))?;
@@ -127,6 +144,7 @@ pub fn color(file: &[u8]) -> Result<Colored, Refusal> {
 /// ```
 /// assert_eq!(merelsplum::job::listing(b""), "refused 1\n");
 /// ```
+#[must_use]
 pub fn listing(file: &[u8]) -> String {
     let mut out = vec![0; MAX_LISTING_BYTES];
     let length = answer(ffi::job_listing(file, &mut out)).expect("every listing fits");
@@ -143,6 +161,7 @@ pub fn listing(file: &[u8]) -> String {
 /// assert_eq!(contour_part(file, 1), b"CT");
 /// assert_eq!(contour_part(file, 2), b"");
 /// ```
+#[must_use]
 pub fn contour_part(file: &[u8], contour: usize) -> &[u8] {
     let part = ffi::job_contour_part(file, contour);
     let (start, length) = (part as u32 as usize, (part >> 32) as usize);

@@ -33,7 +33,7 @@ mod outline;
 mod refusal;
 mod spline_table;
 
-pub use coloring::{collect_splines, edge_coloring_by_distance, edge_coloring_ink_trap, edge_coloring_simple};
+pub use coloring::{collect_splines, edge_coloring_by_distance, edge_coloring_ink_trap, edge_coloring_simple, threshold};
 pub use outline::{Collected, Colored, Edge, EdgeColor, Outline, Point};
 pub use refusal::Refusal;
 pub use spline_table::{Offer, SplineTable};

@@ -54,6 +54,7 @@ pub struct Collected {
 
 impl Edge {
     /// Its control points.
+    #[must_use]
     pub fn points(&self) -> &[Point] {
         match self {
             Edge::Line(points) => points,
@@ -92,6 +93,7 @@ impl EdgeColor {
     ];
 
     /// 1 for red, 2 for green and 4 for blue, added up.
+    #[must_use]
     pub fn bits(self) -> u8 {
         self as u8
     }
@@ -102,6 +104,7 @@ impl EdgeColor {
     /// # use merelsplum::EdgeColor;
     /// assert_eq!([0, 1, 2].map(|channel| EdgeColor::Yellow.has_channel(channel)), [true, true, false]);
     /// ```
+    #[must_use]
     pub fn has_channel(self, channel: usize) -> bool {
         channel < 3 && self.bits() >> channel & 1 == 1
     }
@@ -113,6 +116,7 @@ impl EdgeColor {
 
 impl Outline {
     /// One closed contour of lines through these points.
+    #[must_use]
     pub fn polygon(points: &[Point]) -> Outline {
         let next = points.iter().cycle().skip(1);
         Outline { contours: vec![points.iter().zip(next).map(|(&a, &b)| Edge::Line([a, b])).collect()] }

@@ -3,6 +3,7 @@ use std::fmt;
 
 /// Why a call is refused. Of several reasons the first that applies is given.
 #[derive(Clone, Copy, Debug, PartialEq, Eq, Hash)]
+#[non_exhaustive]
 pub enum Refusal {
     /// 1: a file ends inside a record or before `EN`.
     Truncated = 1,
@@ -51,11 +52,13 @@ impl Refusal {
     /// assert_eq!(Refusal::TooMany.number(), 4);
     /// assert!(Refusal::ALL.iter().zip(1..).all(|(refusal, number)| refusal.number() == number));
     /// ```
+    #[must_use]
     pub fn number(self) -> u8 {
         self as u8
     }
 
     /// The refusal of a number.
+    #[must_use]
     pub fn from_number(number: u8) -> Option<Refusal> {
         Self::ALL.get((number as usize).wrapping_sub(1)).copied()
     }
@@ -71,6 +74,7 @@ impl Refusal {
     /// # use merelsplum::Refusal;
     /// assert_eq!(Refusal::TooMany.word(), "overfull");
     /// ```
+    #[must_use]
     pub fn word(self) -> &'static str {
         match self {
             Refusal::Truncated => "torn",

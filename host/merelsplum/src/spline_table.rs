@@ -25,32 +25,41 @@ pub struct SplineTable {
 
 impl SplineTable {
     /// Splines of these colours, 0, 1 or 2 (Yellow, Cyan, Magenta), with no pair kept.
+    #[must_use]
     pub fn new(colors: &[u8]) -> SplineTable {
         SplineTable { colors: colors.to_vec(), pairs: vec![0; colors.len() * colors.len()] }
     }
 
     /// With a table of pairs by rows, 1 where a pair is kept. The table is looked at when an offer is made, and not here.
+    #[must_use]
     pub fn from_parts(colors: Vec<u8>, pairs: Vec<u8>) -> SplineTable {
         SplineTable { colors, pairs }
     }
 
     /// The splines' colours.
+    #[must_use]
     pub fn colors(&self) -> &[u8] {
         &self.colors
     }
 
     /// The table of pairs, by rows.
+    #[must_use]
     pub fn pairs(&self) -> &[u8] {
         &self.pairs
     }
 
     /// Whether the pair of `a` and `b` is kept; false where one is out of range.
+    #[must_use]
     pub fn is_kept(&self, a: usize, b: usize) -> bool {
         let n = self.colors.len();
         a < n && b < n && self.pairs.get(a * n + b).is_some_and(|&entry| entry != 0)
     }
 
     /// Offers to keep `a` and `b` apart. Colours are changed as needed; where that does not end within some steps, the offer is declined.
+    ///
+    /// # Errors
+    ///
+    /// [`Refusal::TooMany`] above 64 splines, [`Refusal::LengthMismatch`] or [`Refusal::BadTable`].
     ///
     /// ```
     /// use merelsplum::{Offer, Refusal, SplineTable};

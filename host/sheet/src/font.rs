@@ -1,9 +1,10 @@
 //! A font's glyphs, their outlines read by ttf-parser.
 
-use crate::source::{Bounds, Contour, EdgeSegment, Shape, SignedDistance, Vector2};
+use crate::kerning::Kerning;
+use crate::source::{Contour, EdgeSegment, Shape, Vector2, cross};
+use crate::winding::{Fill, orient};
 use std::fmt;
-use ttf_parser::kern::{Format, Subtable};
-use ttf_parser::{Face, GlyphId, OutlineBuilder};
+use ttf_parser::{Face, GlyphId, OutlineBuilder, Tag};
 
 /// What a glyph is called: by its character, or by its place in the font.
 #[derive(Clone, Copy, Debug, PartialEq, Eq)]
@@ -25,7 +26,10 @@ impl fmt::Display for Name {
 pub struct Glyph {
     pub name: Name,
     pub advance: f64,
+    /// Its contours with the inside on their right, and its cusps pushed apart.
     pub shape: Shape,
+    /// What the font draws.
+    pub fill: Fill,
 }
 
 /// Lengths that belong to the font as a whole, in ems.
@@ -42,13 +46,33 @@ pub struct Font<'a> {
 }
 
 impl<'a> Font<'a> {
+    /// The first face of a file.
     pub fn new(file: &'a [u8]) -> Result<Font<'a>, String> {
-        let face = Face::from_slice(file, 0).map_err(|error| format!("not a font ({error})"))?;
+        Font::face(file, 0)
+    }
+
+    /// A face of a file, which may be a collection.
+    pub fn face(file: &'a [u8], number: u32) -> Result<Font<'a>, String> {
+        let count = ttf_parser::fonts_in_collection(file).unwrap_or(1);
+        if number >= count {
+            return Err(format!("no face {number}: there are {count}, counted from 0"));
+        }
+        let face = Face::from_slice(file, number).map_err(|error| format!("not a font ({error})"))?;
         let tables = face.tables();
         if tables.glyf.is_none() && tables.cff.is_none() && tables.cff2.is_none() {
             return Err("a font without outlines".to_owned());
         }
         Ok(Font { face })
+    }
+
+    /// Sets an axis of a variable font, by its tag of four letters.
+    pub fn vary(&mut self, tag: &str, value: f64) -> Result<(), String> {
+        let known: Vec<String> = self.face.variation_axes().into_iter().map(|axis| axis.tag.to_string()).collect();
+        let bytes: Option<[u8; 4]> = tag.as_bytes().try_into().ok();
+        let set = bytes.and_then(|bytes| self.face.set_variation(Tag::from_bytes(&bytes), value as f32));
+        set.ok_or_else(|| {
+            format!("no axis {tag}: there are {}", if known.is_empty() { "none".to_owned() } else { known.join(" ") })
+        })
     }
 
     pub fn units_per_em(&self) -> f64 {
@@ -71,7 +95,8 @@ impl<'a> Font<'a> {
         }
     }
 
-    /// A glyph's outline; none where there is no such glyph or its outline is damaged, and empty where it has nothing to draw.
+    /// A glyph's outline; none where there is no such glyph or its outline is damaged, and empty where it has nothing
+    /// to draw.
     pub fn glyph(&self, name: Name) -> Option<Glyph> {
         let id = self.id(name)?;
         let mut pen = Pen::default();
@@ -81,8 +106,8 @@ impl<'a> Font<'a> {
         if read.is_none() && shape.edge_count() > 0 {
             return None;
         }
-        orient(&mut shape);
-        Some(Glyph { name, advance: self.face.glyph_hor_advance(id).unwrap_or(0).into(), shape })
+        let fill = prepare(&mut shape);
+        Some(Glyph { name, advance: self.face.glyph_hor_advance(id).unwrap_or(0).into(), shape, fill })
     }
 
     pub fn metrics(&self) -> Metrics {
@@ -102,20 +127,11 @@ impl<'a> Font<'a> {
     /// The pairs of these glyphs that go nearer or further apart, and by how much, in units.
     pub fn kerning(&self, names: &[Name]) -> Vec<(Name, Name, f64)> {
         let ids: Vec<(Name, GlyphId)> = names.iter().filter_map(|&name| Some((name, self.id(name)?))).collect();
-        let tables = self.face.tables().kern.into_iter().flat_map(|kern| kern.subtables);
-        let plain = |t: &Subtable| t.horizontal && !t.variable && !t.has_state_machine && !t.has_cross_stream;
-        let tables: Vec<Subtable> = tables.filter(plain).collect();
-        // only a list of pairs shows what it has nothing for
-        let kerns = |left: GlyphId| {
-            tables.iter().any(|table| match table.format {
-                Format::Format0(list) => list.pairs.into_iter().any(|pair| pair.left() == left),
-                _ => true,
-            })
-        };
+        let kerning = Kerning::new(&self.face);
         let mut pairs = Vec::new();
-        for &(first, left) in ids.iter().filter(|(_, id)| kerns(*id)) {
+        for &(first, left) in ids.iter().filter(|(_, id)| kerning.has(*id)) {
             for &(second, right) in &ids {
-                let units = tables.iter().filter_map(|table| table.glyphs_kerning(left, right)).map(f64::from).sum();
+                let units = kerning.pair(left, right);
                 if units != 0.0 {
                     pairs.push((first, second, units));
                 }
@@ -123,6 +139,14 @@ impl<'a> Font<'a> {
         }
         pairs
     }
+}
+
+/// Turns the contours of a shape so that the inside is on their right, and pushes its cusps apart; what the font draws.
+fn prepare(shape: &mut Shape) -> Fill {
+    let fill = Fill::new(shape);
+    orient(shape);
+    shape.normalize();
+    fill
 }
 
 /// Collects the contours that a font draws. Edges of no length are dropped, and curves that are lines become lines.
@@ -147,6 +171,14 @@ fn v(x: f32, y: f32) -> Vector2 {
     Vector2::new(x.into(), y.into())
 }
 
+/// A cubic as docs/src makes it, but one whose control points are at one place is no line for that.
+fn cubic(p0: Vector2, p1: Vector2, p2: Vector2, p3: Vector2) -> EdgeSegment {
+    if p1 == p2 && cross(p1 - p0, p3 - p2) != 0.0 {
+        return EdgeSegment::Cubic([p0, p1, p2, p3]);
+    }
+    EdgeSegment::cubic(p0, p1, p2, p3)
+}
+
 impl OutlineBuilder for Pen {
     fn move_to(&mut self, x: f32, y: f32) {
         self.shape.add_contour(Contour::new());
@@ -163,7 +195,7 @@ impl OutlineBuilder for Pen {
     }
 
     fn curve_to(&mut self, x1: f32, y1: f32, x2: f32, y2: f32, x: f32, y: f32) {
-        self.add(EdgeSegment::cubic(self.at, v(x1, y1), v(x2, y2), v(x, y)), v(x, y));
+        self.add(cubic(self.at, v(x1, y1), v(x2, y2), v(x, y)), v(x, y));
     }
 
     fn close(&mut self) {
@@ -171,25 +203,6 @@ impl OutlineBuilder for Pen {
         if self.shape.contours.last().is_some_and(Contour::is_empty) {
             self.shape.contours.pop();
         }
-    }
-}
-
-/// Turns every contour round where the outside would count as inside: fonts draw either way.
-fn orient(shape: &mut Shape) {
-    if shape.contours.is_empty() {
-        return;
-    }
-    let Bounds { l, b, r, t } = shape.get_bounds(0.0);
-    let outside = Vector2::new(l - (r - l) - 1.0, b - (t - b) - 1.0);
-    let mut nearest = SignedDistance::default();
-    for edge in shape.contours.iter().flat_map(|contour| &contour.segments) {
-        let (distance, _) = edge.signed_distance(outside);
-        if distance.is_closer_than(nearest) {
-            nearest = distance;
-        }
-    }
-    if nearest.distance > 0.0 {
-        shape.contours.iter_mut().for_each(Contour::reverse);
     }
 }
 
@@ -207,6 +220,43 @@ mod tests {
         pen.close();
         let edge = EdgeSegment::cubic(v(0.0, 0.0), v(6.0, 6.0), v(-6.0, 6.0), v(0.0, 0.0));
         assert_eq!(pen.shape.contours[0].segments, [edge]);
+    }
+
+    /// Its two curves meet at the origin in a turn of 180 degrees, and inside is what the font draws, whichever way it
+    /// draws.
+    #[test]
+    fn a_cusp_is_pushed_apart() {
+        for reversed in [false, true] {
+            let mut pen = Pen::default();
+            pen.move_to(0.0, 0.0);
+            pen.quad_to(20.0, 0.0, 40.0, 20.0);
+            pen.line_to(40.0, -20.0);
+            pen.quad_to(20.0, 0.0, 0.0, 0.0);
+            pen.close();
+            let mut shape = pen.shape;
+            if reversed {
+                shape.contours[0].reverse();
+            }
+            let fill = prepare(&mut shape);
+            let edges = &shape.contours[0].segments;
+            let ways = |edge: &EdgeSegment| [-edge.direction(1.0), edge.direction(0.0)];
+            let from_origin = edges.iter().flat_map(|edge| {
+                [edge.point(1.0), edge.point(0.0)].into_iter().zip(ways(edge)).filter(|(point, _)| *point == Vector2::ZERO)
+            });
+            let mut heights: Vec<f64> = from_origin.map(|(_, way)| way.y).collect();
+            heights.sort_by(f64::total_cmp);
+            assert!(heights.len() == 2 && heights[0] < 0.0 && heights[1] > 0.0, "{heights:?}");
+            assert!(fill.inside(v(30.0, 0.0)) && !fill.inside(v(-1.0, 0.0)) && !fill.inside(v(30.0, 15.0)));
+        }
+    }
+
+    #[test]
+    fn control_points_at_one_place() {
+        let points = [v(0.0, 0.0), v(3.0, 5.0), v(3.0, 5.0), v(6.0, 0.0)];
+        let [p0, p1, p2, p3] = points;
+        assert_eq!(cubic(p0, p1, p2, p3), EdgeSegment::Cubic(points));
+        let [p0, p1, p2, p3] = [v(0.0, 0.0), v(2.0, 2.0), v(2.0, 2.0), v(6.0, 6.0)];
+        assert_eq!(cubic(p0, p1, p2, p3), EdgeSegment::Line([p0, p3]));
     }
 
     #[test]

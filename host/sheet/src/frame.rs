@@ -36,6 +36,17 @@ impl Frame {
         Vector2::new(x, y) / self.scale - self.translate
     }
 
+    /// The point in the middle of a pixel, the rows counted from the top.
+    pub fn middle(&self, x: usize, row: usize) -> Vector2 {
+        self.point(x as f64 + 0.5, (self.height - row) as f64 - 0.5)
+    }
+
+    /// A box at the font's origin with a pixel a unit.
+    #[cfg(test)]
+    pub fn at_origin(width: usize, height: usize) -> Frame {
+        Frame { width, height, scale: 1.0, translate: Vector2::ZERO }
+    }
+
     /// The place in pixels of a point of the font.
     pub fn place(&self, point: Vector2) -> Vector2 {
         (point + self.translate) * self.scale

@@ -5,21 +5,25 @@ mod options;
 use clap::Parser;
 use clap::error::ErrorKind;
 use indicatif::{ProgressBar, ProgressStyle};
+use merelsplum::Refusal;
 use options::Options;
 use rayon::prelude::*;
 use sheet::font::{Font, Name};
 use sheet::output::Outputs;
 use sheet::pack::MAX_SIDE;
 use sheet::sheet::{Cell, Sheet};
-use sheet::{json, picture};
-use std::fs;
-use std::io::{self, Write};
+use sheet::{json, picture, standin};
+use std::env;
+use std::fs::File;
+use std::io::{self, Read, Write};
+use std::path::Path;
 use std::process::ExitCode;
+use std::time::Instant;
 
 fn main() -> ExitCode {
-    match Options::try_parse().map_err(|error| (error.kind(), error)) {
+    match Options::try_parse_from(env::args_os().map(options::two_dashes)).map_err(|error| (error.kind(), error)) {
         Ok(options) => match run(&options) {
-            Ok(refused) => ExitCode::from(u8::from(refused > 0)),
+            Ok(left_out) => ExitCode::from(u8::from(left_out > 0)),
             Err(message) => fail(&message),
         },
         Err((ErrorKind::DisplayHelp | ErrorKind::DisplayVersion, help)) => {
@@ -31,7 +35,7 @@ fn main() -> ExitCode {
             let text = error.to_string();
             let first = text.split("\n\n").next().unwrap_or_default();
             let words: Vec<&str> = first.trim_start_matches("error:").split_whitespace().collect();
-            fail(&words.join(" "))
+            fail(&format!("{}{}", words.join(" "), options::instead(&error)))
         }
     }
 }
@@ -46,41 +50,100 @@ fn report(line: &str) {
     let _ = writeln!(io::stderr(), "sheet: {line}");
 }
 
-/// Makes the sheet; how many glyphs were refused.
+/// The largest font that is read, in bytes.
+const MAX_FONT: u64 = 1 << 28;
+
+fn read(path: &Path) -> Result<Vec<u8>, String> {
+    let mut file = Vec::new();
+    let read = File::open(path).and_then(|font| font.take(MAX_FONT + 1).read_to_end(&mut file));
+    read.map_err(|error| format!("{}: {error}", path.display()))?;
+    if file.len() as u64 > MAX_FONT {
+        return Err(format!("{}: above {} MiB", path.display(), MAX_FONT >> 20));
+    }
+    Ok(file)
+}
+
+/// Makes the sheet; how many glyphs are in the font and not in the sheet.
 fn run(options: &Options) -> Result<usize, String> {
+    let start = Instant::now();
     options.check()?;
     let path = options.font.display();
-    let file = fs::read(&options.font).map_err(|error| format!("{path}: {error}"))?;
-    let font = Font::new(&file).map_err(|error| format!("{path}: {error}"))?;
-    let names = options.names(&font);
-    if let Some(missing) = names.iter().find(|&&name| !font.has(name)) {
-        return Err(format!("{path}: no glyph for {missing}"));
+    let file = read(&options.font)?;
+    let mut font = Font::face(&file, options.face).map_err(|error| format!("{path}: {error}"))?;
+    options.vary(&mut font).map_err(|error| format!("{path}: {error}"))?;
+    let (names, missing): (Vec<Name>, Vec<Name>) = options.names(&font)?.into_iter().partition(|&name| font.has(name));
+    if names.is_empty() {
+        return Err(format!("{path}: none of these characters is in the font"));
     }
     rayon::ThreadPoolBuilder::new().num_threads(options.threads).build_global().map_err(|error| error.to_string())?;
 
-    let (sheet, refusals) = draw(options, &font, &names)?;
+    let (sheet, mut lines) = draw(options, &font, &names)?;
     write(options, &font, &sheet)?;
-    refusals.iter().for_each(|line| report(line));
-    Ok(refusals.len())
+    let left_out = names.len() - sheet.cells.len();
+    lines.extend(not_there(&missing));
+    lines.iter().for_each(|line| report(line));
+    let edges: usize = sheet.cells.iter().map(|cell| cell.colored.edge_count()).sum();
+    let standins = sheet.cells.iter().filter(|cell| cell.job.is_none()).count();
+    let summary = format!(
+        "{} glyphs, {edges} edges, {left_out} left out, {standins} coloured by docs/src, {} not in the font, {:.2} s",
+        sheet.cells.len(),
+        missing.len(),
+        start.elapsed().as_secs_f64()
+    );
+    if options.writes_to_stdout() {
+        let _ = writeln!(io::stderr(), "{summary}");
+    } else {
+        let _ = writeln!(io::stdout(), "{summary}");
+    }
+    Ok(left_out)
 }
 
-/// The sheet of the glyphs that could be coloured, and a line for each of the others.
+/// The line about characters that the font has not.
+fn not_there(missing: &[Name]) -> Option<String> {
+    const SHOWN: usize = 8;
+    let names: Vec<String> = missing.iter().take(SHOWN).map(Name::to_string).collect();
+    let more = missing.len().saturating_sub(SHOWN);
+    let more = if more > 0 { format!(" and {more} more") } else { String::new() };
+    (!missing.is_empty()).then(|| format!("not in the font: {}{more}", names.join(" ")))
+}
+
+/// The sheet of the glyphs that could be coloured, and a line for each of the others and each that docs/src coloured.
 fn draw(options: &Options, font: &Font, names: &[Name]) -> Result<(Sheet, Vec<String>), String> {
     let settings = options.settings();
-    let color = |(place, &name): (usize, &Name)| {
-        let glyph = font.glyph(name).ok_or_else(|| format!("{name}: outline damaged, or beyond the coordinates of a font"))?;
-        settings.color(glyph, place, font.units_per_em()).map_err(|refusal| format!("{name}: {refusal}"))
-    };
-    let colored: Vec<Result<Cell, String>> = names.par_iter().enumerate().map(color).collect();
-    let (cells, refusals): (Vec<_>, Vec<_>) = colored.into_iter().partition(Result::is_ok);
-    let cells: Vec<Cell> = cells.into_iter().flatten().collect();
+    let drawn = options.wants_pixels();
     // hidden where standard error is no terminal
-    let progress =
-        ProgressBar::new(cells.len() as u64).with_style(ProgressStyle::with_template("{wide_bar} {pos}/{len}").unwrap());
-    let sheet = settings.draw(cells, || progress.inc(1));
+    let steps = names.len() * if drawn { 2 } else { 1 };
+    let progress = ProgressBar::new(steps as u64).with_style(ProgressStyle::with_template("{wide_bar} {pos}/{len}").unwrap());
+    progress.tick();
+    let color = |(place, &name): (usize, &Name)| {
+        progress.inc(1);
+        let glyph = font.glyph(name).ok_or_else(|| format!("{name}: outline damaged, or beyond the coordinates of a font"))?;
+        let excess = standin::excess(&glyph.shape);
+        match settings.color(glyph, place, font.units_per_em()) {
+            Ok(cell) if cell.job.is_none() => Ok((cell, Some(format!("{name}: coloured by docs/src, not proved: {excess}")))),
+            Ok(cell) => Ok((cell, None)),
+            Err(Refusal::TooMany) => Err(format!("{name}: {}: {excess}", Refusal::TooMany.word())),
+            Err(refusal) => Err(format!("{name}: {refusal}")),
+        }
+    };
+    let colored: Vec<Result<(Cell, Option<String>), String>> = names.par_iter().enumerate().map(color).collect();
+    let (mut cells, mut lines) = (Vec::new(), Vec::new());
+    for glyph in colored {
+        match glyph {
+            Ok((cell, line)) => {
+                cells.push(cell);
+                lines.extend(line);
+            }
+            Err(line) => lines.push(line),
+        }
+    }
+    let sheet = settings.lay_out(cells);
+    let mut sheet = sheet.ok_or_else(|| format!("at this size the sheet would be above {MAX_SIDE} pixels a side"))?;
+    if drawn {
+        settings.draw(&mut sheet, || progress.inc(1));
+    }
     progress.finish_and_clear();
-    let sheet = sheet.ok_or_else(|| format!("at this size the sheet would be above {MAX_SIDE} pixels a side"))?;
-    Ok((sheet, refusals.into_iter().filter_map(Result::err).collect()))
+    Ok((sheet, lines))
 }
 
 fn write(options: &Options, font: &Font, sheet: &Sheet) -> Result<(), String> {
@@ -90,10 +153,14 @@ fn write(options: &Options, font: &Font, sheet: &Sheet) -> Result<(), String> {
         outputs.folder(folder)?;
     }
     if let Some(path) = &options.imageout {
-        outputs.write(path, |out| picture::write_sheet(out, &sheet.image))?;
+        let format = options.format(path)?;
+        outputs.write(path, |out| picture::write_sheet(out, &sheet.image, format))?;
     }
     if let Some(path) = &options.json {
-        outputs.write(path, |out| out.write_all(json::describe(font, sheet).as_bytes()))?;
+        outputs.write(path, |out| out.write_all(json::describe(font, sheet, options.y_origin()).as_bytes()))?;
+    }
+    if let Some(path) = &options.csv {
+        outputs.write(path, |out| out.write_all(json::table(font, sheet, options.y_origin()).as_bytes()))?;
     }
     if let Some(path) = &options.testrender {
         outputs.write(path, |out| picture::write_test_render(out, sheet))?;
@@ -103,7 +170,9 @@ fn write(options: &Options, font: &Font, sheet: &Sheet) -> Result<(), String> {
     }
     if let Some(folder) = &options.jobs {
         for cell in &sheet.cells {
-            outputs.write(&folder.join(format!("{}.job", cell.name)), |out| out.write_all(&cell.job.to_bytes()))?;
+            if let Some(job) = &cell.job {
+                outputs.write(&folder.join(format!("{}.job", cell.name)), |out| out.write_all(&job.to_bytes()))?;
+            }
         }
     }
     outputs.finish()

@@ -3,6 +3,7 @@
 use crate::frame::Frame;
 use crate::sheet::{Image, Sheet};
 use crate::source::{EdgeSegment, Vector2, dot, median, segment};
+use crate::winding::Fill;
 use merelsplum::{Colored, EdgeColor};
 use rayon::prelude::*;
 use std::io::{self, Write};
@@ -42,8 +43,48 @@ pub fn write_rgb(out: impl Write, size: (usize, usize), pixels: &[[u8; 3]]) -> i
     write_png(out, size, png::ColorType::Rgb, pixels.chunks(size.0).map(|row| row.concat()))
 }
 
-pub fn write_sheet(out: impl Write, image: &Image) -> io::Result<()> {
-    write_rgb(out, (image.side, image.side), &image.pixels)
+/// The formats of a sheet.
+#[derive(Clone, Copy, Debug, PartialEq, Eq)]
+pub enum Format {
+    Png,
+    /// Without compression, 24 bits a pixel, or 32 where it has four channels.
+    Bmp,
+    /// The bytes of the pixels by rows from the bottom, as msdf-atlas-gen writes them.
+    Bin,
+}
+
+impl Image {
+    /// The bytes of some pixels, as many a pixel as there are channels.
+    fn bytes(&self, pixels: &[[u8; 4]]) -> Vec<u8> {
+        pixels.iter().flat_map(|pixel| &pixel[..self.kind.channels()]).copied().collect()
+    }
+}
+
+pub fn write_sheet(mut out: impl Write, image: &Image, format: Format) -> io::Result<()> {
+    let side = image.side;
+    match format {
+        Format::Png => {
+            let color = [png::ColorType::Grayscale, png::ColorType::Rgb, png::ColorType::Rgba][image.kind.channels() / 2];
+            write_png(out, (side, side), color, image.pixels.chunks(side).map(|row| image.bytes(row)))
+        }
+        Format::Bmp => write_bmp(out, image),
+        Format::Bin => image.pixels.chunks(side).rev().try_for_each(|row| out.write_all(&image.bytes(row))),
+    }
+}
+
+/// Rows from the bottom, blue before red; a side of a sheet is a multiple of four, so that rows need no filling.
+fn write_bmp(mut out: impl Write, image: &Image) -> io::Result<()> {
+    let channels = if image.kind.channels() == 4 { 4 } else { 3 };
+    let (side, size) = (image.side as u32, (image.side * image.side * channels) as u32);
+    out.write_all(b"BM")?;
+    for number in [54 + size, 0, 54, 40, side, side, 1 | (8 * channels as u32) << 16, 0, size, 2835, 2835, 0, 0] {
+        out.write_all(&number.to_le_bytes())?;
+    }
+    for row in image.pixels.chunks(image.side).rev() {
+        let bytes: Vec<u8> = row.iter().flat_map(|&[r, g, b, a]| [b, g, r, a].into_iter().take(channels)).collect();
+        out.write_all(&bytes)?;
+    }
+    Ok(())
 }
 
 impl Image {
@@ -118,9 +159,10 @@ impl Canvas {
             Vector2::new(x + zoom * along, y + zoom * (top - up))
         };
         let (edges, colors): (Vec<_>, Vec<_>) = colored.contours.iter().flatten().map(|(e, c)| (segment(e), rgb(*c))).unzip();
+        let fill = Fill::of_edges(edges.iter().copied());
         for row in y as usize..((y + zoom * top) as usize).min(self.height()) {
             let up = top - (row as f64 + 0.5 - y) / zoom;
-            for (from, to) in inside(&edges, frame.point(0.0, up).y) {
+            for (from, to) in fill.scanline(frame.point(0.0, up).y).stretches() {
                 let [from, to] = [from, to].map(|along| place(Vector2::new(along, 0.0)).x.round() as usize);
                 self.pixels[row * self.width..][from..to].fill(INK);
             }
@@ -167,22 +209,7 @@ pub fn rgb(color: EdgeColor) -> [u8; 3] {
 
 /// The stretches of the line at height y that are inside, by winding.
 pub fn inside(edges: &[EdgeSegment], y: f64) -> Vec<(f64, f64)> {
-    let mut crossings = Vec::new();
-    for edge in edges {
-        let mut found = [(0.0, 0); 3];
-        let count = edge.scanline_intersections(y, &mut found);
-        crossings.extend_from_slice(&found[..count]);
-    }
-    crossings.sort_by(|a, b| a.0.total_cmp(&b.0));
-    let mut winding = 0;
-    let mut stretches = Vec::new();
-    for pair in crossings.windows(2) {
-        winding += pair[0].1;
-        if winding != 0 {
-            stretches.push((pair[0].0, pair[1].0));
-        }
-    }
-    stretches
+    Fill::of_edges(edges.iter().copied()).scanline(y).stretches()
 }
 
 #[cfg(test)]

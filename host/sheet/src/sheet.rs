@@ -1,11 +1,12 @@
 //! A sheet: glyphs coloured, their fields drawn and packed into one picture.
 
-use crate::correction::correct;
-use crate::field::Field;
+use crate::draw::{Drawing, Type};
 use crate::font::{Glyph, Name};
 use crate::frame::Frame;
 use crate::pack::{Packing, pack};
 use crate::source::{self, spline_distances};
+use crate::standin;
+use crate::winding::Fill;
 use merelsplum::job::{Job, Strategy};
 use merelsplum::{Colored, Outline, Refusal, collect_splines};
 use rayon::prelude::*;
@@ -19,22 +20,27 @@ pub struct Settings {
     pub seed: u64,
     /// Pixels an em.
     pub size: f64,
-    /// How many pixels the field goes from 0 to 1 in.
-    pub pxrange: f64,
+    pub drawing: Drawing,
+    /// Whether docs/src colours what is above the library's limits.
+    pub standins: bool,
 }
 
-/// A square of pixels, by rows from the top: a byte for each channel.
+/// A square of pixels, by rows from the top: red, green, blue, and the true distance where the type has it.
 pub struct Image {
+    pub kind: Type,
     pub side: usize,
-    pub pixels: Vec<[u8; 3]>,
+    /// None where only the places of the glyphs are wanted.
+    pub pixels: Vec<[u8; 4]>,
 }
 
 /// A glyph of a sheet.
 pub struct Cell {
     pub name: Name,
     pub advance: f64,
-    pub job: Job,
+    /// None where the library refused the glyph, and docs/src coloured it.
+    pub job: Option<Job>,
     pub colored: Colored,
+    pub fill: Fill,
     pub frame: Frame,
     /// Its first pixel in the sheet, from the left.
     pub x: usize,
@@ -49,8 +55,8 @@ pub struct Sheet {
     pub image: Image,
 }
 
-/// The seed of the `place`-th glyph, 0 for 0, as msdf-atlas-gen draws it: by distance from the seed and the place, else from the seed of
-/// the glyph before.
+/// The seed of the `place`-th glyph, 0 for 0, as msdf-atlas-gen draws it: by distance from the seed and the place, else
+/// from the seed of the glyph before.
 pub fn glyph_seed(strategy: Strategy, seed: u64, place: usize) -> u64 {
     const MULTIPLIER: u64 = 6364136223846793005;
     match strategy {
@@ -70,53 +76,55 @@ pub fn job(outline: Outline, strategy: Strategy, threshold: f64, seed: u64) -> R
 }
 
 impl Settings {
-    /// Colours a glyph, the `place`-th of the sheet.
+    /// Colours a glyph, the `place`-th of the sheet. One above the library's limits is coloured by docs/src where that
+    /// is allowed.
     pub fn color(&self, glyph: Glyph, place: usize, units_per_em: f64) -> Result<Cell, Refusal> {
         let seed = glyph_seed(self.strategy, self.seed, place);
-        let job = job(source::outline(&glyph.shape), self.strategy, self.angle.sin(), seed)?;
-        let colored = job.color()?;
-        let frame = Frame::new(&glyph.shape, self.size / units_per_em, self.pxrange);
-        Ok(Cell { name: glyph.name, advance: glyph.advance, job, colored, frame, x: 0, y: 0 })
+        let job = job(source::outline(&glyph.shape), self.strategy, self.angle.sin(), seed);
+        let (job, colored) = match job.and_then(|job| job.color().map(|colored| (job, colored))) {
+            Ok((job, colored)) => (Some(job), colored),
+            Err(Refusal::TooMany) if self.standins => (None, standin::color(&glyph.shape, self.strategy, self.angle, seed)),
+            Err(refusal) => return Err(refusal),
+        };
+        let frame = Frame::new(&glyph.shape, self.size / units_per_em, self.drawing.pxrange);
+        Ok(Cell { name: glyph.name, advance: glyph.advance, job, colored, fill: glyph.fill, frame, x: 0, y: 0 })
     }
 
-    /// Packs glyphs that are coloured and draws their fields, with a call of `each` after each; none where no sheet holds them.
-    pub fn draw(&self, mut cells: Vec<Cell>, each: impl Fn() + Sync) -> Option<Sheet> {
+    /// Packs glyphs that are coloured into a sheet without pixels; none where no sheet holds them.
+    pub fn lay_out(&self, mut cells: Vec<Cell>) -> Option<Sheet> {
         let sizes: Vec<_> = cells.iter().map(|cell| (cell.frame.width, cell.frame.height)).collect();
         let Packing { side, places } = pack(&sizes)?;
+        cells.iter_mut().zip(places).for_each(|(cell, place)| (cell.x, cell.y) = place);
+        let image = Image { kind: self.drawing.kind, side, pixels: vec![] };
+        Some(Sheet { size: self.size, pxrange: self.drawing.pxrange, cells, image })
+    }
+
+    /// Draws the fields of a sheet's glyphs, with a call of `each` after each.
+    pub fn draw(&self, sheet: &mut Sheet, each: impl Fn() + Sync) {
+        let Sheet { cells, image, .. } = sheet;
         let draw = |cell: &Cell| {
-            let pixels = pixels(&cell.colored, &cell.frame, self.pxrange);
+            let pixels = self.drawing.pixels(&cell.colored, &cell.fill, &cell.frame);
             each();
             pixels
         };
-        let fields: Vec<Vec<[u8; 3]>> = cells.par_iter().map(draw).collect();
-        let mut image = Image { side, pixels: vec![[0; 3]; side * side] };
-        for ((cell, field), (x, y)) in cells.iter_mut().zip(fields).zip(places) {
-            (cell.x, cell.y) = (x, y);
+        let fields: Vec<Vec<[u8; 4]>> = cells.par_iter().map(draw).collect();
+        // outside all glyphs
+        image.pixels = vec![if image.kind == Type::Msdf { [0, 0, 0, 255] } else { [0; 4] }; image.side * image.side];
+        for (cell, field) in cells.iter().zip(fields) {
             for (row, pixels) in field.chunks(cell.frame.width.max(1)).enumerate() {
-                let start = (y + row) * side + x;
+                let start = (cell.y + row) * image.side + cell.x;
                 image.pixels[start..start + pixels.len()].copy_from_slice(pixels);
             }
         }
-        Some(Sheet { size: self.size, pxrange: self.pxrange, cells, image })
     }
-}
-
-/// A glyph's field as bytes, by rows from the top: 0 from half a range outside on, 255 from half a range inside on.
-pub fn pixels(colored: &Colored, frame: &Frame, pxrange: f64) -> Vec<[u8; 3]> {
-    let field = Field::new(colored);
-    let value = |distance: f64| (distance * frame.scale / pxrange + 0.5).clamp(0.0, 1.0);
-    let pixel = |x: usize, y: usize| field.at(frame.point(x as f64 + 0.5, y as f64 + 0.5)).map(value);
-    let places = (0..frame.height).rev().flat_map(|y| (0..frame.width).map(move |x| (x, y)));
-    let mut values: Vec<[f64; 3]> = places.map(|(x, y)| pixel(x, y)).collect();
-    correct(&mut values, frame.width, pxrange);
-    values.into_iter().map(|value| value.map(|v| (255.0 * v).round() as u8)).collect()
 }
 
 #[cfg(test)]
 mod tests {
     use super::*;
 
-    /// The second glyph's seed is the first one's times 6364136223846793005, and so on; by distance each has one of its own.
+    /// The second glyph's seed is the first one's times 6364136223846793005, and so on; by distance each has one of its
+    /// own.
     #[test]
     fn seeds() {
         for strategy in [Strategy::Simple, Strategy::InkTrap] {

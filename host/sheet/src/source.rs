@@ -1,10 +1,11 @@
 //! What is used of the Rust of docs/src: its shapes and their distances.
 
+pub use bymsdfgen::geometry::equation_solver::{Roots, solve_quadratic};
+pub use bymsdfgen::geometry::shape::Bounds;
+pub use bymsdfgen::geometry::{Contour, EdgeColor, EdgeSegment, Shape};
+pub use bymsdfgen::math::scalar::{median, non_zero_sign};
+pub use bymsdfgen::math::{SignedDistance, Vector2, cross, dot};
 use merelsplum::{Collected, Edge, Outline, Point};
-pub use oracle::geometry::shape::Bounds;
-pub use oracle::geometry::{Contour, EdgeColor, EdgeSegment, Shape};
-pub use oracle::math::scalar::median;
-pub use oracle::math::{SignedDistance, Vector2, cross, dot};
 
 mod distance {
     use super::EdgeSegment;
@@ -43,7 +44,8 @@ pub fn segment(edge: &Edge) -> EdgeSegment {
     }
 }
 
-fn edge(segment: &EdgeSegment) -> Edge {
+/// An edge as the library has it.
+pub fn edge(segment: &EdgeSegment) -> Edge {
     let p = |v: Vector2| [v.x, v.y];
     match *segment {
         EdgeSegment::Line(v) => Edge::Line(v.map(p)),

@@ -9,7 +9,9 @@ use std::collections::BTreeSet;
 use std::fs::{self, File};
 use std::os::unix::fs::{FileTypeExt, PermissionsExt, symlink};
 use std::path::{Path, PathBuf};
-use std::process::{Command, Output};
+use std::process::{Command, Output, Stdio};
+use std::thread::sleep;
+use std::time::Duration;
 use ttf_parser::Face;
 
 /// An empty folder of a test's own, taken away at its end.
@@ -51,6 +53,11 @@ fn with_font(folder: &Folder, arguments: &[&str]) -> Output {
 
 fn lines(output: &Output) -> Vec<String> {
     String::from_utf8(output.stderr.clone()).unwrap().lines().map(str::to_owned).collect()
+}
+
+/// Standard output.
+fn words(output: &Output) -> String {
+    String::from_utf8(output.stdout.clone()).unwrap()
 }
 
 /// A picture: its width, its height, and the bytes of its pixels by rows.
@@ -235,16 +242,233 @@ fn options_change_the_colors() {
     }
 }
 
-/// The snowman has 543 edges.
+/// Each mode draws another sheet than without correction, and the names of msdf-atlas-gen are known.
 #[test]
-fn a_refused_glyph() {
-    let folder = Folder::new("a_refused_glyph");
-    let output = with_font(&folder, &["--chars", "A, 0x2603, B", "--json", "sheet.json", "--jobs", "jobs"]);
-    let expected = "sheet: U+2603: overfull: more than 64 contours, 256 edges, 64 splines or 2016 distances";
-    assert_eq!((output.status.code(), lines(&output)), (Some(1), vec![expected.to_owned()]));
+fn modes_of_correction() {
+    let folder = Folder::new("modes_of_correction");
+    let sheet = |options: &[&str]| {
+        let common = ["--chars", "K..T", "--size", "20", "--pxrange", "4", "--imageout", "sheet.png"];
+        let output = with_font(&folder, &[options, &common].concat());
+        assert_eq!((output.status.code(), lines(&output)), (Some(0), vec![]), "{options:?}");
+        fs::read(folder.file("sheet.png")).unwrap()
+    };
+    let preset = sheet(&[]);
+    let same: [&[&str]; 5] = [
+        &["--errorcorrection", "auto-mixed"],
+        &["--errorcorrection", "auto"],
+        &["--overlap", "--scanline"],
+        &["--noscanline", "--scanline"],
+        &["--errordeviationratio", "1.1111111111111112", "--errorimproveratio", "1.1111111111111112"],
+    ];
+    same.iter().for_each(|options| assert_eq!(sheet(options), preset, "{options:?}"));
+    let disabled = sheet(&["--errorcorrection", "disabled"]);
+    for mode in ["auto-mixed", "auto-fast", "auto-full", "edge-fast", "edge-full", "distance-fast", "distance-full"] {
+        assert_ne!(sheet(&["--errorcorrection", mode]), disabled, "{mode}");
+    }
+}
+
+/// A font's ✦ has its contour the other way round than its letters; A and ✦ are drawn back as they are.
+#[test]
+fn either_way_round() {
+    let folder = Folder::new("either_way_round");
+    let output = with_font(&folder, &["--chars", "0x2726", "--size", "32", "--pxrange", "4", "--imageout", "sheet.png"]);
+    assert_eq!(output.status.code(), Some(0));
+    let (width, _, field) = picture::<3>(&folder.file("sheet.png"));
+    let inside = |pixel: &[u8; 3]| median(pixel[0].into(), pixel[1].into(), pixel[2].into()) > 127.5;
+    assert!(!inside(&field[0]), "a corner of the box");
+    let part = field.iter().filter(|pixel| inside(pixel)).count() as f64 / f64::from(width * width);
+    assert!(part > 0.1 && part < 0.5, "{part} is inside");
+}
+
+/// The snowman has 543 edges: it is coloured by docs/src, or refused where that is not wanted.
+#[test]
+fn above_the_limits() {
+    let folder = Folder::new("above_the_limits");
+    let arguments = ["--chars", "A, 0x2603, B", "--json", "sheet.json", "--jobs", "jobs"];
+    let excess = "543 edges, 287 above the limit of 256";
+    let output = with_font(&folder, &arguments);
+    let expected = format!("sheet: U+2603: coloured by docs/src, not proved: {excess}");
+    assert_eq!((output.status.code(), lines(&output)), (Some(0), vec![expected]));
+    assert!(words(&output).starts_with("3 glyphs, "), "{}", words(&output));
+    assert!(words(&output).contains(" 0 left out, 1 coloured by docs/src, 0 not in the font, "), "{}", words(&output));
+    assert!(fs::read_to_string(folder.file("sheet.json")).unwrap().contains("\"unicode\":9731,"));
+    assert_eq!(Folder(folder.0.join("jobs")).names(), ["U+0041.job", "U+0042.job"]);
+
+    let output = with_font(&folder, &[arguments.as_slice(), &["--provedonly"]].concat());
+    let expected = format!("sheet: U+2603: overfull: {excess}");
+    assert_eq!((output.status.code(), lines(&output)), (Some(1), vec![expected]));
+    assert!(words(&output).contains(" 1 left out, 0 coloured by docs/src, "), "{}", words(&output));
     let json = fs::read_to_string(folder.file("sheet.json")).unwrap();
     assert!(json.contains("\"unicode\":65,") && json.contains("\"unicode\":66,") && !json.contains("9731"));
-    assert_eq!(Folder(folder.0.join("jobs")).names(), ["U+0041.job", "U+0042.job"]);
+}
+
+/// Characters that are not in the font are named and counted, and the others drawn.
+#[test]
+fn missing_characters() {
+    let folder = Folder::new("missing_characters");
+    let output = with_font(&folder, &["--chars", "A, 0x4, 0x5", "--json", "sheet.json"]);
+    assert_eq!((output.status.code(), lines(&output)), (Some(0), vec!["sheet: not in the font: U+0004 U+0005".to_owned()]));
+    assert!(words(&output).contains(" 2 not in the font, "), "{}", words(&output));
+    assert_eq!(fs::read_to_string(folder.file("sheet.json")).unwrap().matches("\"unicode\":").count(), 1);
+    let output = with_font(&folder, &["--chars", "A, [0, 0x1F]", "--json", "sheet.json"]);
+    let before =
+        |text: &str, end: &str| text.split(end).next().unwrap().split(' ').next_back().unwrap().parse::<usize>().unwrap();
+    assert_eq!(before(&lines(&output)[0], " more") + 8, before(&words(&output), " not in the font"));
+}
+
+/// Each type has its channels; the true distance of mtsdf is that of sdf, and its colours are those of msdf.
+#[test]
+fn types() {
+    let folder = Folder::new("types");
+    for (kind, output) in ["msdf", "mtsdf", "sdf", "psdf"].map(|kind| {
+        (kind, with_font(&folder, &["--type", kind, "--chars", "A..D", "--imageout", &format!("{kind}.png"), "--json", kind]))
+    }) {
+        assert_eq!((output.status.code(), lines(&output)), (Some(0), vec![]));
+        assert!(fs::read_to_string(folder.file(kind)).unwrap().starts_with(&format!("{{\"atlas\":{{\"type\":\"{kind}\",")));
+    }
+    let (_, _, msdf) = picture::<3>(&folder.file("msdf.png"));
+    let (_, _, mtsdf) = picture::<4>(&folder.file("mtsdf.png"));
+    let [(_, _, sdf), (_, _, psdf)] = ["sdf.png", "psdf.png"].map(|name| picture::<1>(&folder.file(name)));
+    assert!(mtsdf.iter().zip(&msdf).all(|(a, b)| a[..3] == b[..]));
+    assert!(mtsdf.iter().zip(&sdf).all(|(a, b)| a[3] == b[0]));
+    assert_ne!(sdf, psdf);
+    // at a place beyond a corner the perpendicular distance is the smaller one
+    assert!(sdf.iter().zip(&psdf).all(|(a, b)| a[0].abs_diff(128) + 1 >= b[0].abs_diff(128)));
+    let inside = |value: f64| value > 127.5;
+    let near = |pixel: &[u8; 3]| median(pixel[0].into(), pixel[1].into(), pixel[2].into());
+    assert!(msdf.iter().zip(&sdf).all(|(a, b)| inside(near(a)) == inside(b[0].into())));
+}
+
+/// The name of a file shows its format: rows from the bottom in both others, and blue before red in a bitmap.
+#[test]
+fn formats() {
+    let folder = Folder::new("formats");
+    for name in ["sheet.png", "sheet.bmp", "sheet.bin"] {
+        let output = with_font(&folder, &["--chars", "A..D", "--imageout", name]);
+        assert_eq!((output.status.code(), lines(&output)), (Some(0), vec![]), "{name}");
+    }
+    let (width, height, pixels) = picture::<3>(&folder.file("sheet.png"));
+    let rows: Vec<_> = pixels.chunks(width as usize).rev().collect();
+    assert_eq!(fs::read(folder.file("sheet.bin")).unwrap(), rows.concat().concat());
+    let bmp = fs::read(folder.file("sheet.bmp")).unwrap();
+    let number = |at: usize| u32::from_le_bytes(bmp[at..at + 4].try_into().unwrap());
+    assert_eq!((&bmp[..2], number(2) as usize, number(10), number(18), number(22)), (&b"BM"[..], bmp.len(), 54, width, height));
+    assert_eq!((number(26), number(30)), (1 | 24 << 16, 0));
+    let expected: Vec<u8> = rows.concat().iter().flat_map(|&[r, g, b]| [b, g, r]).collect();
+    assert_eq!(bmp[54..], expected);
+    let output = with_font(&folder, &["--chars", "A..D", "--format", "bin", "--imageout", "-"]);
+    assert_eq!(output.stdout, fs::read(folder.file("sheet.bin")).unwrap(), "standard output has nothing else");
+    assert!(lines(&output)[0].starts_with("4 glyphs, "), "{:?}", lines(&output));
+}
+
+/// One dash or two, characters from a file, a range in ems: all the same sheet.
+#[test]
+fn other_ways_to_say_it() {
+    let folder = Folder::new("other_ways_to_say_it");
+    fs::write(folder.file("set.txt"), "A..C\n\"xyz\"\n").unwrap();
+    let font = common::dejavu_sans();
+    for (name, arguments) in [
+        ("a.png", ["--font", &font, "--chars", "A..C \"xyz\"", "--pxrange", "4"].as_slice()),
+        ("b.png", &["-font", &font, "-charset", "set.txt", "-pxrange", "4"]),
+        ("c.png", &["-font", &font, "--charset", "set.txt", "-emrange", "0.125"]),
+    ] {
+        let output = sheet(&folder, &[arguments, &["-imageout", name]].concat());
+        assert_eq!((output.status.code(), lines(&output)), (Some(0), vec![]));
+    }
+    let read = |name: &str| fs::read(folder.file(name)).unwrap();
+    assert!(read("a.png") == read("b.png") && read("a.png") == read("c.png"));
+    let output = sheet(&folder, &["-font", &font, "-uniformgrid", "-imageout", "d.png"]);
+    assert!(lines(&output)[0].ends_with("use --json, which has the places of the glyphs"), "{:?}", lines(&output));
+}
+
+/// From the top, heights are turned round; the table has the numbers of the JSON.
+#[test]
+fn origins_and_tables() {
+    let folder = Folder::new("origins_and_tables");
+    for origin in ["bottom", "top"] {
+        let [json, csv] = ["json", "csv"].map(|end| format!("{origin}.{end}"));
+        let output = with_font(&folder, &["--chars", "' ' A..C", "--yorigin", origin, "--json", &json, "--csv", &csv]);
+        assert_eq!((output.status.code(), lines(&output)), (Some(0), vec![]));
+    }
+    let read = |name: &str| fs::read_to_string(folder.file(name)).unwrap();
+    let (bottom, top) = (read("bottom.json"), read("top.json"));
+    let side = number(&bottom, "atlas", "height");
+    assert_eq!(number(&bottom, "metrics", "ascender"), -number(&top, "metrics", "ascender"));
+    for (low, high) in [("bottom", "top"), ("top", "bottom")] {
+        assert_eq!(number(&bottom, "planeBounds", low), -number(&top, "planeBounds", low));
+        assert_eq!(number(&bottom, "atlasBounds", high), side - number(&top, "atlasBounds", high));
+    }
+    for (json, csv, sides) in
+        [(bottom, "bottom.csv", ["left", "bottom", "right", "top"]), (top, "top.csv", ["left", "top", "right", "bottom"])]
+    {
+        let table = read(csv);
+        let rows: Vec<Vec<f64>> = table.lines().map(|line| line.split(',').map(|n| n.parse().unwrap()).collect()).collect();
+        assert_eq!(rows.len(), 4);
+        assert_eq!((rows[0].len(), rows[0][0], &rows[0][2..]), (10, 32.0, &[0.0; 8][..]));
+        let part = &json[json.find("\"unicode\":66,").unwrap()..];
+        assert_eq!(rows[2][..2], [66.0, number(part, "unicode", "advance")]);
+        assert_eq!(rows[2][2..6], sides.map(|side| number(part, "planeBounds", side)));
+        assert_eq!(rows[2][6..], sides.map(|side| number(part, "atlasBounds", side)));
+    }
+}
+
+/// Inter has no table `kern`: its pairs are from GPOS. A and V go nearer, H and I do not.
+#[test]
+fn kerning_without_a_kern_table() {
+    let folder = Folder::new("kerning_without_a_kern_table");
+    let inter = inter();
+    let file = fs::read(&inter).unwrap();
+    assert!(Face::from_slice(&file, 0).unwrap().tables().kern.is_none());
+    let output = sheet(&folder, &["--font", &inter, "--chars", "A..Z", "--json", "sheet.json"]);
+    assert_eq!((output.status.code(), lines(&output)), (Some(0), vec![]));
+    let json = fs::read_to_string(folder.file("sheet.json")).unwrap();
+    let advance = number(&json, "\"unicode1\":65,\"unicode2\":86,", "advance");
+    assert!(advance < -0.02 && advance > -0.2, "{advance}");
+    assert!(!json.contains("\"unicode1\":72,\"unicode2\":73,"));
+}
+
+fn inter() -> String {
+    let list = Command::new("dpkg").args(["-L", "fonts-inter-variable"]).output().unwrap().stdout;
+    let list = String::from_utf8(list).unwrap();
+    list.lines().find(|path| path.ends_with("/Inter.var.ttf")).expect("host/setup installs it").to_owned()
+}
+
+/// An axis makes letters wider; what is no axis is told of.
+#[test]
+fn a_variable_font() {
+    let folder = Folder::new("a_variable_font");
+    let inter = &inter();
+    let width = |axis: &[&str]| {
+        let output = sheet(&folder, &[["--font", inter, "--chars", "I", "--json", "-"].as_slice(), axis].concat());
+        assert_eq!(output.status.code(), Some(0), "{:?}", lines(&output));
+        let json = String::from_utf8(output.stdout).unwrap();
+        number(&json, "planeBounds", "right") - number(&json, "planeBounds", "left")
+    };
+    assert!(width(&["--axis", "wght=100"]) < width(&[]) && width(&[]) < width(&["--axis", "wght=900"]));
+    let output = sheet(&folder, &["--font", inter, "--json", "a.json", "--axis", "high=1"]);
+    assert_eq!(output.status.code(), Some(2));
+    assert!(lines(&output)[0].contains("no axis high: there are ") && lines(&output)[0].contains("wght"), "{:?}", lines(&output));
+}
+
+/// A program that is killed while it writes leaves nothing.
+#[test]
+fn a_killed_run_leaves_no_files() {
+    let folder = Folder::new("a_killed_run_leaves_no_files");
+    let mut command = Command::new(env!("CARGO_BIN_EXE_sheet"));
+    command.args(["--font", &common::dejavu_sans(), "--chars", "A..Z", "--size", "200", "--testrender", "back.png"]);
+    let mut running = command.current_dir(&folder.0).stdout(Stdio::null()).spawn().unwrap();
+    let open = format!("/proc/{}/fd", running.id());
+    let writes = || {
+        let files = fs::read_dir(&open).into_iter().flatten().flatten();
+        files.filter_map(|file| fs::read_link(file.path()).ok()).any(|file| file.starts_with(&folder.0))
+    };
+    while !writes() {
+        assert!(running.try_wait().unwrap().is_none(), "it ended before it was seen to write");
+        sleep(Duration::from_millis(5));
+    }
+    running.kill().unwrap();
+    running.wait().unwrap();
+    assert_eq!(folder.names(), [""; 0]);
 }
 
 /// The dieresis cannot be read, and so cannot the letters that have it; the others can.
@@ -287,6 +511,9 @@ fn help() {
     {
         assert!(text.contains(&format!("--{option}")), "{option}");
     }
+    for option in ["errorcorrection", "errordeviationratio", "errorimproveratio", "nooverlap", "noscanline"] {
+        assert!(text.contains(&format!("--{option}")), "{option}");
+    }
 }
 
 /// One line on standard error, status 2, and nothing written.
@@ -301,6 +528,7 @@ fn bad_input() {
     let outlines = file.windows(4).position(|tag| tag == b"glyf").unwrap();
     file[outlines..outlines + 4].copy_from_slice(b"glyx");
     fs::write(folder.file("no_outlines.ttf"), &file).unwrap();
+    File::create(folder.file("large.ttf")).unwrap().set_len((1 << 28) + 1).unwrap();
     fs::create_dir(folder.file("taken")).unwrap();
     let before = folder.names();
     let out = ["--imageout", "sheet.png"];
@@ -328,10 +556,24 @@ fn bad_input() {
         &["--font", &font, "--size", "large"],
         &["--font", &font, "--pxrange", "0"],
         &["--font", &font, "--pxrange", "inf"],
+        &["--font", &font, "--errorcorrection", "some"],
+        &["--font", &font, "--errordeviationratio", "0.5"],
         &["--font", &font, "--threads", "-1"],
         &["--font", &font, "--threads", "0.5"],
         &["--font", &font, "--threads", "257"],
         &["--font", &font, "--allglyphs", "--size", "1024"],
+        &["--font", "large.ttf"],
+        &["--font", &font, "--face", "1"],
+        &["--font", &font, "--axis", "wght=400"],
+        &["--font", &font, "--axis", "wght"],
+        &["--font", &font, "--charset", "missing.txt"],
+        &["--font", &font, "--type", "hardmask"],
+        &["--font", &font, "--format", "jpg"],
+        &["--font", &font, "--emrange", "0"],
+        &["--font", &font, "--emrange", "0.01"],
+        &["--font", &font, "--yorigin", "left"],
+        &["--font", &font, "--testrender", "back.bmp"],
+        &["--font", &font, "--json", "-", "--csv", "-"],
         &["--font", &font, "--colour", "red"],
         &["--font", &font, "extra"],
         &["--font", &font, "--json", "nowhere/sheet.json"],
@@ -352,6 +594,9 @@ fn bad_input() {
         assert!(output.stdout.is_empty(), "{case:?}");
         assert_eq!(folder.names(), before, "{case:?}");
     }
+    let unknown = sheet(&folder, &["--font", &font, "--imageout", "sheet.jpg"]);
+    assert_eq!(lines(&unknown), ["sheet: sheet.jpg: the formats are png, bmp and bin"]);
+    assert_eq!(folder.names(), before);
     let nothing = sheet(&folder, &["--font", &font]);
     assert_eq!((nothing.status.code(), lines(&nothing).len()), (Some(2), 1));
 }
@@ -402,7 +647,7 @@ fn no_room_for_words() {
     let font = common::dejavu_sans();
     let full = || File::options().write(true).open("/dev/full").unwrap();
     for (arguments, status) in [
-        (["--font", &font, "--chars", "A, 0x2603", "--json", "sheet.json"].as_slice(), 1),
+        (["--font", &font, "--chars", "A, 0x2603", "--json", "sheet.json", "--provedonly"].as_slice(), 1),
         (&["--font", "missing.ttf", "--json", "sheet.json"], 2),
         (&["--colour"], 2),
         (&["--help"], 0),

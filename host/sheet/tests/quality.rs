@@ -4,20 +4,23 @@ mod common;
 
 use merelsplum::job::Strategy;
 use merelsplum::{Colored, EdgeColor};
+use sheet::draw::{Drawing, Type};
+use sheet::field::Field;
 use sheet::font::{Font, Name};
 use sheet::frame::Frame;
 use sheet::picture::{ZOOM, inside};
-use sheet::sheet::{Image, job, pixels};
+use sheet::sheet::{Image, job};
 use sheet::source;
+use sheet::winding::Fill;
 
 const SIZE: f64 = 24.0;
 const PXRANGE: f64 = 4.0;
 
 /// By how much of its area a glyph that is drawn back differs from its outline.
-fn error(colored: &Colored, frame: &Frame) -> f64 {
+fn error(colored: &Colored, fill: &Fill, frame: &Frame) -> f64 {
     let side = frame.width.max(frame.height);
-    let mut image = Image { side, pixels: vec![[0; 3]; side * side] };
-    for (row, line) in pixels(colored, frame, PXRANGE).chunks(frame.width).enumerate() {
+    let mut image = Image { kind: Type::Msdf, side, pixels: vec![[0; 4]; side * side] };
+    for (row, line) in Drawing::new(PXRANGE).pixels(colored, fill, frame).chunks(frame.width).enumerate() {
         image.pixels[row * side..][..frame.width].copy_from_slice(line);
     }
     let edges: Vec<_> = colored.contours.iter().flatten().map(|(edge, _)| source::segment(edge)).collect();
@@ -48,12 +51,33 @@ fn letters_come_back() {
             let glyph = font.glyph(Name::Character(letter)).unwrap();
             let frame = Frame::new(&glyph.shape, SIZE / font.units_per_em(), PXRANGE);
             let mut colored = job(source::outline(&glyph.shape), strategy, 3f64.sin(), 0).unwrap().color().unwrap();
-            let e = error(&colored, &frame);
+            let e = error(&colored, &glyph.fill, &frame);
             assert!(e < 0.02, "{strategy:?}, {letter}: {e}");
             colors += e;
             colored.contours.iter_mut().flatten().for_each(|edge| edge.1 = EdgeColor::White);
-            white += error(&colored, &frame);
+            white += error(&colored, &glyph.fill, &frame);
         }
         assert!(3.0 * colors < white, "{strategy:?}: {colors} and {white}");
+    }
+}
+
+/// Fields of letters are the same, to the bit, whether or not edges are left out that cannot be nearest.
+#[test]
+fn nothing_is_lost_by_skipping() {
+    let file = std::fs::read(common::dejavu_sans()).unwrap();
+    let font = Font::new(&file).unwrap();
+    for c in "AaBgR&@%Ω❤".chars() {
+        let glyph = font.glyph(Name::Character(c)).unwrap();
+        let frame = Frame::new(&glyph.shape, SIZE / font.units_per_em(), PXRANGE);
+        let colored = job(source::outline(&glyph.shape), Strategy::InkTrap, 3f64.sin(), 0).unwrap().color().unwrap();
+        let (all, some) = (Field::with(&colored, true, false), Field::with(&colored, true, true));
+        let (mut all, mut some) = (all.channels(), some.channels());
+        for (row, left) in (0..frame.height).flat_map(|row| (0..frame.width).step_by(5).map(move |x| (row, x))) {
+            some.within(frame.middle(left + 2, row), 2.0 / frame.scale);
+            for x in left..left + 5 {
+                let point = frame.middle(x, row);
+                assert_eq!(some.at(point).map(f64::to_bits), all.at(point).map(f64::to_bits), "{c} at {x}, {row}");
+            }
+        }
     }
 }

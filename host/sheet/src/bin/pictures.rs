@@ -3,12 +3,13 @@
 
 use merelsplum::job::Strategy;
 use merelsplum::{Colored, EdgeColor};
+use sheet::draw::{Drawing, Type};
 use sheet::field::{Field, middle};
 use sheet::font::{Font, Glyph, Name};
 use sheet::frame::Frame;
 use sheet::output::Outputs;
 use sheet::picture::{Canvas, mix, write_rgb};
-use sheet::sheet::{Image, job, pixels};
+use sheet::sheet::{Image, job};
 use sheet::source;
 use std::env;
 use std::path::Path;
@@ -75,16 +76,17 @@ fn corners(font: &Font) -> Result<Canvas, String> {
     let panels = [(right.clone(), "coloured", "drawn back"), (white(right), "all White", "drawn back")];
     for (i, (colored, field, back)) in panels.into_iter().enumerate() {
         let (frame, zoom) = fitted(font, &glyph, SIZE, PXRANGE);
-        let image = square(&pixels(&colored, &frame, PXRANGE), &frame);
+        let image = square(&Drawing::new(PXRANGE).pixels(&colored, &glyph.fill, &frame), &frame);
         for (panel, name, drawn_back) in [(2 * i, field, false), (2 * i + 1, back, true)] {
             let left = panel * PANEL + (PANEL - (zoom * frame.width as f64) as usize) / 2;
             for (x, y) in (0..PANEL).flat_map(|y| (0..PANEL).map(move |x| (x, y))) {
                 let (across, down) = ((x as f64 + 0.5) / zoom, (y as f64 + 0.5) / zoom);
                 if across < frame.width as f64 && down < frame.height as f64 {
                     let inside = image.coverage(across, down, PXRANGE, zoom);
-                    let pixel = image.pixels[down as usize * image.side + across as usize];
+                    let [r, g, b, _] = image.pixels[down as usize * image.side + across as usize];
                     let row = y + MARGIN as usize;
-                    picture.pixels[row * 4 * PANEL + left + x] = if drawn_back { mix([255; 3], [0; 3], inside) } else { pixel };
+                    picture.pixels[row * 4 * PANEL + left + x] =
+                        if drawn_back { mix([255; 3], [0; 3], inside) } else { [r, g, b] };
                 }
             }
             caption(&mut picture, font, name, panel * PANEL + PANEL / 2)?;
@@ -100,9 +102,9 @@ fn fitted(font: &Font, glyph: &Glyph, size: f64, pxrange: f64) -> (Frame, f64) {
 }
 
 /// A field as the top left of a square picture.
-fn square(pixels: &[[u8; 3]], frame: &Frame) -> Image {
+fn square(pixels: &[[u8; 4]], frame: &Frame) -> Image {
     let side = frame.width.max(frame.height);
-    let mut image = Image { side, pixels: vec![[0; 3]; side * side] };
+    let mut image = Image { kind: Type::Msdf, side, pixels: vec![[0; 4]; side * side] };
     for (row, line) in pixels.chunks(frame.width).enumerate() {
         image.pixels[row * side..][..frame.width].copy_from_slice(line);
     }
@@ -119,9 +121,10 @@ fn caption(picture: &mut Canvas, font: &Font, word: &str, center: usize) -> Resu
     for glyph in glyphs {
         let frame = Frame::new(&glyph.shape, scale, 1.0);
         let field = Field::new(&color(&glyph, Strategy::Simple)?);
+        let mut channels = field.channels();
         let origin = frame.place(source::Vector2::ZERO);
         for (x, y) in (0..frame.height).flat_map(|y| (0..frame.width).map(move |x| (x, y))) {
-            let distance = middle(&field.at(frame.point(x as f64 + 0.5, y as f64 + 0.5)));
+            let distance = middle(&channels.at(frame.point(x as f64 + 0.5, y as f64 + 0.5)));
             let column = (at - origin.x).round() as usize + x;
             let row = (baseline + origin.y) as usize - y;
             let pixel = &mut picture.pixels[row * picture.width + column];

@@ -2,12 +2,14 @@
 //! `measure FONT`. Both sides colour the glyphs that the library accepts; a time is the best of some runs, by turns.
 
 use merelsplum::job::{Job, Strategy};
-use merelsplum::{Colored, EdgeColor, Refusal, collect_splines, edge_coloring_by_distance};
+use merelsplum::{Colored, Edge, Outline, Refusal, collect_splines, edge_coloring_by_distance};
 use oracle::coloring;
+use oracle::geometry::{Contour, EdgeSegment, Shape};
 use oracle::given::by_distance_given::edge_coloring_by_distance_given;
+use oracle::math::Vector2;
 use sheet::font::{Font, Name};
 use sheet::sheet::job;
-use sheet::source::{self, Shape, spline_distances};
+use sheet::source::{self, spline_distances};
 use std::collections::BTreeMap;
 use std::env;
 use std::hint::black_box;
@@ -21,7 +23,8 @@ fn main() -> Result<(), String> {
     let path = env::args().nth(1).ok_or("usage: measure FONT")?;
     let file = std::fs::read(&path).map_err(|error| format!("{path}: {error}"))?;
     let font = Font::new(&file)?;
-    let glyphs: Vec<(Name, Shape)> = font.all().into_iter().filter_map(|name| Some((name, font.glyph(name)?.shape))).collect();
+    let glyph = |name: Name| Some((name, source::outline(&font.glyph(name)?.shape)));
+    let glyphs: Vec<(Name, Outline)> = font.all().into_iter().filter_map(glyph).collect();
     let edges: usize = glyphs.iter().map(|glyph| glyph.1.edge_count()).sum();
     println!("{} glyphs, {edges} edges, angle {ANGLE}, seed {SEED}, the best of {RUNS} runs\n", glyphs.len());
     println!(
@@ -42,14 +45,14 @@ fn main() -> Result<(), String> {
 }
 
 /// Prints a strategy's lines; the glyphs that were refused.
-fn measure(strategy: Strategy, glyphs: &[(Name, Shape)]) -> Vec<(String, String)> {
+fn measure(strategy: Strategy, glyphs: &[(Name, Outline)]) -> Vec<(String, String)> {
     let mut refused = Vec::new();
     let mut accepted = Vec::new();
-    for (name, shape) in glyphs {
-        let job = job(source::outline(shape), strategy, ANGLE.sin(), SEED);
+    for (name, outline) in glyphs {
+        let job = job(outline.clone(), strategy, ANGLE.sin(), SEED);
         match job.and_then(|job| job.color().map(|_| job)) {
-            Ok(job) => accepted.push((job, shape.clone())),
-            Err(refusal) => refused.push((name.to_string(), reason(refusal, shape))),
+            Ok(job) => accepted.push((job, shape(outline))),
+            Err(refusal) => refused.push((name.to_string(), reason(refusal, outline))),
         }
     }
     let colored = |job: &Job| job.color().expect("it was accepted");
@@ -103,8 +106,8 @@ fn race(
     println!("| {name} | {library:.1} ms | {source:.1} ms | {ratio:.2} | {glyphs} | {edges} | {differ} | {refusals} |");
 }
 
-fn reason(refusal: Refusal, shape: &Shape) -> String {
-    let (contours, edges) = (shape.contours.len(), shape.edge_count());
+fn reason(refusal: Refusal, outline: &Outline) -> String {
+    let (contours, edges) = (outline.contours.len(), outline.edge_count());
     match refusal {
         Refusal::TooMany if contours > 64 => format!("{contours} contours"),
         Refusal::TooMany if edges > 256 => format!("{edges} edges"),
@@ -113,11 +116,30 @@ fn reason(refusal: Refusal, shape: &Shape) -> String {
     }
 }
 
+/// An outline as the test oracle has it.
+fn shape(outline: &Outline) -> Shape {
+    let mut shape = Shape::new();
+    for edges in &outline.contours {
+        let mut contour = Contour::new();
+        edges.iter().for_each(|edge| contour.add_edge(segment(edge)));
+        shape.add_contour(contour);
+    }
+    shape
+}
+
+fn segment(edge: &Edge) -> EdgeSegment {
+    let v = |p: [f64; 2]| Vector2::new(p[0], p[1]);
+    match *edge {
+        Edge::Line(p) => EdgeSegment::Line(p.map(v)),
+        Edge::Quadratic(p) => EdgeSegment::Quadratic(p.map(v)),
+        Edge::Cubic(p) => EdgeSegment::Cubic(p.map(v)),
+    }
+}
+
 /// How many edges have another colour or other points.
 fn differences(shape: &Shape, colored: &Colored) -> usize {
     assert!(shape.contours.iter().map(|contour| contour.len()).eq(colored.contours.iter().map(Vec::len)));
     let source = shape.contours.iter().flat_map(|contour| contour.segments.iter().zip(&contour.colors));
     let library = colored.contours.iter().flatten();
-    let same = |color: &source::EdgeColor, other: &EdgeColor| color.bits() == other.bits();
-    source.zip(library).filter(|((a, color), (b, other))| **a != source::segment(b) || !same(color, other)).count()
+    source.zip(library).filter(|((a, color), (b, other))| **a != segment(b) || color.bits() != other.bits()).count()
 }

@@ -1,0 +1,130 @@
+"""Colours the edges of glyph outlines for multi-channel distance fields.
+
+An outline is a list of contours; a contour is a list of edges; an edge is an array of 2, 3 or 4 control points: a line, a
+quadratic or a cubic curve. The functions here call the shared library that `host/install` writes. Its folder is
+`MERELSPLUM_LIB_DIR`, or it is where the system looks for libraries.
+"""
+
+import ctypes
+import math
+import os
+
+import numpy
+
+__all__ = ["COLORS", "Refusal", "collect_splines", "color"]
+
+#: The names of the colours, by their bits: 1 red, 2 green, 4 blue.
+COLORS = ("black", "red", "green", "yellow", "blue", "magenta", "cyan", "white")
+
+_REASONS = {
+    4: "more than 64 contours, 256 edges, 64 splines or 2016 distances",
+    5: "a kind of edge is unknown",
+    6: "the threshold is no number from -1 to 1",
+    7: "a coordinate is no number from -1048576 to 1048576",
+    8: "lengths disagree, or distances are not as many as pairs of splines",
+    9: "a distance is no finite number from 0 on",
+    11: "the result does not fit",
+}
+
+_MOST_EDGES = 508
+_NO_SPLINE = 255
+_BUFFER = [ctypes.c_void_p, ctypes.c_size_t]
+
+
+class Refusal(ValueError):
+    """Why an outline cannot be coloured; `number` is the library's."""
+
+    def __init__(self, number):
+        super().__init__(_REASONS.get(number, f"refusal {number}"))
+        self.number = number
+
+
+def _load():
+    folder = os.environ.get("MERELSPLUM_LIB_DIR")
+    name = "libmerelsplum.so.0"
+    library = ctypes.CDLL(os.path.join(folder, name) if folder else name)
+    seed = [ctypes.c_uint64]
+    for name, more in [
+        ("edge_coloring_simple", seed),
+        ("edge_coloring_ink_trap", seed),
+        ("edge_coloring_by_distance", seed + _BUFFER),
+        ("collect_splines", []),
+    ]:
+        function = getattr(library, "merelsplum_" + name)
+        function.argtypes = 3 * _BUFFER + [ctypes.c_double] + more + 4 * _BUFFER
+        function.restype = ctypes.c_uint64
+    return library
+
+
+_library = _load()
+
+
+def _buffers(*arrays):
+    return [argument for array in arrays for argument in (array.ctypes.data, array.size)]
+
+
+def _outline(contours):
+    """The three buffers of an outline."""
+    edges = [numpy.asarray(edge, dtype=numpy.float64) for contour in contours for edge in contour]
+    if len(contours) > 64 or len(edges) > 256:
+        raise Refusal(4)
+    for edge in edges:
+        if edge.ndim != 2 or edge.shape[1] != 2 or not 2 <= edge.shape[0] <= 4:
+            raise ValueError("an edge is an array of 2, 3 or 4 points")
+    points = numpy.zeros((len(edges), 8))
+    for row, edge in zip(points, edges):
+        row[: edge.size] = edge.ravel()
+    lengths = numpy.array([len(contour) for contour in contours], dtype=numpy.uint16)
+    kinds = numpy.array([edge.shape[0] - 1 for edge in edges], dtype=numpy.uint8)
+    return lengths, kinds, points.ravel()
+
+
+def _call(name, contours, angle, more):
+    """Calls a function of the library: its answer, and the contours of the result with a byte for each edge."""
+    lengths = numpy.zeros(len(contours), dtype=numpy.uint16)
+    kinds = numpy.zeros(_MOST_EDGES, dtype=numpy.uint8)
+    points = numpy.zeros(8 * _MOST_EDGES)
+    values = numpy.zeros(_MOST_EDGES, dtype=numpy.uint8)
+    outline = _outline(contours)
+    function = getattr(_library, "merelsplum_" + name)
+    answer = function(*_buffers(*outline), math.sin(angle), *more, *_buffers(lengths, kinds, points, values))
+    if answer >> 32 == 1:
+        raise Refusal(answer & 0xFFFFFFFF)
+    result, at = [], 0
+    for length in lengths.tolist():
+        edges = range(at, at + length)
+        result.append([(points[8 * i :][: 2 * int(kinds[i]) + 2].reshape(-1, 2).copy(), int(values[i])) for i in edges])
+        at += length
+    return answer, result
+
+
+def color(contours, strategy="ink_trap", angle=3.0, seed=0, distances=None):
+    """Colours an outline; the angle, in radians, is that from which a turn is a corner.
+
+    The strategy is "simple", "ink_trap" or "distance". The last needs the distances of the splines that `collect_splines`
+    numbers: one for each pair i < j, by i and then by j.
+
+    Returns the contours, each a list of pairs: the control points of an edge, and the bits of its colour (see `COLORS`). A
+    contour of one or two edges with one corner comes back in thirds.
+    """
+    names = {"simple": "simple", "ink_trap": "ink_trap", "distance": "by_distance"}
+    if strategy not in names:
+        raise ValueError("the strategies are simple, ink_trap and distance")
+    if (distances is not None) != (strategy == "distance"):
+        raise ValueError("distances are for the strategy distance")
+    more = [seed]
+    if strategy == "distance":
+        given = numpy.ascontiguousarray(distances, dtype=numpy.float64)
+        more += _buffers(given)
+    return _call("edge_coloring_" + names[strategy], contours, angle, more)[1]
+
+
+def collect_splines(contours, angle=3.0):
+    """Cuts an outline into splines, runs of edges from corner to corner, for the colouring by distance.
+
+    Returns how many there are, and the contours, each a list of pairs: the control points of an edge, and the number of its
+    spline, None where it belongs to none.
+    """
+    answer, result = _call("collect_splines", contours, angle, [])
+    numbered = [[(edge, None if spline == _NO_SPLINE else spline) for edge, spline in contour] for contour in result]
+    return answer >> 16 & 0xFFFF, numbered

@@ -1,0 +1,64 @@
+"""Tests of the module: python3 test.py, with MERELSPLUM_LIB_DIR set."""
+
+import unittest
+
+import numpy
+from merelsplum import COLORS, Refusal, collect_splines, color
+
+SQUARE = [[[[0, 0], [1, 0]], [[1, 0], [1, 1]], [[1, 1], [0, 1]], [[0, 1], [0, 0]]]]
+
+
+def names(contours):
+    return [[COLORS[bits] for _, bits in contour] for contour in contours]
+
+
+class Tests(unittest.TestCase):
+    def test_square(self):
+        self.assertEqual(names(color(SQUARE, "simple")), [["magenta", "yellow", "cyan", "yellow"]])
+        for (points, _), edge in zip(color(SQUARE)[0], SQUARE[0]):
+            numpy.testing.assert_array_equal(points, edge)
+
+    def test_seed(self):
+        self.assertNotEqual(names(color(SQUARE, seed=1)), names(color(SQUARE, seed=2)))
+
+    def test_thirds(self):
+        drop = [[numpy.array([[0, 0], [6, 6], [-6, 6], [0, 0]])]]
+        (contour,) = color(drop, "simple")
+        self.assertEqual([points.shape for points, _ in contour], 3 * [(4, 2)])
+
+    def test_curves(self):
+        (contour,) = color([[[[0, 0], [4, 8], [8, 0]], [[8, 0], [0, 0]]]], "simple")
+        self.assertEqual([len(points) for points, _ in contour], [3, 2])
+
+    def test_distance(self):
+        count, (contour,) = collect_splines(SQUARE)
+        self.assertEqual((count, [spline for _, spline in contour]), (4, [0, 1, 2, 3]))
+        distances = [0, 1, 0, 0, 1, 0]
+        (colored,) = color(SQUARE, "distance", distances=distances)
+        bits = [bits for _, bits in colored]
+        self.assertTrue(all(a != b for a, b in zip(bits, bits[1:] + bits[:1])), bits)
+
+    def test_refusals(self):
+        for number, call in [
+            (4, lambda: color(65 * SQUARE)),
+            (7, lambda: color([[[[0, 0], [float("nan"), 0]]]])),
+            (8, lambda: color(SQUARE, "distance", distances=[1.0])),
+            (9, lambda: color(SQUARE, "distance", distances=6 * [-1.0])),
+        ]:
+            with self.assertRaises(Refusal) as refused:
+                call()
+            self.assertEqual(refused.exception.number, number)
+
+    def test_bad_calls(self):
+        for call in [
+            lambda: color(SQUARE, "random"),
+            lambda: color(SQUARE, "distance"),
+            lambda: color(SQUARE, distances=[]),
+            lambda: color([[[[0, 0]]]]),
+            lambda: color([[[[0, 0, 0], [1, 1, 1]]]]),
+        ]:
+            with self.assertRaises(ValueError):
+                call()
+
+
+unittest.main()

@@ -1,0 +1,71 @@
+//! Glyphs above the limits of the proved library, coloured by the Rust of docs/src instead, which has none.
+
+use crate::source::{Shape, edge};
+use bymsdfgen::coloring;
+use merelsplum::job::Strategy;
+use merelsplum::{Colored, EdgeColor};
+
+/// What the library takes at most.
+const CONTOURS: usize = 64;
+const EDGES: usize = 256;
+
+/// Colours a shape, the angle in radians.
+pub fn color(shape: &Shape, strategy: Strategy, angle: f64, seed: u64) -> Colored {
+    let mut shape = shape.clone();
+    match strategy {
+        Strategy::Simple => coloring::edge_coloring_simple(&mut shape, angle, seed),
+        Strategy::InkTrap => coloring::edge_coloring_ink_trap(&mut shape, angle, seed),
+        Strategy::ByDistance => coloring::edge_coloring_by_distance(&mut shape, angle, seed),
+    }
+    let contour = |contour: &crate::source::Contour| {
+        let edges = contour.segments.iter().zip(&contour.colors);
+        edges.map(|(segment, color)| (edge(segment), EdgeColor::ALL[usize::from(color.bits() & 7)])).collect()
+    };
+    Colored { contours: shape.contours.iter().map(contour).collect() }
+}
+
+/// Which limit a shape is above, and by how much.
+pub fn excess(shape: &Shape) -> String {
+    let above = |count: usize, limit: usize, what: &str| {
+        (count > limit).then(|| format!("{count} {what}, {} above the limit of {limit}", count - limit))
+    };
+    let contours = above(shape.contours.len(), CONTOURS, "contours");
+    let edges = above(shape.edge_count(), EDGES, "edges");
+    let found: Vec<String> = contours.into_iter().chain(edges).collect();
+    if found.is_empty() { "more than 64 splines".to_owned() } else { found.join("; ") }
+}
+
+#[cfg(test)]
+mod tests {
+    use super::*;
+    use crate::source::{EdgeSegment, Vector2, outline};
+
+    /// So many squares side by side.
+    fn squares(count: usize) -> Shape {
+        let mut shape = Shape::new();
+        for i in 0..count {
+            let left = 3.0 * i as f64;
+            let corners = [(left, 0.0), (left, 2.0), (left + 2.0, 2.0), (left + 2.0, 0.0)].map(|(x, y)| Vector2::new(x, y));
+            let contour = shape.add_contour_mut();
+            (0..4).for_each(|i| contour.add_edge(EdgeSegment::line(corners[i], corners[(i + 1) % 4])));
+        }
+        shape
+    }
+
+    /// Within the limits both colour alike.
+    #[test]
+    fn as_the_library() {
+        let shape = squares(3);
+        for strategy in [Strategy::Simple, Strategy::InkTrap, Strategy::ByDistance] {
+            let job = crate::sheet::job(outline(&shape), strategy, 3f64.sin(), 5).unwrap();
+            assert_eq!(color(&shape, strategy, 3.0, 5), job.color().unwrap(), "{strategy:?}");
+        }
+    }
+
+    #[test]
+    fn limits() {
+        assert_eq!(excess(&squares(16)), "more than 64 splines");
+        assert_eq!(excess(&squares(64)), "more than 64 splines");
+        assert_eq!(excess(&squares(65)), "65 contours, 1 above the limit of 64; 260 edges, 4 above the limit of 256");
+    }
+}
