@@ -1,7 +1,7 @@
 -- An answer as C sees it, one number: a number of its values, or a base and the number of the refusal.
 use Prim.Native.Nat.{ℕ, _+_}
 use mathlib.Core.List.{List}
-use Rattle.graph.specs.Answers.{Answer, values, refusal}
+use Rattle.coloring.specs.Answers.{Answer, values, refusal}
 
 abbrev pub codeOf : (List ℕ → ℕ) → ℕ → Answer → ℕ
 codeOf number base (values vs) = number vs

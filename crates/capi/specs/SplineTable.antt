@@ -1,6 +1,6 @@
 -- The answer to an offer as C sees it: one number.
 use Prim.Native.Nat.{ℕ, _+_}
-use Rattle.graph.specs.SplineTable.{OfferAnswer, kept, declined, refused}
+use Rattle.coloring.specs.SplineTable.{OfferAnswer, kept, declined, refused}
 
 -- 256 and the counter where the pair is kept, 512 and the counter where it is declined, 768 and the number of the refusal
 abbrev pub answerCode : OfferAnswer → ℕ

@@ -1,9 +1,9 @@
 // Offers to a spline table.
 use crate::wide;
-use graph::spline_table::Offer;
-use graph::spline_table::{self};
+use coloring::spline_table::Offer;
+use coloring::spline_table::{self};
 ghost use mathlib.Core.Path.{_≡_};
-ghost use Rattle.graph.specs.SplineTable.{offerAnswer, offer, tableOf};
+ghost use Rattle.coloring.specs.SplineTable.{offerAnswer, offer, tableOf};
 ghost use Rattle.capi.specs.SplineTable.{answerCode};
 
 // 256 and the counter where the pair is kept, 512 and the counter where it is declined, 768 and the number of the refusal.

@@ -1,26 +1,25 @@
--- What the contracts of the entries say of their answers in document 01's numbers ("What the desk says back"): the
--- refusals in their order, then the values.
+-- What the contracts of the entries say of their answers in document 01's numbers ("What the desk says back"): the refusals in
+-- their order, then the values.
 use Prim.Native.Nat.{ℕ, _*_}
 use mathlib.Core.Path.{_≡_, refl}
-use mathlib.Core.Bool.{_&&_}
 use mathlib.Core.List.{List, [], _∷_, _++_, map}
+use lib.Ieee.{Float}
+use Rattle.coloring.specs.SplineColors.{checkSplines}
+use Rattle.coloring.specs.Answers.{values, firstOf, checkedAnswer, distanceChecks, told-distances, Answer, refusal, told-require, coloredAnswer, told-after, told-refused, told-passed}
+use mathlib.Core.Bool.{_&&_}
 use lib.ListN.{length}
 use lib.Dec.{leb, eqb}
-use lib.Ieee as Ieee
-use lib.Ieee.{Float}
 use Rattle.math.specs.Scalar.{f1}
-use Rattle.graph.specs.declared.refusal.Refusal.{Refusal}
-use Rattle.graph.specs.declared.refusal.Refusal.the-variants.{TooMany, UnknownKind, BadThreshold, BadCoordinate, LengthMismatch}
-use Rattle.graph.specs.declared.refusal.Checked.{Checked}
-use Rattle.graph.specs.declared.refusal.Checked.the-variants.{Passed, Failed}
-use Rattle.graph.specs.Refusal.{refusalNumber, require, andThen}
-use Rattle.graph.specs.Lists.{all}
-use Rattle.graph.specs.Checks.{Check, unless}
-use Rattle.graph.specs.Answers.{Answer, values, refusal, firstOf, checkedAnswer, distanceChecks, told-require, told-distances}
+use Rattle.coloring.specs.declared.refusal.Refusal.{Refusal}
+use Rattle.coloring.specs.declared.refusal.Refusal.the-variants.{TooMany, UnknownKind, BadThreshold, BadCoordinate, LengthMismatch}
+use Rattle.coloring.specs.declared.refusal.Checked.{Checked}
+use Rattle.coloring.specs.declared.refusal.Checked.the-variants.{Passed, Failed}
+use Rattle.coloring.specs.Refusal.{refusalNumber, require, andThen}
+use Rattle.coloring.specs.Lists.{all}
+use Rattle.coloring.specs.Checks.{Check, unless}
 use Rattle.coloring.specs.declared.settings.Strategy.{Strategy}
 use Rattle.coloring.specs.declared.settings.Marking.{Marking}
 use Rattle.coloring.specs.declared.settings.Marking.the-variants.{Colors, Numbers, Distances}
-use Rattle.coloring.specs.Answers.{coloredAnswer, told-after, told-refused, told-passed}
 use Rattle.coloring.specs.Places.{total}
 use Rattle.coloring.specs.Outline.{Outline, Result, contours, knownKind, between, coordinatesFit, check, resultFits}
 use Rattle.coloring.specs.Shape.{painted, countsOf}
@@ -29,6 +28,13 @@ use Rattle.coloring.specs.Splines.{splineTotal}
 use Rattle.coloring.specs.Layout.{layout}
 use Rattle.coloring.specs.Values.{splineValues, middleValue, checkMarking}
 use Rattle.coloring.specs.EdgeColoring.{edgeColoring, collectSplines, edgeColoringByDistance}
+use lib.Ieee as Ieee
+
+-- ---- the colours of splines: 4, 8, 9
+
+pub splines-in-numbers : (splines : ℕ) (distances : List Float) → checkedAnswer (checkSplines splines distances) ≡ firstOf (distanceChecks splines distances) (values [])
+unfolding firstOf
+splines-in-numbers splines distances = told-distances checkedAnswer (λ r. refl) splines distances [] (values []) refl
 
 -- ---- colourings: 4, 8, 5, 7, 6, splines 4, distance count 8, 9, 11
 

@@ -5,3 +5,4 @@ pub mod ChannelLaws
 pub mod TrichotomyExact
 pub mod AnswerLaws
 pub mod SourceLoops
+pub mod Writing

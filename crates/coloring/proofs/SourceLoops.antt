@@ -12,7 +12,7 @@ use lib.IntN.{pos, negsuc}
 use lib.ListN.{length, getD, set, take, drop, replicate, length-append, length-drop, length-replicate, take-append-drop}
 use lib.Seq.{drop-cons, set-at, length-take-le}
 use borrow.Author.Tests.{lt-ltb, le-ltb, ltb-true, ltb-false, eq-eqb, ne-eqb}
-use Rattle.graph.specs.Lists.{range}
+use Rattle.coloring.specs.Lists.{range}
 use Rattle.coloring.specs.Trichotomy.{symmetricalTrichotomy}
 use Rattle.coloring.specs.Corners.{cornersFrom, cornersOf, cornerCount, firstCorner}
 use Rattle.coloring.specs.Teardrop.{thirdOf, runs}

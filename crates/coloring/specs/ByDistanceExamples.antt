@@ -9,11 +9,11 @@ use Rattle.math.specs.Sqrt.{sqrtOf}
 use Rattle.math.specs.Vector2.{sub, dot, cross, divScalar, squaredLength, lengthOf, normalize}
 use Rattle.geometry.specs.EdgeSegment.{direction, toStored, fromStored}
 use Rattle.geometry.specs.EdgeColor.{bitsOf}
-use Rattle.graph.specs.Lists.{range}
-use Rattle.graph.specs.SplineTable.{offer}
-use Rattle.graph.specs.PairOrder.{validDistance}
-use Rattle.graph.specs.SplineColors.{offerSplines}
-use Rattle.graph.specs.SplineColorsExamples.{squareDistances}
+use Rattle.coloring.specs.Lists.{range}
+use Rattle.coloring.specs.SplineTable.{offer}
+use Rattle.coloring.specs.PairOrder.{validDistance}
+use Rattle.coloring.specs.SplineColors.{offerSplines}
+use Rattle.coloring.specs.SplineColorsExamples.{squareDistances}
 use Rattle.coloring.specs.Corners.{cornerCount, firstCorner}
 use Rattle.coloring.specs.declared.settings.Marking.the-variants.{Distances}
 use Rattle.coloring.specs.Splines.{paintContours}

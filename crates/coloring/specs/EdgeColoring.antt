@@ -6,9 +6,9 @@ use mathlib.Core.List.{List, [], map}
 use lib.Dec.{leb}
 use lib.Ieee.{Float}
 use lib.ListN.{length}
-use Rattle.graph.specs.declared.refusal.Refusal.the-variants.{TooMany}
-use Rattle.graph.specs.Limits.{maxDistances}
-use Rattle.graph.specs.Refusal.{require}
+use Rattle.coloring.specs.declared.refusal.Refusal.the-variants.{TooMany}
+use Rattle.coloring.specs.Limits.{maxDistances}
+use Rattle.coloring.specs.Refusal.{require}
 use Rattle.coloring.specs.declared.settings.Strategy.the-variants.{Simple, InkTrap}
 use Rattle.coloring.specs.declared.settings.Marking.{Marking}
 use Rattle.coloring.specs.declared.settings.Marking.the-variants.{Colors, Numbers, Distances}

@@ -15,7 +15,7 @@ use Rattle.geometry.specs.EdgeSegment.{vmix, point, direction, toStored, fromSt
 use Rattle.geometry.specs.declared.edge_color.EdgeColor.{EdgeColor}
 use Rattle.geometry.specs.declared.edge_color.EdgeColor.the-variants.{Yellow, Magenta, Cyan}
 use Rattle.geometry.specs.declared.edge_segment.EdgeSegment.{EdgeSegment}
-use Rattle.graph.specs.declared.refusal.Refusal.the-variants.{ResultTooShort}
+use Rattle.coloring.specs.declared.refusal.Refusal.the-variants.{ResultTooShort}
 use Rattle.coloring.specs.declared.outline.Colored.the-variants.{Edges, Refused}
 use Rattle.coloring.specs.Trichotomy.{symmetricalTrichotomy}
 use Rattle.coloring.specs.Switching.{switchColor, switchColorBanned}

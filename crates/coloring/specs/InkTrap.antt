@@ -12,7 +12,7 @@ use Rattle.geometry.specs.EdgeColor.{bitsOf, fromBits}
 use Rattle.geometry.specs.declared.edge_segment.EdgeSegment.{EdgeSegment}
 use Rattle.geometry.specs.declared.edge_color.EdgeColor.{EdgeColor}
 use Rattle.geometry.specs.declared.edge_color.EdgeColor.the-variants.{Black}
-use Rattle.graph.specs.Lists.{range}
+use Rattle.coloring.specs.Lists.{range}
 use Rattle.coloring.specs.declared.switching.Pen.{Pen}
 use Rattle.coloring.specs.declared.ink_trap.InkTrapCorner.{InkTrapCorner}
 use Rattle.coloring.specs.Switching.{SplineColors, shared, switchColorBanned, bannedBefore}

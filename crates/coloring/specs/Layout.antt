@@ -8,7 +8,7 @@ use lib.ListN.{length}
 use lib.Dec.{leb, eqb}
 use Rattle.geometry.specs.EdgeSegment.{splitInThirds}
 use Rattle.geometry.specs.declared.edge_segment.EdgeSegment.{EdgeSegment}
-use Rattle.graph.specs.Lists.{range}
+use Rattle.coloring.specs.Lists.{range}
 use Rattle.coloring.specs.Places.{rotate}
 use Rattle.coloring.specs.Corners.{Cornered, cornerCount, firstCorner}
 

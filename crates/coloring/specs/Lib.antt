@@ -1,6 +1,11 @@
 -- The definitions that the contracts of the colouring cite.
 pub mod Limits
+pub mod Refusal
+pub mod Checks
+pub mod Seed
+pub mod Lists
 pub mod Places
+-- outlines, corners and splines
 pub mod Switching
 pub mod Corners
 pub mod Trichotomy
@@ -13,12 +18,24 @@ pub mod Values
 pub mod Outline
 pub mod Shape
 pub mod EdgeColoring
--- laws that crates above cite too: how long the parts of a result are, and how it is painted
-pub mod Sizes
-pub mod PaintLaws
+-- the spline table
+pub mod Recolor
+pub mod SplineTable
+pub mod Sequence
+-- the splines' colours from their distances
+pub mod PairOrder
+pub mod PairNumbers
+pub mod SecondDegree
+pub mod SplineColors
 -- the answers in document 01's numbers
 pub mod Answers
+-- laws that crates above cite too: truth values, how long the parts of a result are, and how it is painted
+pub mod Bools
+pub mod Sizes
+pub mod PaintLaws
 -- worked examples
+pub mod OfferExamples
+pub mod SplineColorsExamples
 pub mod Examples
 pub mod ByDistanceExamples
 pub mod TenExamples

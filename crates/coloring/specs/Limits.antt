@@ -1,6 +1,5 @@
--- The limits of document 01, "Trays and the job file", and what follows from them. Those of splines and distances are
--- in graph's SplineColors.
-use Prim.Native.Nat.{ℕ, _+_}
+-- The limits of document 01, "Trays and the job file", and what follows from them.
+use Prim.Native.Nat.{ℕ}
 
 abbrev pub maxContours : ℕ
 maxContours = 64
@@ -15,3 +14,11 @@ maxResultEdges = 508
 -- splines of a shape: one an edge, and one more for each contour of one edge with its corner
 abbrev pub maxShapeSplines : ℕ
 maxShapeSplines = 320
+
+-- splines of a table, and of a shape whose splines are numbered
+abbrev pub maxSplines : ℕ
+maxSplines = 64
+
+-- one distance for each pair of as many splines
+abbrev pub maxDistances : ℕ
+maxDistances = 2016

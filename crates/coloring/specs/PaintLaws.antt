@@ -7,7 +7,7 @@ use mathlib.Core.List.{List, [], _∷_, map, map-append}
 use lib.Dec.{eqb}
 use lib.IntN.{ℤ, pos, negsuc}
 use lib.ListN.{length, take, drop, length-map, List·getD-map}
-use Rattle.graph.specs.Lists.{range}
+use Rattle.coloring.specs.Lists.{range}
 use Rattle.coloring.specs.Places.{byPlace}
 use Rattle.coloring.specs.Trichotomy.{symmetricalTrichotomy}
 use Rattle.coloring.specs.Corners.{cornerCount, firstCorner}

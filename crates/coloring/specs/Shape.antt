@@ -5,8 +5,8 @@ use mathlib.Core.Bool.{Bool}
 use mathlib.Core.List.{List, [], map}
 use lib.Ieee.{Float}
 use lib.ListN.{length}
-use Rattle.graph.specs.declared.refusal.Checked.{Checked}
-use Rattle.graph.specs.Refusal.{andThen}
+use Rattle.coloring.specs.declared.refusal.Checked.{Checked}
+use Rattle.coloring.specs.Refusal.{andThen}
 use Rattle.coloring.specs.declared.settings.Marking.{Marking}
 use Rattle.coloring.specs.declared.outline.Counts.{Counts}
 use Rattle.coloring.specs.Limits.{maxResultEdges, maxShapeSplines}

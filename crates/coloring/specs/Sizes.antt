@@ -14,8 +14,8 @@ use Rattle.math.specs.declared.vector2.Vector2.{Vector2}
 use Rattle.geometry.specs.EdgeSegment.{direction, toStored}
 use Rattle.geometry.specs.declared.edge_segment.EdgeSegment.{EdgeSegment}
 use Rattle.geometry.specs.declared.edge_segment.EdgeSegment.the-variants.{Line, Quadratic, Cubic}
-use Rattle.graph.specs.Bools.{and-left, and-right, branch-true, branch-false}
-use Rattle.graph.specs.Lists.{range, length-range}
+use Rattle.coloring.specs.Bools.{and-left, and-right, branch-true, branch-false}
+use Rattle.coloring.specs.Lists.{range, length-range}
 use Rattle.coloring.specs.Limits.{maxContours, maxEdges, maxResultEdges}
 use Rattle.coloring.specs.Places.{rotate, byPlace, total}
 use Rattle.coloring.specs.Corners.{Cornered, lastEdge, flagsFrom, cornerFlags, searchCorners, edgesIn, flagsIn, cornerCount, firstCorner}

@@ -8,7 +8,7 @@ use lib.Dec.{eqb}
 use Rattle.geometry.specs.EdgeColor.{bitsOf, fromBits}
 use Rattle.geometry.specs.declared.edge_color.EdgeColor.{EdgeColor}
 use Rattle.geometry.specs.declared.edge_color.EdgeColor.the-variants.{Black, Yellow, Magenta, Cyan}
-use Rattle.graph.specs.Seed.{seedExtract2, seedExtract3}
+use Rattle.coloring.specs.Seed.{seedExtract2, seedExtract3}
 use Rattle.coloring.specs.declared.switching.Pen.{Pen}
 
 -- the first colour, by the seed mod 3: Cyan, Magenta, Yellow

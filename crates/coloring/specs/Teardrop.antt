@@ -5,7 +5,7 @@ use mathlib.Core.Bool.{Bool}
 use mathlib.Core.List.{List, map}
 use lib.IntN.{ℤ, pos, negsuc}
 use lib.ListN.{length}
-use Rattle.graph.specs.Lists.{range}
+use Rattle.coloring.specs.Lists.{range}
 use Rattle.coloring.specs.Trichotomy.{symmetricalTrichotomy}
 use Rattle.coloring.specs.Places.{byPlace}
 use Rattle.coloring.specs.Corners.{firstCorner}

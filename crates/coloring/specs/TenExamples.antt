@@ -12,9 +12,9 @@ use Rattle.geometry.specs.EdgeSegment.{splitInThirds}
 use Rattle.geometry.specs.Examples.{n0, negative0, n1, n3, tiny, unitLines, split-exactly, split-from-negative-zero, tiny-direction}
 use Rattle.geometry.specs.declared.edge_color.EdgeColor.the-variants.{Yellow, Magenta}
 use Rattle.geometry.specs.declared.edge_segment.EdgeSegment.the-variants.{Line}
-use Rattle.graph.specs.SplineTable.{kept, declined}
-use Rattle.graph.specs.SplineColors.{offerSplines, colorSplines}
-use Rattle.graph.specs.SplineColorsExamples.{squareDistances, square-colors, square-answers}
+use Rattle.coloring.specs.SplineTable.{kept, declined}
+use Rattle.coloring.specs.SplineColors.{offerSplines, colorSplines}
+use Rattle.coloring.specs.SplineColorsExamples.{squareDistances, square-colors, square-answers}
 use Rattle.coloring.specs.EdgeColoring.{edgeColoringSimple, edgeColoringInkTrap, collectSplines, edgeColoringByDistance}
 use Rattle.coloring.specs.Examples.{trichotomies, trichotomy-of-3, trichotomy-of-5, trichotomy-of-47, afterCyan, switches-of-cyan, square, fourEdges, eighth, simple-square, ink-trap-square}
 use Rattle.coloring.specs.ByDistanceExamples.{square-edges}

@@ -10,13 +10,13 @@ use lib.Ieee.{Float}
 use Rattle.geometry.specs.EdgeColor.{bitsOf}
 use Rattle.geometry.specs.declared.edge_color.EdgeColor.{EdgeColor}
 use Rattle.geometry.specs.declared.edge_color.EdgeColor.the-variants.{Yellow, Cyan, Magenta, White}
-use Rattle.graph.specs.declared.refusal.Refusal.the-variants.{TooMany}
-use Rattle.graph.specs.declared.refusal.Checked.{Checked}
-use Rattle.graph.specs.declared.refusal.Checked.the-variants.{Passed}
-use Rattle.graph.specs.Refusal.{require}
-use Rattle.graph.specs.Lists.{range}
-use Rattle.graph.specs.Limits.{maxSplines}
-use Rattle.graph.specs.SplineColors.{checkSplines, colorSplines}
+use Rattle.coloring.specs.declared.refusal.Refusal.the-variants.{TooMany}
+use Rattle.coloring.specs.declared.refusal.Checked.{Checked}
+use Rattle.coloring.specs.declared.refusal.Checked.the-variants.{Passed}
+use Rattle.coloring.specs.Refusal.{require}
+use Rattle.coloring.specs.Lists.{range}
+use Rattle.coloring.specs.Limits.{maxSplines}
+use Rattle.coloring.specs.SplineColors.{checkSplines, colorSplines}
 use Rattle.coloring.specs.declared.switching.Pen.{Pen}
 use Rattle.coloring.specs.declared.settings.Strategy.{Strategy}
 use Rattle.coloring.specs.declared.settings.Strategy.the-variants.{Simple, InkTrap}

@@ -13,7 +13,7 @@ ghost use lib.ListN.{take, drop};
 ghost use Rattle.math.specs.Scalar.{f0, f1};
 ghost use Rattle.math.specs.Vector2.{lengthOf, normalize};
 ghost use Rattle.geometry.specs.EdgeSegment.{direction};
-ghost use Rattle.graph.specs.Lists.{overFrom};
+ghost use Rattle.coloring.specs.Lists.{overFrom};
 ghost use Rattle.coloring.specs.Corners.{abs, isCorner, estimateEdgeLength, cornerFlags, searchCorners, cornered, cornerCount, firstCorner};
 ghost use Rattle.coloring.specs.Outline.{edgesOf, contours, outline, Matching, Cut, Part};
 

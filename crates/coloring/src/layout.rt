@@ -10,7 +10,7 @@ ghost use mathlib.Core.Path.{_≡_};
 ghost use mathlib.Core.List.{map, flatten};
 ghost use Prim.Native.Nat.{_+_, _*_, _-_, _≤_, _<_};
 ghost use lib.ListN.{length, take, drop};
-ghost use Rattle.graph.specs.Lists.{overFrom};
+ghost use Rattle.coloring.specs.Lists.{overFrom};
 ghost use Rattle.coloring.specs.Limits.{maxEdges};
 ghost use Rattle.coloring.specs.Places.{rotate};
 ghost use Rattle.coloring.specs.Corners.{cornered};

@@ -1,7 +1,7 @@
 // Colour switching of coloring/mod.rs. Colour and seed pass through by value, as one `Pen`.
+use crate::seed::seed_extract2;
+use crate::seed::seed_extract3;
 use geometry::edge_color::EdgeColor;
-use graph::seed::seed_extract2;
-use graph::seed::seed_extract3;
 ghost use mathlib.Core.Path.{_≡_};
 ghost use lib.ListN.{length};
 ghost use Rattle.coloring.specs.Switching.{initColor, switchColor, oneChannel, switchColorBanned, bannedBefore, switchEach, ColorsHeld};

@@ -9,13 +9,13 @@ use lib.ListN.{length, take, drop, length-append, length-map}
 use lib.Seq.{take-at}
 use borrow.Author.Tests.{le-leb, lt-leb}
 use Rattle.geometry.specs.declared.edge_segment.EdgeSegment.{EdgeSegment}
-use Rattle.graph.specs.declared.refusal.Checked.{Checked}
-use Rattle.graph.specs.declared.refusal.Checked.the-variants.{Passed, Failed}
-use Rattle.graph.specs.declared.refusal.Refusal.{Refusal}
-use Rattle.graph.specs.declared.refusal.Refusal.the-variants.{Truncated, UnknownMark, MisplacedMark, TooMany, UnknownKind, BadThreshold}
-use Rattle.graph.specs.declared.refusal.Refusal.the-variants.{BadCoordinate, LengthMismatch, BadDistance, BadTable, ResultTooShort}
-use Rattle.graph.specs.Refusal.{refusalNumber}
-use Rattle.graph.specs.Lists.{over}
+use Rattle.coloring.specs.declared.refusal.Checked.{Checked}
+use Rattle.coloring.specs.declared.refusal.Checked.the-variants.{Passed, Failed}
+use Rattle.coloring.specs.declared.refusal.Refusal.{Refusal}
+use Rattle.coloring.specs.declared.refusal.Refusal.the-variants.{Truncated, UnknownMark, MisplacedMark, TooMany, UnknownKind, BadThreshold}
+use Rattle.coloring.specs.declared.refusal.Refusal.the-variants.{BadCoordinate, LengthMismatch, BadDistance, BadTable, ResultTooShort}
+use Rattle.coloring.specs.Refusal.{refusalNumber}
+use Rattle.coloring.specs.Lists.{over}
 use Rattle.coloring.specs.declared.outline.Counts.{Counts}
 use Rattle.coloring.specs.declared.outline.Colored.the-variants.{Edges, Refused}
 use Rattle.coloring.specs.Places.{total}

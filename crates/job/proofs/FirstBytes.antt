@@ -9,10 +9,10 @@ use lib.Dec.{leb}
 use lib.ListN.{length, getD, take, drop, length-append, length-drop, take-append-drop}
 use lib.Seq.{drop-drop, take-all, take-append-le, drop-append-le, length-take-le}
 use borrow.Author.Tests.{le-leb, leb-true, leb-false}
-use Rattle.graph.specs.declared.refusal.Refusal.{Refusal}
-use Rattle.graph.specs.declared.refusal.Refusal.the-variants.{Truncated, MisplacedMark, TooMany, UnknownKind, BadThreshold, BadCoordinate, BadDistance}
-use Rattle.graph.specs.Bools.{and-left}
-use Rattle.graph.specs.Lists.{all}
+use Rattle.coloring.specs.declared.refusal.Refusal.{Refusal}
+use Rattle.coloring.specs.declared.refusal.Refusal.the-variants.{Truncated, MisplacedMark, TooMany, UnknownKind, BadThreshold, BadCoordinate, BadDistance}
+use Rattle.coloring.specs.Bools.{and-left}
+use Rattle.coloring.specs.Lists.{all}
 use Rattle.coloring.specs.Outline.{Result}
 use Rattle.job.specs.declared.records.Kind.{Kind}
 use Rattle.job.specs.declared.records.Mark.{Mark}

@@ -1,18 +1,17 @@
--- The answers about a job file in document 01's terms, as the Answers of graph and coloring have those of an offer
--- and of a colouring; and what the
--- contracts say of them in its numbers: the file's first refusal, then those after reading, then the values.
+-- The answers about a job file in document 01's terms, as coloring's Answers has those of a colouring; and what the contracts
+-- say of them in its numbers: the file's first refusal, then those after reading, then the values.
 use Prim.Native.Nat.{ℕ}
 use mathlib.Core.Path.{_≡_, refl}
 use mathlib.Core.Bool.{Bool, true, false}
 use mathlib.Core.List.{List, [], _∷_, _++_, append-nil}
 use lib.Dec.{leb}
 use lib.ListN.{length}
-use Rattle.graph.specs.Refusal.{refusalNumber}
-use Rattle.graph.specs.declared.refusal.Refusal.{Refusal}
-use Rattle.graph.specs.declared.refusal.Checked.{Checked}
-use Rattle.graph.specs.declared.refusal.Checked.the-variants.{Passed, Failed}
-use Rattle.graph.specs.Checks.{Check, unless}
-use Rattle.graph.specs.Answers.{Answer, values, refusal, firstOf, distanceChecks, told-distances}
+use Rattle.coloring.specs.Refusal.{refusalNumber}
+use Rattle.coloring.specs.declared.refusal.Refusal.{Refusal}
+use Rattle.coloring.specs.declared.refusal.Checked.{Checked}
+use Rattle.coloring.specs.declared.refusal.Checked.the-variants.{Passed, Failed}
+use Rattle.coloring.specs.Checks.{Check, unless}
+use Rattle.coloring.specs.Answers.{Answer, values, refusal, firstOf, distanceChecks, told-distances}
 use Rattle.coloring.specs.Answers.{coloredAnswer, told-after, told-refused, told-passed}
 use Rattle.coloring.specs.declared.settings.Strategy.the-variants as pen
 use Rattle.coloring.specs.declared.settings.Marking.the-variants.{Colors, Distances}

@@ -8,7 +8,7 @@ use lib.ListN.{length, take, drop, getD, set}
 use lib.Ieee.{Float}
 use Rattle.geometry.specs.declared.edge_segment.EdgeSegment.{EdgeSegment}
 use Rattle.geometry.specs.EdgeSegment.{toStored}
-use Rattle.graph.specs.Lists.{over}
+use Rattle.coloring.specs.Lists.{over}
 use Rattle.job.specs.declared.records.Kind.{Kind}
 use Rattle.job.specs.declared.records.Kind.the-variants.{Line, Quadratic, Cubic}
 use Rattle.job.specs.declared.records.Item.{Item}

@@ -8,10 +8,10 @@ use lib.Dec.{leb, eqb}
 use lib.Ieee.{Float}
 use lib.ListN.{length}
 use Rattle.geometry.specs.declared.edge_segment.EdgeSegment.{EdgeSegment}
-use Rattle.graph.specs.declared.refusal.Checked.{Checked}
-use Rattle.graph.specs.declared.refusal.Checked.the-variants.{Passed, Failed}
-use Rattle.graph.specs.declared.refusal.Refusal.the-variants.{TooMany, LengthMismatch}
-use Rattle.graph.specs.Refusal.{require}
+use Rattle.coloring.specs.declared.refusal.Checked.{Checked}
+use Rattle.coloring.specs.declared.refusal.Checked.the-variants.{Passed, Failed}
+use Rattle.coloring.specs.declared.refusal.Refusal.the-variants.{TooMany, LengthMismatch}
+use Rattle.coloring.specs.Refusal.{require}
 use Rattle.coloring.specs.declared.outline.Counts.{Counts}
 use Rattle.coloring.specs.declared.outline.Colored.{Colored}
 use Rattle.coloring.specs.declared.outline.Colored.the-variants.{Edges, Refused}

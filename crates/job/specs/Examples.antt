@@ -11,8 +11,8 @@ use Rattle.math.specs.Sqrt.{sqrtOf}
 use Rattle.math.specs.Vector2.{new, sub, divScalar, dot, cross, squaredLength, lengthOf, normalize}
 use Rattle.geometry.specs.EdgeSegment.{direction, toStored}
 use Rattle.geometry.specs.declared.edge_segment.EdgeSegment.the-variants.{Line}
-use Rattle.graph.specs.declared.refusal.Refusal.the-variants.{Truncated, UnknownMark, MisplacedMark, TooMany, UnknownKind, BadThreshold}
-use Rattle.graph.specs.declared.refusal.Refusal.the-variants.{BadCoordinate, LengthMismatch, BadDistance, ResultTooShort}
+use Rattle.coloring.specs.declared.refusal.Refusal.the-variants.{Truncated, UnknownMark, MisplacedMark, TooMany, UnknownKind, BadThreshold}
+use Rattle.coloring.specs.declared.refusal.Refusal.the-variants.{BadCoordinate, LengthMismatch, BadDistance, ResultTooShort}
 use Rattle.coloring.specs.declared.outline.Colored.the-variants.{Edges, Refused}
 use Rattle.coloring.specs.Corners.{searchCorners, cornerCount, firstCorner}
 use Rattle.coloring.specs.Outline.{Result, result, outcome}

@@ -6,8 +6,8 @@ use mathlib.Core.Bool.{Bool, true, cond}
 use mathlib.Core.List.{List, [], _∷_, _++_, map, flatten}
 use lib.Ieee.{Float, binary64, fits, ofBits}
 use Rattle.geometry.specs.declared.edge_segment.EdgeSegment.{EdgeSegment}
-use Rattle.graph.specs.declared.refusal.Refusal.{Refusal}
-use Rattle.graph.specs.Lists.{all}
+use Rattle.coloring.specs.declared.refusal.Refusal.{Refusal}
+use Rattle.coloring.specs.Lists.{all}
 use Rattle.job.specs.declared.records.Mark.the-variants.{End}
 use Rattle.job.specs.declared.records.Header.{Header}
 use Rattle.job.specs.Records.{noHeader, byDistance, marked, bytesOf, coordinates, Record, header, contour, edge, distances, Records, complete}

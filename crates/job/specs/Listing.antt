@@ -8,12 +8,12 @@ use mathlib.Core.List.{List, [], _∷_, _++_, map, flatten}
 use lib.ListN.{length, take, drop}
 use lib.Dec.{leb, ltb}
 use Rattle.geometry.specs.declared.edge_segment.EdgeSegment.{EdgeSegment}
-use Rattle.graph.specs.Refusal.{refusalNumber}
-use Rattle.graph.specs.declared.refusal.Refusal.{Refusal}
-use Rattle.graph.specs.declared.refusal.Refusal.the-variants.{ResultTooShort}
-use Rattle.graph.specs.declared.refusal.Checked.{Checked}
-use Rattle.graph.specs.declared.refusal.Checked.the-variants.{Passed, Failed}
-use Rattle.graph.specs.Lists.{over}
+use Rattle.coloring.specs.Refusal.{refusalNumber}
+use Rattle.coloring.specs.declared.refusal.Refusal.{Refusal}
+use Rattle.coloring.specs.declared.refusal.Refusal.the-variants.{ResultTooShort}
+use Rattle.coloring.specs.declared.refusal.Checked.{Checked}
+use Rattle.coloring.specs.declared.refusal.Checked.the-variants.{Passed, Failed}
+use Rattle.coloring.specs.Lists.{over}
 use Rattle.coloring.specs.Outline.{kindStored}
 use Rattle.job.specs.declared.listing.Listed.{Listed}
 use Rattle.job.specs.declared.listing.Listed.the-variants.{Bytes, Refused}

@@ -4,7 +4,7 @@ use mathlib.Core.Path.{_≡_}
 use mathlib.Core.Bool.{Bool, true, false, cond}
 use mathlib.Core.List.{List}
 use lib.Ieee.{Float}
-use Rattle.graph.specs.declared.refusal.Refusal.the-variants.{ResultTooShort}
+use Rattle.coloring.specs.declared.refusal.Refusal.the-variants.{ResultTooShort}
 use Rattle.job.specs.declared.progress.Read.{Read}
 use Rattle.job.specs.declared.progress.Read.the-variants as read
 use Rattle.job.specs.Job.{Reading, reads, refuses}

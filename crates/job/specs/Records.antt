@@ -9,11 +9,11 @@ use lib.Ieee.{Float}
 use Rattle.geometry.specs.EdgeSegment.{pointAt, toStored}
 use Rattle.geometry.specs.declared.edge_segment.EdgeSegment.{EdgeSegment}
 use Rattle.geometry.specs.declared.edge_segment.EdgeSegment.the-variants as segment
-use Rattle.graph.specs.declared.refusal.Refusal.{Refusal}
-use Rattle.graph.specs.declared.refusal.Refusal.the-variants.{Truncated, UnknownMark, MisplacedMark, TooMany, UnknownKind, BadThreshold}
-use Rattle.graph.specs.declared.refusal.Refusal.the-variants.{BadCoordinate, BadDistance}
-use Rattle.graph.specs.Lists.{all}
-use Rattle.graph.specs.Limits.{maxDistances}
+use Rattle.coloring.specs.declared.refusal.Refusal.{Refusal}
+use Rattle.coloring.specs.declared.refusal.Refusal.the-variants.{Truncated, UnknownMark, MisplacedMark, TooMany, UnknownKind, BadThreshold}
+use Rattle.coloring.specs.declared.refusal.Refusal.the-variants.{BadCoordinate, BadDistance}
+use Rattle.coloring.specs.Lists.{all}
+use Rattle.coloring.specs.Limits.{maxDistances}
 use Rattle.job.specs.declared.records.Strategy.{Strategy}
 use Rattle.job.specs.declared.records.Strategy.the-variants.{Simple, InkTrap, ByDistance}
 use Rattle.job.specs.declared.records.Header as fields

@@ -9,7 +9,7 @@ ghost use mathlib.Core.Path.{_≡_};
 ghost use Prim.Native.Nat.{_*_, _≤_};
 ghost use lib.ListN.{length, replicate};
 ghost use Rattle.math.specs.Scalar.{f0};
-ghost use Rattle.graph.specs.Lists.{over};
+ghost use Rattle.coloring.specs.Lists.{over};
 ghost use Rattle.job.specs.Patterns.{words, floats};
 ghost use Rattle.job.specs.Records.{controls};
 ghost use Rattle.job.specs.Buffers.{buffers, kindNumber, placesFrom, written, Room, Hold};

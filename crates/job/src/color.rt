@@ -10,7 +10,7 @@ use coloring::by_distance::edge_coloring_by_distance;
 use coloring::edge_coloring::edge_coloring_ink_trap;
 use coloring::edge_coloring::edge_coloring_simple;
 use coloring::outline::Colored;
-use graph::refusal::Refusal;
+use coloring::refusal::Refusal;
 use math::bits::float;
 ghost use mathlib.Core.Path.{_≡_};
 ghost use Prim.Native.Nat.{_-_, _*_, _/_, _≤_};

@@ -3,7 +3,7 @@ use crate::color;
 use crate::progress;
 use crate::progress::Read;
 use coloring::outline::Colored;
-use graph::refusal::Refusal;
+use coloring::refusal::Refusal;
 ghost use mathlib.Core.Path.{_≡_};
 ghost use mathlib.Core.List.{[], _∷_};
 ghost use Prim.Native.Nat.{_+_, _≤_, _<_};

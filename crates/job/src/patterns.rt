@@ -2,7 +2,7 @@
 ghost use mathlib.Core.Path.{_≡_};
 ghost use Prim.Native.Nat.{_≤_, _*_};
 ghost use lib.ListN.{length};
-ghost use Rattle.graph.specs.Lists.{all};
+ghost use Rattle.coloring.specs.Lists.{all};
 ghost use Rattle.job.specs.Patterns.{number, words, isThreshold, isCoordinate, isDistance, within};
 
 // The number of at most eight bytes.

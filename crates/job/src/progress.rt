@@ -6,7 +6,7 @@ use crate::records::Item;
 use crate::records::Phase;
 use crate::records::State;
 use crate::records::Strategy;
-use graph::refusal::Refusal;
+use coloring::refusal::Refusal;
 ghost use mathlib.Core.Path.{_≡_};
 ghost use Rattle.job.specs.Job.{readJob};
 ghost use Prim.Native.Nat.{_<_};

@@ -6,7 +6,7 @@ use crate::progress::Numbers;
 use crate::progress::Read;
 use crate::records;
 use crate::records::Found;
-use graph::refusal::Refusal;
+use coloring::refusal::Refusal;
 ghost use mathlib.Core.Path.{_≡_};
 ghost use Prim.Native.Nat.{_≤_};
 ghost use Rattle.job.specs.Job.{readJob};

@@ -3,7 +3,7 @@
 use crate::patterns;
 use crate::patterns::Range;
 use crate::progress::Numbers;
-use graph::refusal::Refusal;
+use coloring::refusal::Refusal;
 ghost use mathlib.Core.Path.{_≡_};
 ghost use mathlib.Core.List.{[]};
 ghost use lib.ListN.{length};

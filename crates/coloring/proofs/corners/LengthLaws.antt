@@ -12,7 +12,7 @@ use denote.Floats.{passes}
 use Rattle.math.specs.Sqrt.{sqrtOf}
 use Rattle.math.specs.Vector2 as vector
 use Rattle.math.specs.declared.vector2.Vector2.{Vector2}
-use Rattle.graph.specs.Bools.{and-left, and-right}
+use Rattle.coloring.specs.Bools.{and-left, and-right}
 
 squares : (a b p q : ℕ) → a * q ≡ b * p → a * a * (q * q) ≡ b * b * (p * p)
 squares a b p q e = mul-mul-mul-comm a a q q ∙ ap₂ (λ (x y : ℕ). x * y) e e ∙ mul-mul-mul-comm b p b p

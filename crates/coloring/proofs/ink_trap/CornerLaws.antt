@@ -16,8 +16,8 @@ use lib.Ieee.{Float}
 use Rattle.geometry.specs.EdgeColor.{bitsOf, fromBits}
 use Rattle.geometry.specs.declared.edge_color.EdgeColor.{EdgeColor}
 use Rattle.geometry.specs.declared.edge_color.EdgeColor.the-variants.{Black}
-use Rattle.graph.specs.Bools.{branch-true, branch-false}
-use Rattle.graph.specs.Lists.{range, length-range}
+use Rattle.coloring.specs.Bools.{branch-true, branch-false}
+use Rattle.coloring.specs.Lists.{range, length-range}
 use Rattle.coloring.specs.declared.switching.Pen.{Pen}
 use Rattle.coloring.specs.declared.ink_trap.InkTrapCorner.{InkTrapCorner}
 use Rattle.coloring.specs.Switching.{shared, switchColorBanned, bannedBefore, SplineColors, ColorsHeld}

@@ -10,7 +10,7 @@ use lib.Ieee.{Float}
 use lib.ListN.{length, getD}
 use Rattle.geometry.specs.declared.edge_color.EdgeColor.{EdgeColor}
 use Rattle.geometry.specs.declared.edge_color.EdgeColor.the-variants.{Black, Red, Green, Yellow, Blue, Magenta, Cyan, White}
-use Rattle.graph.specs.Seed.{seedExtract2}
+use Rattle.coloring.specs.Seed.{seedExtract2}
 use Rattle.coloring.specs.declared.switching.Pen.{Pen}
 use Rattle.coloring.specs.declared.ink_trap.InkTrapCorner.{InkTrapCorner}
 use Rattle.coloring.specs.Switching.{SplineColors, switchColor, switchColorBanned, bannedBefore, turnLeft, shared}

@@ -8,8 +8,8 @@ use lib.Ieee.{Float}
 use lib.ListN.{length, getD, take, drop, set, length-map, length-drop}
 use lib.Seq.{length-take-le}
 use Rattle.geometry.specs.declared.edge_segment.EdgeSegment.{EdgeSegment}
-use Rattle.graph.specs.Lists.{overFrom}
-use Rattle.graph.proofs.Writing.{over-nothing, over-more, over-next}
+use Rattle.coloring.specs.Lists.{overFrom}
+use Rattle.coloring.proofs.Writing.{over-nothing, over-more, over-next}
 use Rattle.coloring.specs.Corners.{Cornered, edgesIn, flagsIn, cornered}
 use Rattle.coloring.specs.Layout.{layout, resultEdges}
 use Rattle.coloring.specs.Outline.{kindStored, placesStored, encode, LaidFrom}

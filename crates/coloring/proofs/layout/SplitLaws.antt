@@ -10,8 +10,8 @@ use lib.ListN.{length}
 use borrow.Author.Tests.{ne-eqb}
 use Rattle.geometry.specs.EdgeColor.{bitsOf}
 use Rattle.geometry.specs.declared.edge_color.EdgeColor.{EdgeColor}
-use Rattle.graph.specs.Lists.{range}
-use Rattle.graph.specs.SplineColors.{colorSplines}
+use Rattle.coloring.specs.Lists.{range}
+use Rattle.coloring.specs.SplineColors.{colorSplines}
 use Rattle.coloring.specs.declared.switching.Pen.{Pen}
 use Rattle.coloring.specs.declared.settings.Strategy.{Strategy}
 use Rattle.coloring.specs.declared.settings.Marking.{Marking}

@@ -10,8 +10,8 @@ use borrow.Author.Tests.{leb-true}
 use lib.Ieee.{Float}
 use lib.ListN.{length, take, drop, getD, drop-of-length-le}
 use lib.Seq.{drop-cons, drop-drop}
-use Rattle.graph.specs.Bools.{and-right}
-use Rattle.graph.specs.Lists.{all}
+use Rattle.coloring.specs.Bools.{and-right}
+use Rattle.coloring.specs.Lists.{all}
 use Rattle.coloring.specs.Places.{total}
 use Rattle.coloring.specs.Outline.{knownKind, inRange, usedPlaces, coordinatesFit}
 use Rattle.coloring.proofs.Lists.{all-at}

@@ -6,8 +6,8 @@ use native.Mathlib.Omega.{arith}
 use lib.Ieee.{Float}
 use lib.ListN.{length, set, length-append, length-set, length-map}
 use Rattle.geometry.specs.declared.edge_segment.EdgeSegment.{EdgeSegment}
-use Rattle.graph.specs.Lists.{overFrom}
-use Rattle.graph.proofs.Writing.{over-length, over-nothing, over-more, over-next, over-all}
+use Rattle.coloring.specs.Lists.{overFrom}
+use Rattle.coloring.proofs.Writing.{over-length, over-nothing, over-more, over-next, over-all}
 use Rattle.coloring.specs.Outline.{kindStored, placesStored}
 use Rattle.coloring.specs.Sizes.{places-length, points-length}
 

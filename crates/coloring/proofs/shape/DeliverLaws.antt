@@ -9,13 +9,13 @@ use lib.ListN.{length, take, drop, length-take, length-drop, length-map}
 use lib.Seq.{take-at}
 use borrow.Author.Tests.{leb-true, eqb-true}
 use Rattle.geometry.specs.declared.edge_segment.EdgeSegment.{EdgeSegment}
-use Rattle.graph.specs.declared.refusal.Refusal.{Refusal}
-use Rattle.graph.specs.declared.refusal.Refusal.the-variants.{ResultTooShort}
-use Rattle.graph.specs.declared.refusal.Checked.{Checked}
-use Rattle.graph.specs.declared.refusal.Checked.the-variants.{Passed, Failed}
-use Rattle.graph.specs.Bools.{and-left, and-right}
-use Rattle.graph.specs.Lists.{over}
-use Rattle.graph.specs.Refusal.{required}
+use Rattle.coloring.specs.declared.refusal.Refusal.{Refusal}
+use Rattle.coloring.specs.declared.refusal.Refusal.the-variants.{ResultTooShort}
+use Rattle.coloring.specs.declared.refusal.Checked.{Checked}
+use Rattle.coloring.specs.declared.refusal.Checked.the-variants.{Passed, Failed}
+use Rattle.coloring.specs.Bools.{and-left, and-right}
+use Rattle.coloring.specs.Lists.{over}
+use Rattle.coloring.specs.Refusal.{required}
 use Rattle.coloring.specs.declared.outline.Counts.{Counts}
 use Rattle.coloring.specs.declared.outline.Colored.the-variants.{Edges, Refused}
 use Rattle.coloring.specs.Places.{total}

@@ -6,8 +6,8 @@ use native.Mathlib.Omega.{arith}
 use lib.ListN.{length, set, length-set, length-map}
 use Rattle.geometry.specs.EdgeColor.{bitsOf}
 use Rattle.geometry.specs.declared.edge_color.EdgeColor.{EdgeColor}
-use Rattle.graph.specs.Lists.{overFrom}
-use Rattle.graph.proofs.Writing.{over-all, over-next, over-nothing}
+use Rattle.coloring.specs.Lists.{overFrom}
+use Rattle.coloring.proofs.Writing.{over-all, over-next, over-nothing}
 use Rattle.coloring.specs.declared.switching.Pen.{Pen}
 use Rattle.coloring.specs.Switching.{SplineColors, ColorsHeld}
 

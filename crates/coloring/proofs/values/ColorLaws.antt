@@ -3,7 +3,7 @@ use mathlib.Core.Path.{_≡_, _∙_}
 use Prim.Native.Nat.{_-_, _≤_, _<_}
 use lib.Dec.{ltb}
 use borrow.Author.Tests.{lt-ltb, le-ltb}
-use Rattle.graph.specs.Bools.{branch-true, branch-false}
+use Rattle.coloring.specs.Bools.{branch-true, branch-false}
 use Rattle.coloring.specs.declared.switching.Pen.{Pen}
 use Rattle.coloring.specs.declared.settings.Strategy.{Strategy}
 use Rattle.coloring.specs.declared.settings.Strategy.the-variants.{Simple, InkTrap}

@@ -8,7 +8,7 @@ use lib.ListN.{length-set, List·getD-append}
 use lib.Seq.{drop-cons, drop-drop, set-at, set-append-left, append-snoc, take-at, drop-at, take-suc, length-take-le}
 use Rattle.math.specs.Scalar.{f0}
 use Rattle.geometry.specs.EdgeSegment.{toStored}
-use Rattle.graph.specs.Lists.{over}
+use Rattle.coloring.specs.Lists.{over}
 use Rattle.job.specs.declared.records.Kind.{Kind}
 use Rattle.job.specs.declared.records.Kind.the-variants.{Line, Quadratic, Cubic}
 use Rattle.job.specs.Patterns.{words, floats}

@@ -8,14 +8,14 @@ use lib.Dec.{leb}
 use lib.Ieee.{Float}
 use lib.ListN.{length}
 use borrow.Author.Tests.{le-leb}
-use Rattle.graph.specs.declared.refusal.Checked.{Checked}
-use Rattle.graph.specs.declared.refusal.Checked.the-variants.{Passed, Failed}
-use Rattle.graph.specs.declared.refusal.Refusal.{Refusal}
-use Rattle.graph.specs.declared.refusal.Refusal.the-variants.{TooMany}
-use Rattle.graph.specs.Refusal.{require}
-use Rattle.graph.specs.PairOrder.{distancesValid}
-use Rattle.graph.specs.Limits.{maxSplines}
-use Rattle.graph.specs.SplineColors.{checkSplines}
+use Rattle.coloring.specs.declared.refusal.Checked.{Checked}
+use Rattle.coloring.specs.declared.refusal.Checked.the-variants.{Passed, Failed}
+use Rattle.coloring.specs.declared.refusal.Refusal.{Refusal}
+use Rattle.coloring.specs.declared.refusal.Refusal.the-variants.{TooMany}
+use Rattle.coloring.specs.Refusal.{require}
+use Rattle.coloring.specs.PairOrder.{distancesValid}
+use Rattle.coloring.specs.Limits.{maxSplines}
+use Rattle.coloring.specs.SplineColors.{checkSplines}
 use Rattle.coloring.specs.declared.outline.Counts.{Counts}
 use Rattle.coloring.specs.declared.outline.Colored.{Colored}
 use Rattle.coloring.specs.declared.outline.Colored.the-variants.{Edges, Refused}

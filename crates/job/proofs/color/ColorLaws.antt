@@ -13,14 +13,14 @@ use borrow.Author.Tests.{le-leb, eq-eqb}
 use Rattle.geometry.specs.EdgeSegment.{toStored, fromStored}
 use Rattle.geometry.specs.declared.edge_segment.EdgeSegment.{EdgeSegment}
 use Rattle.geometry.specs.declared.edge_segment.EdgeSegment.the-variants as segment
-use Rattle.graph.specs.declared.refusal.Checked.{Checked}
-use Rattle.graph.specs.declared.refusal.Checked.the-variants.{Passed, Failed}
-use Rattle.graph.specs.declared.refusal.Refusal.the-variants.{TooMany, LengthMismatch, BadDistance, ResultTooShort}
-use Rattle.graph.specs.Refusal.{refusalNumber, require}
-use Rattle.graph.specs.PairOrder.{distancesValid}
-use Rattle.graph.specs.Limits.{maxSplines}
-use Rattle.graph.specs.declared.refusal.Refusal.{Refusal}
-use Rattle.graph.specs.Lists.{all, over}
+use Rattle.coloring.specs.declared.refusal.Checked.{Checked}
+use Rattle.coloring.specs.declared.refusal.Checked.the-variants.{Passed, Failed}
+use Rattle.coloring.specs.declared.refusal.Refusal.the-variants.{TooMany, LengthMismatch, BadDistance, ResultTooShort}
+use Rattle.coloring.specs.Refusal.{refusalNumber, require}
+use Rattle.coloring.specs.PairOrder.{distancesValid}
+use Rattle.coloring.specs.Limits.{maxSplines}
+use Rattle.coloring.specs.declared.refusal.Refusal.{Refusal}
+use Rattle.coloring.specs.Lists.{all, over}
 use Rattle.coloring.specs.declared.outline.Counts.{Counts}
 use Rattle.coloring.specs.declared.outline.Colored.{Colored}
 use Rattle.coloring.specs.declared.settings.Strategy.the-variants.{Simple, InkTrap}

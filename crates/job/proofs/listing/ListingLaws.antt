@@ -9,8 +9,8 @@ use native.Mathlib.Numerals.{add-one}
 use lib.Seq.{drop-cons, drop-drop}
 use lib.Dec.{leb, ltb}
 use borrow.Author.Tests.{lt-ltb, le-ltb, leb-true, leb-false}
-use Rattle.graph.specs.Refusal.{refusalNumber}
-use Rattle.graph.specs.declared.refusal.Refusal.{Refusal}
+use Rattle.coloring.specs.Refusal.{refusalNumber}
+use Rattle.coloring.specs.declared.refusal.Refusal.{Refusal}
 use Rattle.coloring.specs.Places.{total}
 use Rattle.coloring.specs.Outline.{cut}
 use Rattle.job.specs.Listing.{digit, decimal, decimalWithin, letter, space, newline, edgesWord, refusedWord, field, line, contourLines}

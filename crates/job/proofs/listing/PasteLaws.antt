@@ -6,7 +6,7 @@ use native.Mathlib.Omega.{arith}
 use native.Mathlib.Numerals.{add-one}
 use lib.ListN.{length, take, drop, set, length-append, length-drop, take-append-drop}
 use lib.Seq.{drop-drop, take-at, drop-at, set-split, length-take-le}
-use Rattle.graph.specs.Lists.{over}
+use Rattle.coloring.specs.Lists.{over}
 use Rattle.job.specs.Listing.{pasted, Pasted}
 
 pasted-length : (at : ℕ) (text out : List ℕ) → at + length text ≤ length out → length (pasted at text out) ≡ length out

@@ -11,7 +11,7 @@ use lib.ListN.{length, take, drop, getD, length-append, List·getD-append}
 use lib.Seq.{take-all, take-at, take-suc, take-append-le, drop-at}
 use borrow.Author.Tests.{lt-ltb, le-ltb}
 use Rattle.geometry.specs.declared.edge_segment.EdgeSegment.{EdgeSegment}
-use Rattle.graph.specs.declared.refusal.Refusal.{Refusal}
+use Rattle.coloring.specs.declared.refusal.Refusal.{Refusal}
 use Rattle.job.specs.declared.records.Header as fields
 use Rattle.job.specs.declared.records.Item.{Item}
 use Rattle.job.specs.declared.records.Item.the-variants.{Header, Contour, Edge, Distances}

@@ -9,8 +9,8 @@ use lib.Seq.{length-take-le, getD-drop, take-add}
 use lib.Ieee.{Float, binary64, ofBits, toBits}
 use borrow.Author.Tests.{leb-true, ltb-true, eqb-true}
 use lib.Dec.{ltb, eqb}
-use Rattle.graph.specs.Bools.{and-left, and-right}
-use Rattle.graph.specs.Lists.{all}
+use Rattle.coloring.specs.Bools.{and-left, and-right}
+use Rattle.coloring.specs.Lists.{all}
 use Rattle.job.specs.Patterns.{number, little, words, floats, floatBytes, signBit, isCoordinate, isDistance}
 use Rattle.job.proofs.patterns.PatternLaws.{AreBytes, number-below, pattern-back}
 

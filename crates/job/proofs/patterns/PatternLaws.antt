@@ -11,7 +11,7 @@ use borrow.Author.Tests.{le-ltb}
 use lib.Dec.{T}
 use lib.Ieee.{Float, binary64, isNan, nanBits, ofBits, toBits}
 use lib.Ieee.Bits.{nanBits-is, nanBits-above, toBits-ofBits}
-use Rattle.graph.specs.Lists.{all}
+use Rattle.coloring.specs.Lists.{all}
 use Rattle.job.specs.Patterns.{number, words, floats, floatBytes, signBit}
 
 -- ---- the number of some bytes

@@ -12,10 +12,10 @@ use lib.Ieee.{ofBits}
 use borrow.Author.Tests.{ltb-true}
 use Rattle.math.specs.Scalar.{f1}
 use Rattle.geometry.specs.declared.edge_segment.EdgeSegment.{EdgeSegment}
-use Rattle.graph.specs.declared.refusal.Refusal.{Refusal}
-use Rattle.graph.specs.Bools.{and-left}
-use Rattle.graph.specs.Lists.{all}
-use Rattle.graph.specs.PairOrder.{distancesValid}
+use Rattle.coloring.specs.declared.refusal.Refusal.{Refusal}
+use Rattle.coloring.specs.Bools.{and-left}
+use Rattle.coloring.specs.Lists.{all}
+use Rattle.coloring.specs.PairOrder.{distancesValid}
 use Rattle.coloring.specs.Outline.{between}
 use Rattle.job.specs.declared.records.Phase.{Phase}
 use Rattle.job.specs.declared.records.Phase.the-variants.{Start, Outside, Inside, Closing}

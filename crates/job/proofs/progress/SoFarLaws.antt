@@ -12,8 +12,8 @@ use borrow.Author.Tests.{not-true}
 use Rattle.geometry.specs.EdgeSegment.{toStored}
 use Rattle.geometry.specs.declared.edge_segment.EdgeSegment.{EdgeSegment}
 use lib.Dec.{T}
-use Rattle.graph.specs.Bools.{and-right}
-use Rattle.graph.specs.Lists.{all}
+use Rattle.coloring.specs.Bools.{and-right}
+use Rattle.coloring.specs.Lists.{all}
 use Rattle.job.specs.declared.records.Strategy.{Strategy}
 use Rattle.job.specs.declared.records.Header as fields
 use Rattle.job.specs.declared.records.Kind.{Kind}

@@ -10,8 +10,8 @@ use lib.Ieee.{Float}
 use borrow.Author.Tests.{leb-true}
 use Rattle.geometry.specs.declared.edge_segment.EdgeSegment.{EdgeSegment}
 use Rattle.geometry.specs.EdgeSegment.{toStored}
-use Rattle.graph.specs.declared.refusal.Refusal.{Refusal}
-use Rattle.graph.specs.Lists.{over}
+use Rattle.coloring.specs.declared.refusal.Refusal.{Refusal}
+use Rattle.coloring.specs.Lists.{over}
 use Rattle.coloring.specs.Sizes.{sizes, places-length, points-length}
 use Rattle.job.specs.declared.records.State.{State}
 use Rattle.job.specs.declared.records.Item.{Item}

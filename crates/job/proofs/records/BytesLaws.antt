@@ -10,8 +10,8 @@ use lib.Seq.{length-take-le, take-all, take-take, drop-drop, drop-cons}
 use lib.Ieee.{Float}
 use borrow.Author.Tests.{leb-true, eqb-true, eqb-false}
 use Rattle.geometry.specs.EdgeSegment.{toStored}
-use Rattle.graph.specs.Bools.{and-left, and-right}
-use Rattle.graph.specs.Lists.{all}
+use Rattle.coloring.specs.Bools.{and-left, and-right}
+use Rattle.coloring.specs.Lists.{all}
 use Rattle.job.specs.declared.records.Header.{Header}
 use Rattle.job.specs.declared.records.Kind.{Kind}
 use Rattle.job.specs.declared.records.Kind.the-variants.{Line, Quadratic, Cubic}

@@ -13,11 +13,11 @@ use borrow.Author.Tests.{leb-true}
 use Rattle.math.specs.Scalar.{f1}
 use Rattle.geometry.specs.EdgeSegment.{toStored}
 use Rattle.geometry.specs.declared.edge_segment.EdgeSegment.{EdgeSegment}
-use Rattle.graph.specs.declared.refusal.Refusal.{Refusal}
-use Rattle.graph.specs.declared.refusal.Refusal.the-variants.{Truncated, MisplacedMark, TooMany, UnknownKind, BadThreshold, BadCoordinate, BadDistance}
-use Rattle.graph.specs.Lists.{all}
-use Rattle.graph.specs.Bools.{and-left, and-right}
-use Rattle.graph.specs.PairOrder.{validDistance, distancesValid}
+use Rattle.coloring.specs.declared.refusal.Refusal.{Refusal}
+use Rattle.coloring.specs.declared.refusal.Refusal.the-variants.{Truncated, MisplacedMark, TooMany, UnknownKind, BadThreshold, BadCoordinate, BadDistance}
+use Rattle.coloring.specs.Lists.{all}
+use Rattle.coloring.specs.Bools.{and-left, and-right}
+use Rattle.coloring.specs.PairOrder.{validDistance, distancesValid}
 use Rattle.coloring.specs.Outline.{between, inRange, usedPlaces, max-coordinate}
 use Rattle.job.specs.declared.records.Kind.{Kind}
 use Rattle.job.specs.declared.records.Kind.the-variants.{Line, Quadratic, Cubic}

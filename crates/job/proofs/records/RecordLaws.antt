@@ -8,9 +8,9 @@ use lib.Dec.{leb}
 use lib.ListN.{length, getD, take, drop, length-drop}
 use lib.Seq.{take-all}
 use Rattle.geometry.specs.declared.edge_segment.EdgeSegment.the-variants as segment
-use Rattle.graph.specs.declared.refusal.Refusal.{Refusal}
-use Rattle.graph.specs.declared.refusal.Refusal.the-variants.{Truncated, MisplacedMark, UnknownKind, BadThreshold, BadCoordinate}
-use Rattle.graph.specs.Lists.{all}
+use Rattle.coloring.specs.declared.refusal.Refusal.{Refusal}
+use Rattle.coloring.specs.declared.refusal.Refusal.the-variants.{Truncated, MisplacedMark, UnknownKind, BadThreshold, BadCoordinate}
+use Rattle.coloring.specs.Lists.{all}
 use Rattle.job.specs.declared.records.Found.the-variants as found
 use lib.Ieee.{Float}
 use Rattle.job.specs.declared.records.Kind.{Kind}

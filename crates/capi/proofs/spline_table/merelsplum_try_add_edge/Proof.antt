@@ -1,7 +1,7 @@
 -- `capi::spline_table::merelsplum_try_add_edge` meets its contract, by those of its callees. Assumes nothing.
 use borrow.Author.Needs.{needs}
 use mathlib.Core.Path.{ap, _∙_}
-use Rattle.graph.specs.SplineTable.{Offered}
+use Rattle.coloring.specs.SplineTable.{Offered}
 use Rattle.capi.specs.SplineTable.{answerCode}
 use Rattle.capi.proofs.spline_table.merelsplum_try_add_edge.Statement.{statement}
 use Rattle.capi.proofs.spline_table.merelsplum_try_add_edge.Tie as tie

@@ -4,8 +4,8 @@ use mathlib.Core.Path.{_≡_, sym, _∙_}
 use Prim.Native.Nat.{ℕ, _+_, _-_, _≤_}
 use lib.ListN.{length, getD, take, drop, length-drop}
 use lib.Seq.{length-take-le}
-use Rattle.graph.specs.Lists.{overFrom}
-use Rattle.graph.proofs.Writing.{over-all, over-more, over-nothing}
+use Rattle.coloring.specs.Lists.{overFrom}
+use Rattle.coloring.proofs.Writing.{over-all, over-more, over-nothing}
 use Rattle.coloring.specs.Corners.{cornerFlags}
 use Rattle.coloring.specs.Outline.{edgesOf, contours}
 use Rattle.coloring.specs.Sizes.{flags-length}

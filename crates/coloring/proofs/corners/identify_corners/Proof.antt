@@ -5,8 +5,8 @@ use borrow.Author.Needs.{needs}
 use mathlib.Core.Path.{_≡_, refl, sym, _∙_}
 use Prim.Native.Nat.{_-_, _≤_, _<_}
 use lib.ListN.{length, drop, length-set}
-use Rattle.graph.specs.Lists.{overFrom}
-use Rattle.graph.proofs.Writing.{over-all, over-next, over-nothing}
+use Rattle.coloring.specs.Lists.{overFrom}
+use Rattle.coloring.proofs.Writing.{over-all, over-next, over-nothing}
 use Rattle.coloring.specs.Corners.{cornerFlags}
 use Rattle.coloring.specs.Outline.{anyEdge, edgesOf}
 use Rattle.coloring.specs.Sizes.{flags-length}

@@ -4,7 +4,7 @@ use mathlib.Core.Path.{_≡_, _∙_}
 use Prim.Native.Nat.{_-_}
 use native.Mathlib.Omega.{arith}
 use lib.ListN.{length, take, drop, length-take, length-drop}
-use Rattle.graph.proofs.Writing.{over-part}
+use Rattle.coloring.proofs.Writing.{over-part}
 use Rattle.coloring.specs.Corners.{cornerFlags}
 use Rattle.coloring.specs.Outline.{edgesOf}
 use Rattle.coloring.specs.Sizes.{flags-length}

@@ -9,7 +9,7 @@ use lib.Dec.{leb}
 use lib.ListN.{length, take, drop, replicate, length-append}
 use lib.Seq.{length-take-le, take-at}
 use borrow.Author.Tests.{le-leb, lt-leb}
-use Rattle.graph.specs.declared.refusal.Checked.the-variants.{Passed}
+use Rattle.coloring.specs.declared.refusal.Checked.the-variants.{Passed}
 use Rattle.coloring.specs.Outline.{Outline, outline, check, deliver, Agrees}
 use Rattle.coloring.specs.EdgeColoring.{edgeColoring}
 use Rattle.coloring.proofs.shape.DeliverLaws.{passed-agrees}

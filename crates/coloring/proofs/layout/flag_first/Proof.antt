@@ -6,9 +6,9 @@ use Prim.Native.Nat.{ℕ, _-_, _≤_, _<_}
 use native.Mathlib.Nat.{zero-add}
 use lib.Dec.{eqb}
 use lib.ListN.{length, drop, getD, length-set, length-map}
-use Rattle.graph.specs.Lists.{range, overFrom, length-range}
-use Rattle.graph.proofs.Writing.{over-all, over-step, over-done}
-use Rattle.graph.proofs.Lists.{getD-range}
+use Rattle.coloring.specs.Lists.{range, overFrom, length-range}
+use Rattle.coloring.proofs.Writing.{over-all, over-step, over-done}
+use Rattle.coloring.proofs.Lists.{getD-range}
 use Rattle.coloring.specs.Layout.{firstOnly}
 use Rattle.coloring.proofs.Lists.{getD-mapped}
 use Rattle.coloring.proofs.layout.flag_first.Statement.{statement}

@@ -7,7 +7,7 @@ use Prim.Native.Nat.{ℕ, _+_, _-_, _≤_}
 use lib.Ieee.{Float}
 use lib.ListN.{length, getD, take, drop, length-set, length-drop}
 use lib.Seq.{length-take-le}
-use Rattle.graph.specs.Lists.{over, overFrom}
+use Rattle.coloring.specs.Lists.{over, overFrom}
 use Rattle.coloring.specs.Places.{total}
 use Rattle.coloring.specs.Layout.{resultEdges}
 use Rattle.coloring.specs.Corners.{Cornered, cornered}

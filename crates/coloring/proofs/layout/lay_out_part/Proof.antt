@@ -6,7 +6,7 @@ use mathlib.Core.List.{map, flatten}
 use Prim.Native.Nat.{_*_, _-_}
 use native.Mathlib.Omega.{arith}
 use lib.ListN.{length, length-take, length-drop, length-map}
-use Rattle.graph.proofs.Writing.{over-part}
+use Rattle.coloring.proofs.Writing.{over-part}
 use Rattle.coloring.specs.Layout.{layout}
 use Rattle.coloring.specs.Outline.{kindStored, placesStored, part}
 use Rattle.coloring.specs.Sizes.{layout-length, layout-flagged, points-length}

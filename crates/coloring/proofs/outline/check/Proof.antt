@@ -6,7 +6,7 @@ use native.Mathlib.Omega.{arith}
 use lib.Dec.{leb, eqb}
 use lib.ListN.{length}
 use borrow.Author.Tests.{le-leb, lt-leb, eq-eqb, ne-eqb, not-true, not-false}
-use Rattle.graph.specs.Lists.{all}
+use Rattle.coloring.specs.Lists.{all}
 use Rattle.coloring.specs.Places.{total}
 use Rattle.coloring.specs.Outline.{check, knownKind, coordinatesFit}
 use borrow.Author.Needs.{needs}

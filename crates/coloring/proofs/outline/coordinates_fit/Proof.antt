@@ -5,7 +5,7 @@ use native.Mathlib.Omega.{arith}
 use borrow.Author.Needs.{needs}
 use borrow.Author.Tests.{not-true, not-false}
 use lib.ListN.{length, take, drop, getD}
-use Rattle.graph.specs.Lists.{all}
+use Rattle.coloring.specs.Lists.{all}
 use Rattle.coloring.specs.Outline.{inRange, usedPlaces, coordinatesFit}
 use Rattle.coloring.proofs.outline.CheckLaws.{kind-at, fit-fail, fit-more, fit-end}
 use Rattle.coloring.proofs.outline.coordinates_fit.Statement.{statement}

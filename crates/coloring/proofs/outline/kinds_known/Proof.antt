@@ -5,8 +5,8 @@ use native.Mathlib.Omega.{arith}
 use borrow.Author.Needs.{needs}
 use borrow.Author.Tests.{not-true, not-false}
 use lib.ListN.{length, drop}
-use Rattle.graph.specs.Lists.{all}
-use Rattle.graph.proofs.Lists.{scan-fail, scan-more, scan-end}
+use Rattle.coloring.specs.Lists.{all}
+use Rattle.coloring.proofs.Lists.{scan-fail, scan-more, scan-end}
 use Rattle.coloring.specs.Outline.{knownKind}
 use Rattle.coloring.proofs.outline.kinds_known.Statement.{statement}
 use Rattle.coloring.proofs.outline.kinds_known.Tie as tie

@@ -6,8 +6,8 @@ use borrow.Author.Needs.{needs}
 use borrow.Author.Tests.{not-true, not-false}
 use lib.Ieee.{nan}
 use lib.ListN.{length, drop}
-use Rattle.graph.specs.Lists.{all}
-use Rattle.graph.proofs.Lists.{scan-fail, scan-more, scan-end}
+use Rattle.coloring.specs.Lists.{all}
+use Rattle.coloring.proofs.Lists.{scan-fail, scan-more, scan-end}
 use Rattle.coloring.specs.Outline.{inRange}
 use Rattle.coloring.proofs.outline.places_fit.Statement.{statement}
 use Rattle.coloring.proofs.outline.places_fit.Tie as tie

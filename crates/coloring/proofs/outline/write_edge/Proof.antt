@@ -3,7 +3,7 @@ use mathlib.Core.Path.{_≡_}
 use Prim.Native.Nat.{_+_, _*_, _-_}
 use native.Mathlib.Omega.{arith}
 use lib.ListN.{length, length-take, length-drop}
-use Rattle.graph.proofs.Writing.{over-part}
+use Rattle.coloring.proofs.Writing.{over-part}
 use borrow.Author.Needs.{needs}
 use Rattle.coloring.specs.Sizes.{places-length}
 use Rattle.coloring.proofs.outline.write_edge.Statement.{statement}

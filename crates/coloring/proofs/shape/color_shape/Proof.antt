@@ -10,7 +10,7 @@ use lib.Ieee.{Float}
 use lib.ListN.{length, take, drop, replicate, length-append}
 use lib.Seq.{length-take-le, take-at}
 use Rattle.geometry.specs.declared.edge_segment.EdgeSegment.{EdgeSegment}
-use Rattle.graph.specs.declared.refusal.Checked.the-variants.{Passed}
+use Rattle.coloring.specs.declared.refusal.Checked.the-variants.{Passed}
 use Rattle.coloring.specs.declared.outline.Counts.{Counts}
 use Rattle.coloring.specs.declared.settings.Marking.{Marking}
 use Rattle.coloring.specs.Limits.{maxShapeSplines}

@@ -7,7 +7,7 @@ use Prim.Native.Nat.{suc, _-_, _<_}
 use lib.Dec.{eqb}
 use lib.ListN.{length}
 use borrow.Author.Tests.{eq-eqb, ne-eqb}
-use Rattle.graph.proofs.Lists.{getD-any}
+use Rattle.coloring.proofs.Lists.{getD-any}
 use Rattle.coloring.specs.Corners.{cornerCount}
 use Rattle.coloring.specs.Sizes.{paint-one, paint-spread, paint-length}
 use Rattle.coloring.proofs.Lists.{length-zero}

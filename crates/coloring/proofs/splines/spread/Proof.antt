@@ -5,8 +5,8 @@ use mathlib.Core.Path.{_≡_, sym, _∙_}
 use mathlib.Core.Logic.{⊎-elim}
 use Prim.Native.Nat.{_-_, _≤_, _<_}
 use lib.ListN.{length, drop, length-set}
-use Rattle.graph.specs.Lists.{overFrom}
-use Rattle.graph.proofs.Writing.{over-all, over-next, over-nothing}
+use Rattle.coloring.specs.Lists.{overFrom}
+use Rattle.coloring.proofs.Writing.{over-all, over-next, over-nothing}
 use Rattle.coloring.specs.Splines.{spread}
 use Rattle.coloring.specs.Sizes.{spread-length}
 use Rattle.coloring.proofs.splines.SpreadLaws.{spread-corner, spread-beyond, spread-edge, spread-end}

@@ -7,8 +7,8 @@ use native.Mathlib.Omega.{arith}
 use borrow.Author.Needs.{needs}
 use Rattle.geometry.specs.declared.edge_color.EdgeColor.{EdgeColor}
 use Rattle.geometry.specs.declared.edge_color.EdgeColor.the-variants.{Yellow, Magenta, Cyan}
-use Rattle.graph.specs.declared.seed.Draw.{Draw}
-use Rattle.graph.specs.Seed.{seedExtract3}
+use Rattle.coloring.specs.declared.seed.Draw.{Draw}
+use Rattle.coloring.specs.Seed.{seedExtract3}
 use Rattle.coloring.specs.Switching.{initColor}
 use Rattle.coloring.proofs.switching.init_color.Statement.{statement}
 use Rattle.coloring.proofs.switching.init_color.Tie as tie

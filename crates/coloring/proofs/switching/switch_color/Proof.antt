@@ -7,8 +7,8 @@ use borrow.Author.Needs.{needs}
 use Rattle.geometry.specs.EdgeColor.{bitsOf, fromBits}
 use Rattle.geometry.specs.declared.edge_color.EdgeColor.{EdgeColor}
 use Rattle.geometry.specs.declared.edge_color.EdgeColor.the-variants.{Black, Red, Green, Yellow, Blue, Magenta, Cyan, White}
-use Rattle.graph.specs.declared.seed.Draw.{Draw}
-use Rattle.graph.specs.Seed.{seedExtract2}
+use Rattle.coloring.specs.declared.seed.Draw.{Draw}
+use Rattle.coloring.specs.Seed.{seedExtract2}
 use Rattle.coloring.specs.declared.switching.Pen.{Pen}
 use Rattle.coloring.specs.Switching.{switchColor, turnLeft}
 use Rattle.coloring.proofs.switching.switch_color.Statement.{statement}

@@ -8,8 +8,8 @@ use native.Mathlib.Nat.{mod-lt, zero-add}
 use mir.Syntax.{w32}
 use mir.Val.{toZ, ofZ}
 use mir.Facts.{toZ-ofZ}
-use Rattle.graph.specs.Lists.{range, length-range}
-use Rattle.graph.proofs.Lists.{getD-range}
+use Rattle.coloring.specs.Lists.{range, length-range}
+use Rattle.coloring.proofs.Lists.{getD-range}
 use Rattle.coloring.specs.Trichotomy.{symmetricalTrichotomy}
 use Rattle.coloring.specs.Teardrop.{thirdOf, runs}
 use Rattle.coloring.proofs.Lists.{getD-mapped}

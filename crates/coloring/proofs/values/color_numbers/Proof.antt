@@ -7,8 +7,8 @@ use Prim.Native.Nat.{ℕ, _-_, _≤_, _<_}
 use lib.ListN.{length, drop, getD, length-set, length-map}
 use lib.Seq.{getD-set-other}
 use Rattle.geometry.specs.EdgeColor.{bitsOf}
-use Rattle.graph.specs.Lists.{overFrom}
-use Rattle.graph.proofs.Writing.{over-all, over-step, over-done}
+use Rattle.coloring.specs.Lists.{overFrom}
+use Rattle.coloring.proofs.Writing.{over-all, over-step, over-done}
 use Rattle.coloring.specs.Values.{splineColor}
 use Rattle.coloring.proofs.Lists.{getD-mapped}
 use Rattle.coloring.proofs.values.color_numbers.Statement.{statement}

@@ -4,9 +4,9 @@ use native.Mathlib.Nat.{zero-add}
 use mathlib.Core.Path.{_≡_, refl, sym, _∙_}
 use Prim.Native.Nat.{_-_, _≤_, _<_}
 use lib.ListN.{length, drop, length-set}
-use Rattle.graph.specs.Lists.{range, overFrom, length-range}
-use Rattle.graph.proofs.Writing.{over-all, over-step, over-done}
-use Rattle.graph.proofs.Lists.{getD-range}
+use Rattle.coloring.specs.Lists.{range, overFrom, length-range}
+use Rattle.coloring.proofs.Writing.{over-all, over-step, over-done}
+use Rattle.coloring.proofs.Lists.{getD-range}
 use Rattle.coloring.proofs.values.count_up.Statement.{statement}
 use Rattle.coloring.proofs.values.count_up.Tie as tie
 

@@ -8,11 +8,11 @@ use lib.Ieee.{Float}
 use lib.ListN.{length}
 use borrow.Author.Tests.{le-leb, lt-leb}
 use Rattle.geometry.specs.EdgeColor.{bitsOf}
-use Rattle.graph.specs.declared.refusal.Refusal.the-variants.{TooMany}
-use Rattle.graph.specs.declared.refusal.Checked.{Checked}
-use Rattle.graph.specs.declared.refusal.Checked.the-variants.{Passed, Failed}
-use Rattle.graph.specs.Lists.{range}
-use Rattle.graph.specs.SplineColors.{colorSplines, checkSplines, coloringAfter}
+use Rattle.coloring.specs.declared.refusal.Refusal.the-variants.{TooMany}
+use Rattle.coloring.specs.declared.refusal.Checked.{Checked}
+use Rattle.coloring.specs.declared.refusal.Checked.the-variants.{Passed, Failed}
+use Rattle.coloring.specs.Lists.{range}
+use Rattle.coloring.specs.SplineColors.{colorSplines, checkSplines, coloringAfter}
 use Rattle.coloring.specs.declared.settings.Strategy.{Strategy}
 use Rattle.coloring.specs.declared.settings.Marking.{Marking}
 use Rattle.coloring.specs.declared.settings.Marking.the-variants.{Colors, Numbers, Distances}

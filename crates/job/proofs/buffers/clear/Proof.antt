@@ -4,7 +4,7 @@ use Prim.Native.Nat.{_-_, _≤_}
 use native.Mathlib.Omega.{arith}
 use lib.ListN.{length, replicate, length-replicate, length-set}
 use Rattle.math.specs.Scalar.{f0}
-use Rattle.graph.specs.Lists.{over}
+use Rattle.coloring.specs.Lists.{over}
 use Rattle.job.proofs.buffers.BufferLaws.{over-repeat, over-all}
 use Rattle.job.proofs.buffers.clear.Statement.{statement}
 use Rattle.job.proofs.buffers.clear.Tie as tie

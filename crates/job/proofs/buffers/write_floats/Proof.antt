@@ -8,7 +8,7 @@ use lib.ListN.{length, getD, take, length-take, length-drop, length-set}
 use lib.Seq.{take-all}
 use lib.Ieee.{Float, nan, binary64, ofBits}
 use borrow.Author.Needs.{needs}
-use Rattle.graph.specs.Lists.{over}
+use Rattle.coloring.specs.Lists.{over}
 use Rattle.job.specs.Patterns.{words, floats}
 use Rattle.job.proofs.patterns.PatternLaws.{floats-at, floats-length}
 use Rattle.job.proofs.buffers.BufferLaws.{over-next}

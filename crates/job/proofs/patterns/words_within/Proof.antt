@@ -7,7 +7,7 @@ use mathlib.Core.List.{List, _∷_}
 use lib.ListN.{length, take, drop, length-take, length-drop}
 use lib.Seq.{drop-length}
 use borrow.Author.Tests.{not-true, not-false}
-use Rattle.graph.specs.Lists.{all}
+use Rattle.coloring.specs.Lists.{all}
 use Rattle.job.specs.Patterns.{number, words, within}
 use Rattle.job.proofs.patterns.PatternLaws.{words-at, words-length, all-next, all-stops}
 use Rattle.job.proofs.patterns.words_within.Statement.{statement}

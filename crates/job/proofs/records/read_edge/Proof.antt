@@ -2,7 +2,7 @@
 use mathlib.Core.Path.{_≡_, sym, ap, _∙_}
 use Prim.Native.Nat.{ℕ, _*_}
 use native.Mathlib.Omega.{arith}
-use Rattle.graph.specs.Lists.{all}
+use Rattle.coloring.specs.Lists.{all}
 use Rattle.job.specs.Patterns.{words, isCoordinate}
 use Rattle.job.specs.Records.{readEdge, controls}
 use Rattle.job.proofs.records.RecordLaws.{edge-found}

@@ -1,0 +1,203 @@
+-- One offer of two different splines to a sound table leaves a sound table. One offer to a table without a clash: there is none afterwards; the pairs
+-- kept are those from before and, if the answer is kept, the offer's own; if it is not, the table is as it was.
+use mathlib.Core.Path.{_≡_, refl, sym, ap, _∙_, subst}
+use mathlib.Core.Logic.{_⊎_, inl, inr, ⊎-elim, _≢_}
+use mathlib.Core.Bool.{true, false, true≢false}
+use mathlib.Core.List.{List, []}
+use Prim.Native.Nat.{ℕ, _*_, _<_}
+use native.Mathlib.Decide.{ℕ-discrete}
+use native.Mathlib.Omega.{arith}
+use lib.ListN.{length, getD}
+use lib.Arith.{digits-lt}
+use borrow.Author.Tests.{ne-eqb}
+use Rattle.coloring.specs.Recolor.{Walk, recolored, stopped}
+use Rattle.coloring.specs.SplineTable.{Table, tableOf, OfferAnswer, kept, declined, refused, Offered, outcome, settled, entry, enter, sound, tryAddEdge, offer}
+use Rattle.coloring.specs.Sequence.{Pair, KeptPair, NoClash, isKept, Names}
+use Rattle.coloring.proofs.recolor.RowLaws.{Matrix}
+use Rattle.coloring.proofs.recolor.FreeColorLaws.{possible-free}
+use Rattle.coloring.proofs.recolor.ProperLaws.{Proper, proper-color, proper-differ, Ends, take-free, recolor-ends}
+use Rattle.coloring.proofs.spline_table.TableLaws.{splines, sound-color, sound-matrix, matrix-sound, names?, enter-at, enter-other, enter-matrix, enter-undone}
+use Rattle.coloring.proofs.spline_table.OfferLaws.{Unrefused, entered, rule-cases, offer-rule, offer-cases}
+
+-- a sound table of n splines
+pub record Sound (n : ℕ) (t : Table) : Type 0 where
+  pub splines : length (t .coloring) ≡ n
+  pub size : length (t .edgeMatrix) ≡ length (t .coloring) * length (t .coloring)
+  pub isSound : sound t ≡ true
+
+pub record OneOffer (t : Table) (p : Pair) (o : Offered) : Type 0 where
+  pub noClash : NoClash (o .table)
+  pub keptOnly : (i j : ℕ) → KeptPair (o .table) i j → KeptPair t i j ⊎ ((isKept (o .answer) ≡ true) × Names p i j)
+  pub keptAll : (i j : ℕ) → KeptPair t i j ⊎ ((isKept (o .answer) ≡ true) × Names p i j) → KeptPair (o .table) i j
+  pub unchanged : isKept (o .answer) ≡ false → o .table ≡ t
+
+-- ---- declined and refused offers
+
+unkept : (t : Table) (p : Pair) (o : Offered) → NoClash t → isKept (o .answer) ≡ false → o .table ≡ t → OneOffer t p o
+unkept t p o clear no-pair same =
+    record {
+      noClash = subst NoClash (sym same) clear;
+      keptOnly = λ i j k. inl (subst (λ s. KeptPair s i j) same k);
+      keptAll = λ i j k. subst (λ s. KeptPair s i j) (sym same) (⊎-elim (λ x. x) (λ x. absurd (true≢false (sym (x .0) ∙ no-pair))) k);
+      unchanged = λ e. same;
+    }
+
+-- ---- kept pairs by the entries of a sound matrix
+
+record Joined (n : ℕ) (edgeMatrix : List ℕ) (i j : ℕ) : Type 0 where
+  first : i < n
+  second : j < n
+  there : entry n edgeMatrix i j ≢ 0
+
+kept-joined : (n : ℕ) (t : Table) → length (t .coloring) ≡ n → (i j : ℕ) → KeptPair t i j → Joined n (t .edgeMatrix) i j
+kept-joined n t e i j k =
+    record { first = rw e at (k .first); second = rw e at (k .second); there = rw e at (k .there .1) }
+
+joined-kept : (n : ℕ) (t : Table) → length (t .coloring) ≡ n → Matrix n (t .edgeMatrix) → (i j : ℕ) → Joined n (t .edgeMatrix) i j → KeptPair t i j
+joined-kept n t e m i j k =
+    record {
+      first = rw e (k .first);
+      second = rw e (k .second);
+      different = λ q. k .there (rw q (m .loopless j (k .second)));
+      there = (rw (e, m .size) (digits-lt (k .first) (k .second)), rw e (k .there));
+      back = (rw (e, m .size) (digits-lt (k .second) (k .first)), rw e (λ z. k .there (m .symmetric i j (k .first) (k .second) ∙ z)));
+    }
+
+-- ---- kept and declined offers
+
+-- of an offer that passes the checks: the table is sound afterwards, and if there was no clash there is none
+record Outcome (t : Table) (p : Pair) (o : Offered) : Type 0 where
+  after : Sound (splines t) (o .table)
+  one : NoClash t → OneOffer t p o
+
+module _ (t : Table) (p : Pair) (v : Unrefused t (p .a) (p .b)) where
+  abbrev n : ℕ
+  n = splines t
+
+  abbrev with-pair : List ℕ
+  with-pair = entered t (p .a) (p .b)
+
+  abbrev ProperBut : ℕ → List ℕ → Type 0
+  ProperBut w coloring = Proper (NoClash t) n with-pair w (record { coloring = coloring; queue = [] })
+
+  was : Matrix n (t .edgeMatrix)
+  was = sound-matrix t (v .isSound) (v .size)
+
+  becomes : Matrix n with-pair
+  becomes = enter-matrix n (t .edgeMatrix) p (v .first) (v .second) (v .different) 1 (omega arith) was
+
+  in-pair : (i j : ℕ) → Names p i j → Joined n with-pair i j
+  in-pair i j names =
+      record {
+        first = ⊎-elim (λ e. rw (← e .0) (v .first)) (λ e. rw (← e .1) (v .second)) names;
+        second = ⊎-elim (λ e. rw (← e .1) (v .second)) (λ e. rw (← e .0) (v .first)) names;
+        there = rw (enter-at n (t .edgeMatrix) p (v .first) (v .second) (v .different) 1 i j (v .size) names) (omega arith);
+      }
+
+  not-in-pair : (i j : ℕ) → i < n → j < n → (Names p i j → ⊥) → entry n with-pair i j ≡ entry n (t .edgeMatrix) i j
+  not-in-pair = enter-other n (t .edgeMatrix) p (v .first) (v .second) (v .different) 1
+
+  if-kept : (step : ℕ) (coloring : List ℕ) → ProperBut n coloring → Outcome t p (outcome (kept step) coloring with-pair)
+  if-kept step coloring c =
+      record {
+        after =
+            record {
+              splines = c .size;
+              size = rw (c .size) (becomes .size);
+              isSound = matrix-sound after (rw (c .size) becomes) (λ i h. proper-color c i (rw (c .size) at h));
+            };
+        one =
+            λ clear. record {
+              noClash = λ i j k. let s = kept-joined _ after (c .size) i j k in proper-differ c clear i j (s .first) (s .second) (s .there);
+              keptOnly = λ i j k. only i j (kept-joined _ after (c .size) i j k) (names? p i j);
+              keptAll = λ i j k. joined-kept _ after (c .size) becomes i j (all i j k (names? p i j));
+              unchanged = λ e. absurd (true≢false e);
+            };
+      }
+    where
+      after : Table
+      after = tableOf coloring with-pair
+
+      only : (i j : ℕ) → Joined n with-pair i j → Dec (Names p i j) → KeptPair t i j ⊎ ((true ≡ true) × Names p i j)
+      only i j k (yes names) = inr (refl, names)
+      only i j k (no other) =
+          inl (joined-kept _ t refl was i j
+          (record { first = k .first; second = k .second; there = rw (not-in-pair i j (k .first) (k .second) other) at (k .there) }))
+
+      all : (i j : ℕ) → KeptPair t i j ⊎ ((true ≡ true) × Names p i j) → Dec (Names p i j) → Joined n with-pair i j
+      all i j k (yes names) = in-pair i j names
+      all i j (inr k) (no other) = absurd (other (k .1))
+      all i j (inl k) (no other) =
+          record {
+            first = k .first;
+            second = k .second;
+            there = rw (not-in-pair i j (k .first) (k .second) other) (kept-joined _ t refl i j k .there);
+          }
+
+  -- the colours as they were, where the pair's two differ, or one of the two is left out
+  old-colors : (w : ℕ) → ((i j : ℕ) → Names p i j → i ≢ w → j ≢ w → getD (t .coloring) i 0 ≢ getD (t .coloring) j 0) → ProperBut w (t .coloring)
+  old-colors w pair =
+      record {
+        size = refl;
+        colored = λ i h iw. inl (sound-color t (v .isSound) i h);
+        proper = λ clear i j hi hj iw jw e q. absurd (differ clear i j hi hj iw jw e (names? p i j) q);
+      }
+    where
+      differ : NoClash t → (i j : ℕ) → i < n → j < n → i ≢ w → j ≢ w → entry n with-pair i j ≢ 0 → Dec (Names p i j)
+          → getD (t .coloring) i 0 ≢ getD (t .coloring) j 0
+      differ clear i j hi hj iw jw e (yes names) = pair i j names iw jw
+      differ clear i j hi hj iw jw e (no other) =
+          clear i j (joined-kept _ t refl was i j (record { first = hi; second = hj; there = rw (not-in-pair i j hi hj other) at e }))
+
+  if-declined : (step : ℕ) → getD (t .coloring) (p .a) 0 ≡ getD (t .coloring) (p .b) 0
+      → Outcome t p (outcome (declined step) (t .coloring) (enter n with-pair (p .a) (p .b) 0))
+  if-declined step e =
+      record {
+        after =
+            let cleared = enter-matrix n with-pair p (v .first) (v .second) (v .different) 0 (omega arith) becomes in
+            record { splines = refl; size = cleared .size; isSound = matrix-sound _ cleared (sound-color t (v .isSound)) };
+        one =
+            λ clear. unkept t p _ clear refl
+            (ap (tableOf (t .coloring))
+            (enter-undone n (t .edgeMatrix) p (v .first) (v .second) (v .different) (no-entry clear)
+            (sym (was .symmetric _ _ (v .first) (v .second)) ∙ no-entry clear)));
+      }
+    where
+      go : NoClash t → Dec (entry n (t .edgeMatrix) (p .a) (p .b) ≡ 0) → entry n (t .edgeMatrix) (p .a) (p .b) ≡ 0
+      go clear (yes z) = z
+      go clear (no z) =
+          absurd (clear (p .a) (p .b) (joined-kept _ t refl was (p .a) (p .b) (record { first = v .first; second = v .second; there = z })) e)
+
+      no-entry : NoClash t → entry n (t .edgeMatrix) (p .a) (p .b) ≡ 0
+      no-entry clear = go clear (ℕ-discrete _ 0)
+
+  -- the colours differ and b keeps its own, or b takes a free one, or it takes the first that a has not and a walk follows
+  try-outcome : Outcome t p (tryAddEdge t (p .a) (p .b))
+  try-outcome =
+      rule-cases t (p .a) (p .b) (Outcome t p) (λ d. if-kept 0 (t .coloring) (old-colors n (λ i j names x z. differ d i j names)))
+      (λ e f. if-kept 0 _ (take-free (NoClash t) n with-pair becomes (p .b) _ _ (possible-free _ _ (ne-eqb _ 0 f)) but-b))
+      (λ e f w q. ends w e (subst (Ends (NoClash t) n with-pair) q (recolor-ends (NoClash t) n with-pair becomes (t .coloring) (p .a) (p .b) color but-b)))
+    where
+      color : getD (t .coloring) (p .a) 0 < 3
+      color = sound-color t (v .isSound) (p .a) (v .first)
+
+      but-b : ProperBut (p .b) (t .coloring)
+      but-b = old-colors (p .b) (λ i j names x y. absurd (⊎-elim (λ e. y (sym (e .1))) (λ e. x (sym (e .1))) names))
+
+      differ : getD (t .coloring) (p .a) 0 ≢ getD (t .coloring) (p .b) 0 → (i j : ℕ) → Names p i j → getD (t .coloring) i 0 ≢ getD (t .coloring) j 0
+      differ e i j (inl (x, y)) q = e (rw (x, y) q)
+      differ e i j (inr (x, y)) q = e (rw (x, y) (sym q))
+
+      ends : (w : Walk) → getD (t .coloring) (p .a) 0 ≡ getD (t .coloring) (p .b) 0 → Ends (NoClash t) n with-pair w
+          → Outcome t p (settled w (t .coloring) with-pair (p .a) (p .b))
+      ends (recolored after step) e c = if-kept step after c
+      ends (stopped step) e c = if-declined step e
+
+-- ---- the offer
+
+-- an offer that passes the checks is `tryAddEdge`, and leaves a sound table
+pub offer-sound : (t : Table) (a b : ℕ) → Unrefused t a b → (offer t a b ≡ tryAddEdge t a b) × Sound (splines t) (tryAddEdge t a b .table)
+offer-sound t a b v = (offer-rule t a b v, try-outcome t (record { a = a; b = b }) v .after)
+
+pub one-offer : (t : Table) (p : Pair) → NoClash t → OneOffer t p (offer t (p .a) (p .b))
+one-offer t p clear = offer-cases t (p .a) (p .b) (OneOffer t p) (λ r. unkept t p _ clear refl refl) (λ v. try-outcome t p v .one clear)
