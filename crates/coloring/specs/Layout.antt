@@ -16,7 +16,7 @@ unfoldable pub thirds : EdgeSegment → List EdgeSegment
 thirds e = splitInThirds e .first ∷ splitInThirds e .second ∷ splitInThirds e .third ∷ []
 
 unfoldable pub splits : List Bool → Bool
-splits flags = eqb (cornerCount flags) 1 && leb (length flags) 2
+splits flags = leb (length flags) 2 && eqb (cornerCount flags) 1
 
 -- n flags, of which the first alone is true
 unfoldable pub firstOnly : ℕ → List Bool

@@ -95,7 +95,9 @@ edges-bound flags = threefold (splits flags) (length flags)
 pub split-few : (flags : List Bool) → splits flags ≡ true → (cornerCount flags ≡ 1) × (length flags ≤ 2)
 unfolding splits
 split-few flags e =
-    (eqb-true (cornerCount flags) 1 (and-left (eqb (cornerCount flags) 1) _ e), leb-true (length flags) 2 (and-right (eqb (cornerCount flags) 1) (leb (length flags) 2) e))
+    let few = leb (length flags) 2 in
+    let one = eqb (cornerCount flags) 1 in
+    (eqb-true (cornerCount flags) 1 (and-right few one e), leb-true (length flags) 2 (and-left few one e))
 
 module _ (contour : Cornered) where
   pub layout-split : splits (contour .corners) ≡ true → layout contour ≡ splitContour contour

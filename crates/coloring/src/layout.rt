@@ -23,7 +23,7 @@ ghost use Rattle.coloring.specs.Outline.{edgesOf, kindStored, placesStor
 pub(crate) fn splits(flags: &[bool]) -> bool
     ensures { λ r. ⌜ r ≡ splits (now (flags .entry)) ⌝ }
 {
-    count_corners(flags) == 1 && flags.len() <= 2
+    flags.len() <= 2 && count_corners(flags) == 1
 }
 
 // How many edges a contour comes to.

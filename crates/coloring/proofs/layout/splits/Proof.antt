@@ -1,6 +1,6 @@
 -- `splits` meets its contract, by its two tests.
 use borrow.Author.Needs.{needs}
-use borrow.Author.Tests.{eq-eqb, ne-eqb}
+use borrow.Author.Tests.{le-leb, lt-leb}
 use Rattle.coloring.specs.Layout.{splits}
 use Rattle.coloring.proofs.layout.splits.Statement.{statement}
 use Rattle.coloring.proofs.layout.splits.Tie as tie
@@ -10,11 +10,11 @@ count-corners-requires c κs = search needs
 
 returns : tie.Need-returns
 unfolding splits
-returns c = rw (← c .before .count-corners .ensures, eq-eqb _ _ (c .if1 .taken))
+returns c = rw (le-leb _ 2 (c .before .if1 .taken), c .count-corners .ensures)
 
 returns-2 : tie.Need-returns-2
 unfolding splits
-returns-2 c = rw (← c .before .count-corners .ensures, ne-eqb _ _ (c .if1 .left))
+returns-2 c = rw (lt-leb _ 2 (c .if1 .left))
 
 pub splits-spec : {M : Type 1} → statement M
 splits-spec = tie.close (tie.spec count-corners-requires returns returns-2)
