@@ -195,16 +195,3 @@ module _ (file old : List ℕ) (n : ℕ) (e : n ≡ length (fileText file)) wher
   pub list-fits : (new : List ℕ) → n ≤ length old → new ≡ over (fileText file) old → list.outcome (listed.Bytes n) new ≡ listFile file old
   unfolding listFile
   list-fits new h same = rw (le-leb (length (fileText file)) (length old) (omega (arith, e)), e, same)
-
--- where bytes were written, there are as many
-pub listed-within : (file old new : List ℕ) (n : ℕ) → list.outcome (listed.Bytes n) new ≡ listFile file old → n ≤ length new
-unfolding listFile over
-listed-within file old new n same = go (leb (length (fileText file)) (length old)) same
-  where
-    go : (b : Bool) → list.outcome (listed.Bytes n) new ≡ cond b (list.outcome (listed.Bytes (length (fileText file))) (over (fileText file) old))
-        (list.outcome (listed.Refused ResultTooShort) old) → n ≤ length new
-    go true same =
-        let counted = ap (λ (o : list.Outcome). o .answer) same in
-        let e : n ≡ length (fileText file) = cc in
-        omega (arith, e, ap (λ (o : list.Outcome). length (o .buffer)) same, length-append (fileText file) (drop (length (fileText file)) old))
-    go false same = let no = ap (λ (o : list.Outcome). o .answer) same in let z : _≡_ {A = ℕ} 0 1 = cc in absurd (omega arith)

@@ -3,7 +3,6 @@ use mathlib.Core.Path.{_≡_, refl, sym, ap, _∙_}
 use mathlib.Core.Bool.{Bool, true, false}
 use mathlib.Core.List.{List}
 use Prim.Native.Nat.{ℕ, _≤_}
-use native.Mathlib.Omega.{arith}
 use lib.Dec.{leb}
 use lib.Ieee.{Float}
 use lib.ListN.{length}
@@ -17,7 +16,6 @@ use Rattle.coloring.specs.PairOrder.{distancesValid}
 use Rattle.coloring.specs.Limits.{maxSplines}
 use Rattle.coloring.specs.SplineColors.{checkSplines}
 use Rattle.coloring.specs.declared.outline.Counts.{Counts}
-use Rattle.coloring.specs.declared.outline.Colored.{Colored}
 use Rattle.coloring.specs.declared.outline.Colored.the-variants.{Edges, Refused}
 use Rattle.coloring.specs.Outline.{Outline, Result, Outcome, resultFits, delivered, deliver}
 use Rattle.coloring.specs.Shape.{countsOf}
@@ -37,7 +35,7 @@ use Rattle.job.specs.Buffers.{Buffers, stored}
 use Rattle.job.specs.Reader.{readInto, isJob}
 use Rattle.job.specs.Color.{byStrategy, laidIn, checkJob, answered, checkReading, checkFile, acceptChecked, acceptReading, acceptJob, hasJob, accepted, paired, outlineOf, AsksDistances, HoldsJobs, HoldsResults}
 use Rattle.job.proofs.progress.ProgressLaws.{job-sound, contours-few, edges-few}
-use Rattle.job.proofs.reader.DeliverLaws.{As-job, answer-job}
+use Rattle.job.proofs.reader.DeliverLaws.{As-job}
 use Rattle.job.proofs.color.ColorLaws.{Holding, held-outline, held-is-outline, collected, job-room}
 use Rattle.job.proofs.AnswerLaws.{fits-numbered}
 

@@ -36,9 +36,6 @@ pasted-kept : {text old new : List ℕ} {at next : ℕ} → Pasted text at old n
 pasted-kept {text = text} {old = old} {at = at} p h = ap length (p .holds) ∙ pasted-length at text old h
 
 -- a text at the start of a buffer
-pub pasted-front : {text old new : List ℕ} {next : ℕ} → Pasted text 0 old next new → take next new ≡ text
-unfolding pasted
-pasted-front {text = text} {next = next} p = rw (p .holds) (take-at text _ next (omega (arith, p .place)))
 
 pub pasted-over : {text old new : List ℕ} {next : ℕ} → Pasted text 0 old next new → new ≡ over text old
 unfolding pasted over

@@ -12,8 +12,8 @@ use Rattle.job.specs.declared.records.Header as fields
 use Rattle.job.specs.declared.records.Mark.the-variants.{End}
 use Rattle.job.specs.Records.{Record, header, distances, byDistance, marked}
 use Rattle.job.specs.Job.{Job, reads, readJob, contourRecords, outlineRecords, recordsOf, recordBytes, fileOf}
-use Rattle.job.specs.Color.{acceptJob, accepted, hasJob}
-use Rattle.job.specs.Part.{spanIn, placeIn, contourPlace, contourPart}
+use Rattle.job.specs.Color.{acceptJob, hasJob}
+use Rattle.job.specs.Part.{spanIn, contourPart}
 use Rattle.job.proofs.patterns.PatternLaws.{AreBytes}
 use Rattle.job.proofs.progress.SoFarLaws.{bytes-append}
 use Rattle.job.proofs.progress.ProgressLaws.{file-of-job}

@@ -8,7 +8,7 @@ use Prim.Native.Nat.{ℕ, zero, suc, _+_, _≤_, _<_}
 use native.Mathlib.Omega.{arith}
 use lib.Ieee.{Float}
 use lib.ListN.{length, take, drop, getD, length-append, List·getD-append}
-use lib.Seq.{take-all, take-at, take-suc, take-append-le, drop-at}
+use lib.Seq.{take-all, take-suc, take-append-le}
 use borrow.Author.Tests.{lt-ltb, le-ltb}
 use Rattle.geometry.specs.declared.edge_segment.EdgeSegment.{EdgeSegment}
 use Rattle.coloring.specs.declared.refusal.Refusal.{Refusal}
@@ -29,12 +29,10 @@ use Rattle.job.specs.Job.{Job, withEdge, enter, Reading, reads, refuses,
 use Rattle.job.specs.Progress.{begin, advanced}
 use Rattle.job.specs.Color.{acceptJob, hasJob, accepted}
 use Rattle.job.specs.Part.{nowhere, spanIn, placeIn, sought, spanOf, contourPlace, contourPart, Inside}
-use Rattle.job.proofs.patterns.PatternLaws.{AreBytes}
 use Rattle.job.proofs.records.ReadingLaws.{Read-as}
-use Rattle.job.proofs.progress.ReadyLaws.{Ready}
 use Rattle.job.proofs.progress.SoFarLaws.{soFar, bytes-append}
 use Rattle.job.proofs.progress.ProgressLaws.{Reached, reached-begin, begin-job, reached-next, next-job, reached-end, reached-fault}
-use Rattle.job.proofs.progress.ProgressLaws.{record-taken, is-ready, not-closing, with-edge-length, further}
+use Rattle.job.proofs.progress.ProgressLaws.{record-taken, not-closing, with-edge-length, further}
 
 -- what was found lies before a place
 abbrev Before : Seek → ℕ → Type 0

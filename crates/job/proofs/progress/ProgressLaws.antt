@@ -58,9 +58,6 @@ more-concat (c ∷ contours) = ap (λ (x : List EdgeSegment). c ++ x) (more-conc
 
 -- ---- the counts of a job
 
-abbrev progressAt : ℕ → Phase → Job → Progress
-progressAt at phase job = record { at = at; state = record { phase = phase; numbers = numbersOf job } }
-
 numbers-next : (job : Job) (r : Record) → Ready job r → counted (numbersOf job) (itemOf r) ≡ numbersOf (enter job r)
 unfolding enter flatten
 numbers-next job (header h) ready = refl

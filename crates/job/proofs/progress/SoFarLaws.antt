@@ -5,9 +5,9 @@ use mathlib.Core.Bool.{Bool, true, false, _&&_}
 use mathlib.Core.List.{List, [], _∷_, _++_, map, map-append, append-nil, append-assoc, flatten}
 use Prim.Native.Nat.{ℕ, zero, suc, _*_, _<_, _^_}
 use native.Mathlib.Omega.{arith}
-use lib.Ieee.{Float, binary64, fits, ofBits}
+use lib.Ieee.{binary64, fits, ofBits}
 use lib.Ieee.Bits.{ofBits-fits}
-use lib.ListN.{length, take, drop}
+use lib.ListN.{length}
 use borrow.Author.Tests.{not-true}
 use Rattle.geometry.specs.EdgeSegment.{toStored}
 use Rattle.geometry.specs.declared.edge_segment.EdgeSegment.{EdgeSegment}

@@ -6,7 +6,7 @@ use Prim.Native.Nat.{ℕ, _+_, _*_, _^_, _<_, _≤_}
 use native.Mathlib.Omega.{arith}
 use lib.Dec.{leb, eqb}
 use lib.ListN.{length, getD, take, drop, length-drop, take-append-drop}
-use lib.Seq.{length-take-le, take-all, take-take, drop-drop, drop-cons}
+use lib.Seq.{length-take-le, take-all, drop-drop, drop-cons}
 use lib.Ieee.{Float}
 use borrow.Author.Tests.{leb-true, eqb-true, eqb-false}
 use Rattle.geometry.specs.EdgeSegment.{toStored}
@@ -18,8 +18,8 @@ use Rattle.job.specs.declared.records.Kind.the-variants.{Line, Quadratic
 use Rattle.job.specs.declared.records.Mark.{Mark}
 use Rattle.job.specs.declared.records.Marked.the-variants.{Known}
 use Rattle.job.specs.Patterns.{number, little, words, floats, floatBytes, isCoordinate, isDistance}
-use Rattle.job.specs.Records.{Record, header, contour, edge, distances, letters, markAmong, marks, markOf, marked, strategyNumber, strategyOf}
-use Rattle.job.specs.Records.{knownStrategy, controls, coordinates, edgeOf, recordMark, fieldsOf, bytesOf}
+use Rattle.job.specs.Records.{Record, header, contour, edge, distances, letters, markAmong, marks, markOf, strategyNumber, strategyOf}
+use Rattle.job.specs.Records.{knownStrategy, controls, edgeOf, recordMark, fieldsOf, bytesOf}
 use Rattle.job.proofs.patterns.PatternLaws.{AreBytes, number-below, floats-length}
 use Rattle.job.proofs.patterns.ByteLaws.{are-taken, are-dropped, little-taken, coordinates-back, distances-back}
 
