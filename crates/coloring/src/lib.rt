@@ -1,4 +1,5 @@
-// The colouring itself, after the source's coloring/: simple, ink-trap and by-distance colouring of outlines.
+// The colouring itself, after the source's coloring/: simple, ink-trap and by-distance colouring of outlines, and the
+// spline table with its offers.
 pub mod by_distance;
 mod corners;
 pub mod edge_coloring;
