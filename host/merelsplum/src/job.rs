@@ -51,12 +51,11 @@ pub struct Job {
 }
 
 impl Job {
-    /// Reads a job file. How many splines there are, and whether the distances are as many as their pairs, is not looked at here:
-    /// [`check`] does that.
+    /// Reads a job file. A file that is read is accepted.
     ///
     /// # Errors
     ///
-    /// The first fault of the file.
+    /// The number that [`check`] gives: the file's first fault.
     pub fn read(file: &[u8]) -> Result<Job, Refusal> {
         let outline = Flat { lengths: vec![0; MAX_CONTOURS], kinds: vec![0; MAX_EDGES], points: vec![0.0; 8 * MAX_EDGES] };
         let mut flat = FlatJob { outline, distances: vec![0.0; MAX_DISTANCES], numbers: [0; 6] };

@@ -230,9 +230,10 @@ proptest! {
         let distances = if by_distance { for_pairs(splines, &distances) } else { vec![] };
         let job = Job { strategy, seed, threshold, outline, distances };
         let file = job.to_bytes();
-        prop_assert_eq!(&Job::read(&file).unwrap(), &job);
-
         let colored = job.color();
+        let read = Job::read(&file);
+        prop_assert_eq!(read.as_ref().map_err(|&refusal| refusal), colored.as_ref().map(|_| &job).map_err(|&refusal| refusal));
+
         prop_assert_eq!(&job::color(&file), &colored);
         prop_assert_eq!(job::check(&file), colored.as_ref().map(|c| c.edge_count()).map_err(|&refusal| refusal));
         prop_assert_eq!(job::listing(&file), listing(&colored));
