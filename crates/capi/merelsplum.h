@@ -1,11 +1,13 @@
 /*
  * Merelsplum colours the edges of glyph outlines for multi-channel distance fields.
  *
- * Link with target/staticlib/libcapi.a, which `rt staticlib capi` writes (x86-64, System V calling convention). It calls nothing but
- * memcpy and memset, keeps no state and allocates nothing: any number of threads may call it, each with buffers of its own.
+ * Link with target/staticlib/libcapi.a, which `rt staticlib capi` writes (x86-64, System V calling convention). It
+ * calls nothing but memcpy and memset, keeps no state and allocates nothing: any number of threads may call it, each
+ * with buffers of its own.
  *
- * Buffers. A buffer is two arguments, a pointer and a length; the length counts elements, not bytes. With length 0 the pointer may be
- * NULL. A pointer is aligned for its type. A buffer that is written must not overlap any other buffer of the same call.
+ * Buffers. A buffer is two arguments, a pointer and a length; the length counts elements, not bytes. With length 0 the
+ * pointer may be NULL. A pointer is aligned for its type. A buffer that is written must not overlap any other buffer of
+ * the same call.
  *
  * An outline is three buffers:
  *   lengths  the number of edges of each contour; a contour may be empty
@@ -13,21 +15,23 @@
  *   points   8 doubles for each edge: x and y of its control points in order, 4, 6 or 8 of them; the rest is not read
  * So kinds has as many elements as the lengths add up to, and points 8 times as many.
  *
- * A result is written to four buffers: out_lengths, out_kinds and out_points like an outline (unused doubles are written as 0), and one
- * byte for each edge. They may be longer than the result; what is beyond it keeps its bytes. A contour of one or two edges with one
- * corner is split in thirds, so a result can have more edges than the outline: at most MERELSPLUM_MAX_RESULT_EDGES, and no more than
- * three times as many. The number of contours stays.
+ * A result is written to four buffers: out_lengths, out_kinds and out_points like an outline (unused doubles are
+ * written as 0), and one byte for each edge. They may be longer than the result; what is beyond it keeps its bytes. A
+ * contour of one or two edges with one corner is split in thirds, so a result can have more edges than the outline: at
+ * most MERELSPLUM_MAX_RESULT_EDGES, and no more than three times as many. The number of contours stays.
  *
  * A refusal leaves every buffer as it came. All bytes and lengths are allowed as input: whatever is wrong is refused.
  *
- * Threshold: the sine of the angle from which a turn counts as a corner, -1 to 1. msdfgen's default angle is 3 radians, sin(3) = 0.14112.
+ * Threshold: the sine of the angle from which a turn counts as a corner, -1 to 1. msdfgen's default angle is 3 radians,
+ * sin(3) = 0.14112.
  * Seed: any number; it picks among colours that are as good as each other. msdfgen's default is 0.
  *
- * Stack: a call uses less than MERELSPLUM_STACK_BYTES. Measured: 24 KB by distance, 8 KB for the other colourings, 96 KB for a job file.
+ * Stack: a call uses less than MERELSPLUM_STACK_BYTES. Measured: 24 KB by distance, 8 KB for the other colourings,
+ * 96 KB for a job file.
  *
- * Floating point: the state that a C program starts with, round to nearest, flush-to-zero and denormals-are-zero off (MXCSR; compilers
- * turn them on by -ffast-math). With denormals-are-zero the root of 2^-1074 comes out wrong, and with either a square with sides below
- * 2^-511 loses its corners.
+ * Floating point: the state that a C program starts with, round to nearest, flush-to-zero and denormals-are-zero off
+ * (MXCSR; compilers turn them on by -ffast-math). With denormals-are-zero the root of 2^-1074 comes out wrong, and with
+ * either a square with sides below 2^-511 loses its corners.
  */
 #ifndef MERELSPLUM_H
 #define MERELSPLUM_H
@@ -96,7 +100,8 @@ enum {
     MERELSPLUM_RESULT_TOO_SHORT = 11 /* a result buffer is too short */
 };
 
-/* Plus the refusal: the answer of a call that is refused. The offer has its own, and merelsplum_job_contour_part never refuses. */
+/* Plus the refusal: the answer of a call that is refused. The offer has its own, and merelsplum_job_contour_part
+ * never refuses. */
 #define MERELSPLUM_REFUSED UINT64_C(0x100000000)
 
 static inline int merelsplum_is_refusal(uint64_t answer) { return answer >> 32 == 1; }
@@ -108,8 +113,9 @@ static inline unsigned merelsplum_refusal(uint64_t answer) {
 
 /* ---- colouring an outline
  *
- * Answer: the number of edges of the result, or a refusal, looked for in this order: 4 (contours, edges, distances), 8 (lengths), 5, 7,
- * 6, then by distance 4 (splines), 8 (number of distances), 9, and last 11. out_colors gets a colour for each edge of the result. */
+ * Answer: the number of edges of the result, or a refusal, looked for in this order: 4 (contours, edges, distances),
+ * 8 (lengths), 5, 7, 6, then by distance 4 (splines), 8 (number of distances), 9, and last 11. out_colors gets a
+ * colour for each edge of the result. */
 
 uint64_t merelsplum_edge_coloring_simple(
     const uint16_t *lengths, size_t lengths_len,
@@ -121,8 +127,8 @@ uint64_t merelsplum_edge_coloring_simple(
     double *out_points, size_t out_points_len,
     uint8_t *out_colors, size_t out_colors_len);
 
-/* As the simple one, but a spline that is shorter than both its neighbours, as at an ink trap, takes the colour that they leave over. A
- * spline is a run of edges from corner to corner. */
+/* As the simple one, but a spline that is shorter than both its neighbours, as at an ink trap, takes the colour that
+ * they leave over. A spline is a run of edges from corner to corner. */
 uint64_t merelsplum_edge_coloring_ink_trap(
     const uint16_t *lengths, size_t lengths_len,
     const uint8_t *kinds, size_t kinds_len,
@@ -133,8 +139,9 @@ uint64_t merelsplum_edge_coloring_ink_trap(
     double *out_points, size_t out_points_len,
     uint8_t *out_colors, size_t out_colors_len);
 
-/* Gives splines that are near each other different colours. The caller measures the distances: for the splines that the collecting pass
- * below numbers, one for each pair i < j, by i and then by j; finite and not below zero, 0 where the two splines touch. */
+/* Gives splines that are near each other different colours. The caller measures the distances: for the splines that
+ * the collecting pass below numbers, one for each pair i < j, by i and then by j; finite and not below zero, 0 where
+ * the two splines touch. */
 uint64_t merelsplum_edge_coloring_by_distance(
     const uint16_t *lengths, size_t lengths_len,
     const uint8_t *kinds, size_t kinds_len,
@@ -146,8 +153,8 @@ uint64_t merelsplum_edge_coloring_by_distance(
     double *out_points, size_t out_points_len,
     uint8_t *out_colors, size_t out_colors_len);
 
-/* The collecting pass: the same edges as the colouring by distance writes, and in out_splines the number of each one's spline, or
- * MERELSPLUM_NO_SPLINE. Answer: the edges and 2^16 times the splines, or a refusal as above. */
+/* The collecting pass: the same edges as the colouring by distance writes, and in out_splines the number of each
+ * one's spline, or MERELSPLUM_NO_SPLINE. Answer: the edges and 2^16 times the splines, or a refusal as above. */
 uint64_t merelsplum_collect_splines(
     const uint16_t *lengths, size_t lengths_len,
     const uint8_t *kinds, size_t kinds_len,
@@ -163,10 +170,11 @@ static inline unsigned merelsplum_collected_splines(uint64_t answer) { return (u
 
 /* ---- offers to a spline table
  *
- * A spline table has a colour for each of n splines, 0, 1 or 2 (Yellow, Cyan, Magenta), and n * n bytes, by rows: 1 where a pair is kept
- * apart, else 0; symmetric, 0 on the diagonal. An offer asks to keep the splines a and b apart too. Where that works, the pair is kept
- * and colours are changed as needed; where it does not within some 16 steps, it is declined and the table stays as it is, but for this
- * pair, whose two entries are 0. Refusals: 4 (n above 64), 8 (edge_matrix has not n * n bytes), 10. */
+ * A spline table has a colour for each of n splines, 0, 1 or 2 (Yellow, Cyan, Magenta), and n * n bytes, by rows: 1
+ * where a pair is kept apart, else 0; symmetric, 0 on the diagonal. An offer asks to keep the splines a and b apart
+ * too. Where that works, the pair is kept and colours are changed as needed; where it does not within some 16 steps,
+ * it is declined and the table stays as it is, but for this pair, whose two entries are 0. Refusals: 4 (n above 64),
+ * 8 (edge_matrix has not n * n bytes), 10. */
 
 uint64_t merelsplum_try_add_edge(
     uint8_t *coloring, size_t coloring_len,
@@ -188,13 +196,13 @@ static inline unsigned merelsplum_offer_refusal(uint64_t answer) {
 
 /* ---- job files (docs/FORMAT.md)
  *
- * A job file has an outline, its strategy, seed and threshold and, by distance, the distances. Of a file that is refused the earliest
- * record with a fault decides. */
+ * A job file has an outline, its strategy, seed and threshold and, by distance, the distances. Of a file that is
+ * refused the earliest record with a fault decides. */
 
-/* What the file holds: the outline, the distances, and in numbers its strategy, seed, threshold (the bits of a double), and how many
- * contours, edges and distances there are. numbers has no length of its own and is not NULL. Answer: 0, or a refusal; 11 where a buffer
- * is too short, and else the refusal of merelsplum_job_check: a file that is read here is accepted. The largest job has 64 lengths,
- * 256 kinds, 2048 points and 2016 distances. */
+/* What the file holds: the outline, the distances, and in numbers its strategy, seed, threshold (the bits of a
+ * double), and how many contours, edges and distances there are. numbers has no length of its own and is not NULL.
+ * Answer: 0, or a refusal; 11 where a buffer is too short, and else the refusal of merelsplum_job_check: a file that
+ * is read here is accepted. The largest job has 64 lengths, 256 kinds, 2048 points and 2016 distances. */
 uint64_t merelsplum_job_read(
     const uint8_t *file, size_t file_len,
     uint16_t *lengths, size_t lengths_len,
@@ -206,7 +214,8 @@ uint64_t merelsplum_job_read(
 /* Whether the file is accepted, without buffers. Answer: the edges that colouring it gives, or a refusal, never 11. */
 uint64_t merelsplum_job_check(const uint8_t *file, size_t file_len);
 
-/* Reads and colours. Answer: the number of edges of the result, or a refusal. merelsplum_job_read says how many contours there are. */
+/* Reads and colours. Answer: the number of edges of the result, or a refusal. merelsplum_job_read says how many
+ * contours there are. */
 uint64_t merelsplum_job_color(
     const uint8_t *file, size_t file_len,
     uint16_t *out_lengths, size_t out_lengths_len,
@@ -214,13 +223,13 @@ uint64_t merelsplum_job_color(
     double *out_points, size_t out_points_len,
     uint8_t *out_colors, size_t out_colors_len);
 
-/* Reads, colours and writes the result as text, a line for each edge (not ended by a zero byte). Answer: the number of bytes, or 11
- * where the text does not fit; MERELSPLUM_MAX_LISTING_BYTES are always enough. A file that is refused gives its text, "refused" and the
- * number. */
+/* Reads, colours and writes the result as text, a line for each edge (not ended by a zero byte). Answer: the number
+ * of bytes, or 11 where the text does not fit; MERELSPLUM_MAX_LISTING_BYTES are always enough. A file that is
+ * refused gives its text, "refused" and the number. */
 uint64_t merelsplum_job_listing(const uint8_t *file, size_t file_len, uint8_t *out, size_t out_len);
 
-/* Where in the file the records of one contour are (from 0): the place of the first byte and 2^32 times their number, or 0 where the
- * file is refused or has no such contour. */
+/* Where in the file the records of one contour are (from 0): the place of the first byte and 2^32 times their
+ * number, or 0 where the file is refused or has no such contour. */
 uint64_t merelsplum_job_contour_part(const uint8_t *file, size_t file_len, size_t contour);
 
 static inline size_t merelsplum_part_start(uint64_t answer) { return (size_t)(answer & UINT64_C(0xFFFFFFFF)); }
