@@ -1,5 +1,5 @@
--- What the scalar helpers of math/scalar.rs give, in IEEE 754's binary64, each operation rounded once and in the source's order.
--- Each definition has its function's name.
+-- What the scalar helpers of math/scalar.rs give, in IEEE 754's binary64, each operation rounded once and in the
+-- source's order. Each definition has its function's name.
 use mathlib.Core.Path.{_≡_, refl}
 use mathlib.Core.Bool.{false, cond}
 use lib.Ieee as Ieee

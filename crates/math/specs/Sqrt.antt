@@ -1,6 +1,7 @@
--- The square root of a double, correctly rounded, over whole numbers. `sqrtBits` goes from bit pattern to bit pattern: the sign (place 63), the
--- exponent's field (places 52 to 62), the fraction (places 0 to 51). `sqrtOf` is the same on the logic's values.
--- That the result is the double nearest to the true root is shown in `proofs/sqrt/SqrtNearest.antt`, and on values in `proofs/sqrt/SqrtValues.antt`.
+-- The square root of a double, correctly rounded, over whole numbers. `sqrtBits` goes from bit pattern to bit pattern:
+-- the sign (place 63), the exponent's field (places 52 to 62), the fraction (places 0 to 51). `sqrtOf` is the same on
+-- the logic's values. That the result is the double nearest to the true root is shown in
+-- `proofs/sqrt/SqrtNearest.antt`, and on values in `proofs/sqrt/SqrtValues.antt`.
 use Prim.Native.Nat.{ℕ, zero, suc, _+_, _-_, _*_, _/_, _%_, _^_}
 use mathlib.Core.Bool.{cond, _||_}
 use lib.Dec.{leb, ltb, eqb}
@@ -12,8 +13,9 @@ unfoldable pub root : ℕ → ℕ → ℕ
 root zero n = 0
 root (suc k) n = let r = 2 * root k (n / 4) in cond (leb ((r + 1) * (r + 1)) n) (r + 1) r
 
--- The scaling. A positive finite pattern b stands for significand b · 2 ^ (exponent b − 1126), with 2 ^ 52 ≤ significand b < 2 ^ 53.
--- A pattern below 2 ^ 52 is a subnormal's: its first significant bit is moved to place 52.
+-- The scaling. A positive finite pattern b stands for significand b · 2 ^ (exponent b − 1126), and
+-- 2 ^ 52 ≤ significand b < 2 ^ 53. A pattern below 2 ^ 52 is a subnormal's: its first significant bit is moved to
+-- place 52.
 unfoldable pub shift : ℕ → ℕ
 unfolding leadingZeros
 shift b = leadingZeros 64 b - 11

@@ -1,4 +1,4 @@
--- Evaluations of the definition of the square root: P4 of document 01, and a few more.
+-- Evaluations of the definition of the square root: P4 (SCOPE, Examples), and a few more.
 use mathlib.Core.Path.{_≡_, refl}
 use mathlib.Core.Bool.{false}
 use lib.IntN.{pos, negsuc}

@@ -1,5 +1,5 @@
--- What the functions of math/vector2.rs give, in IEEE 754's binary64, each operation rounded once and in the source's order.
--- Each definition has its function's name; the source's operators have plain ones.
+-- What the functions of math/vector2.rs give, in IEEE 754's binary64, each operation rounded once and in the source's
+-- order. Each definition has its function's name; the source's operators have plain ones.
 use mathlib.Core.Bool.{Bool, cond, _&&_, _||_}
 use lib.Ieee as Ieee
 use lib.Ieee.{Float, binary64}

@@ -1,4 +1,4 @@
-// The number leaves: floats by their bit patterns, the correctly rounded square root, scalar helpers and the plane vector.
+// The number leaves: floats by their bit patterns, the correctly rounded root, scalar helpers, the plane vector.
 pub mod bits;
 pub mod scalar;
 pub mod sqrt;

@@ -1,4 +1,5 @@
-// The square root of a double, correctly rounded: a guess in floats that is checked in whole numbers or, where it is wrong, digit by digit.
+// The square root of a double, correctly rounded: a guess in floats that is checked in whole numbers or, where it is
+// wrong, digit by digit.
 use crate::bits::float;
 use std::num::wrapping_sub_u64;
 ghost use mathlib.Core.Path.{_≡_};
@@ -80,7 +81,7 @@ fn next_digit(s: Partial, low: u64) -> Partial
     }
 }
 
-// The floor root of n * 2^52 and its remainder, 53 digits. Of the digits not taken yet, the next two are at places 52 and 53.
+// The floor root of n * 2^52, 53 digits, and its remainder. The next two of the digits not taken are at 52 and 53.
 fn floor_root(n: u64) -> Partial
     requires { ⌜ n < 2 ^ 54 ⌝ }
     ensures { λ t. ⌜ (t .root * t .root + t .rem ≡ n * 2 ^ 52) × (t .root < 2 ^ 53) × (t .rem ≤ 2 * t .root) ⌝ }
@@ -122,10 +123,10 @@ fn last_digits(x: f64, weight: u64) -> u64
     f64::to_bits(x) % weight
 }
 
-// From the pattern of a number x from 1 to 4. Half the pattern, taken off a constant, is that of an inverse root s within 12 in 100. A
-// polynomial in q = x * s * s, near q^(-1/2), mends it to 31 digits; it is a product of three, so that no step waits long for another.
-// A power of two is added to each result, so that its last digit stands at place 0 of the pattern; 2 of its last digit are taken off,
-// lest the root be too high.
+// From the pattern of a number x from 1 to 4. Half the pattern, taken off a constant, is that of an inverse root s
+// within 12 in 100. A polynomial in q = x * s * s, near q^(-1/2), mends it to 31 digits; it is a product of three, so
+// that no step waits long for another. A power of two is added to each result, so that its last digit stands at place 0
+// of the pattern; two of its last place are taken off, so that the root is not too high.
 fn guess(pattern: u64) -> Guessed
     requires { ⌜ pattern < 0x4010_0000_0000_0000 ⌝ }
     ensures { λ g. ⌜ (g .root < 2 ^ 32) × (g .inverse < 2 ^ 29) ⌝ }
@@ -156,8 +157,9 @@ enum Verdict {
     Wrong,
 }
 
-// The guessed digits h leave a of the number, which by the guessed inverse gives 21 digits more, l. What the square of r = h * 2^21 + l
-// leaves of the number, rem, says whether r or r + 1 is nearest. A remainder that is too large, or below zero and so wraps, says neither.
+// The guessed digits h leave a of the number, which by the guessed inverse gives 21 digits more, l. What the square of
+// r = h * 2^21 + l leaves of the number, rem, says whether r or r + 1 is nearest. A remainder that is too large, or
+// below zero and so wraps, says neither.
 fn check(n: u64, g: Guessed) -> Verdict
     requires { ⌜ (2 ^ 52 ≤ n) × (n < 2 ^ 54) × (g .root < 2 ^ 32) × (g .inverse < 2 ^ 29) ⌝ }
     ensures { λ v. ⌜ (v ≡ Wrong) ⊎ (v ≡ Nearest (rounded (n * 2 ^ 52))) ⌝ }
@@ -195,8 +197,8 @@ fn rounded(n: u64, pattern: u64) -> u64
 
 // ---- the root of a pattern, and of a value
 
-// The root of a positive finite pattern: half the exponent, and the root of the significand. A normal number's fraction stands as it is in
-// the pattern of a number from 1 to 4.
+// The root of a positive finite pattern: half the exponent, and the root of the significand. A normal number's fraction
+// stands as it is in the pattern of a number from 1 to 4.
 fn positive_root(bits: u64) -> u64
     requires { ⌜ (0 < bits) × (bits < infinityPattern) ⌝ }
     ensures { λ r. ⌜ r ≡ positiveRoot bits ⌝ }

@@ -2,7 +2,8 @@
 // `v.mul_scalar(s)`, and `s * v` is `scale(s, v)`.
 use crate::sqrt::sqrt;
 ghost use mathlib.Core.Path.{_≡_};
-ghost use Rattle.math.specs.Vector2.{zeroVector, new, splat, squaredLength, lengthOf, normalize, orthogonal, orthonormal, isNonzero, dot, cross, add, sub, neg, mul, div, mulScalar, divScalar, scale, eq};
+ghost use Rattle.math.specs.Vector2.{zeroVector, new, splat, squaredLength, lengthOf, normalize, orthogonal, orthonormal, isNonzero};
+ghost use Rattle.math.specs.Vector2.{dot, cross, add, sub, neg, mul, div, mulScalar, divScalar, scale, eq};
 
 // A vector, or a point, of the plane.
 pub struct Vector2 {

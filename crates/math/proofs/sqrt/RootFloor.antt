@@ -28,7 +28,9 @@ quarter n p h = omega arith
 pub root-floor : (k n : ℕ) → n < 4 ^ k → Floor n (root k n)
 unfolding root
 root-floor zero n h = record { low = omega arith; high = omega arith }
-root-floor (suc k) n h = next-digit n (root k (n / 4)) (root-floor k (n / 4) (quarter n (4 ^ k) (rw pow-suc at h))) (leb ((2 * root k (n / 4) + 1) * (2 * root k (n / 4) + 1)) n) refl
+root-floor (suc k) n h =
+    next-digit n (root k (n / 4)) (root-floor k (n / 4) (quarter n (4 ^ k) (rw pow-suc at h)))
+    (leb ((2 * root k (n / 4) + 1) * (2 * root k (n / 4) + 1)) n) refl
 
 -- no whole number between the floor root and the true one
 pub floor-low : (n r a : ℕ) → Floor n r → a * a ≤ n → a ≤ r

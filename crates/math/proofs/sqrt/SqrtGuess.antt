@@ -1,5 +1,5 @@
--- What a root and a remainder say of the rounded root, and the check of a guess: the digits h and l of a root r = h · 2 ^ 21 + l, and what their
--- square leaves at each step.
+-- What a root and a remainder say of the rounded root, and the check of a guess: the digits h and l of a root
+-- r = h · 2 ^ 21 + l, and what their square leaves at each step.
 use mathlib.Core.Path.{_≡_, sym, _∙_}
 use mathlib.Core.Logic.{⊎-elim}
 use Prim.Native.Nat.{ℕ, _+_, _-_, _*_, _%_, _^_, _≤_, _<_}

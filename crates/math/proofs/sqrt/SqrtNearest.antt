@@ -1,5 +1,5 @@
--- The definition of the square root is right, with no real number in the claim: `sqrt-nearest` for every positive finite double, `sqrt-special`
--- for every other pattern.
+-- The definition of the square root is right, with no real number in the claim: `sqrt-nearest` for every positive
+-- finite double, `sqrt-special` for every other pattern.
 use mathlib.Core.Path.{_≡_, refl, sym, ap, _∙_}
 use mathlib.Core.Logic.{⊎-elim}
 use Prim.Native.Nat.{ℕ, suc, _+_, _-_, _*_, _/_, _^_, _≤_, _<_}
@@ -12,11 +12,12 @@ use Rattle.math.proofs.sqrt.SqrtRounded.{Within, rounded-within}
 use Rattle.math.proofs.sqrt.SqrtScale.{scaled-bounds, half, square-is, normalised}
 use Rattle.math.proofs.sqrt.SqrtUnits.{units, units-at, units-suc, units-mono, units-strict, ulp, le-or-lt}
 
--- y is the double nearest to the square root of the double b. `units` is a pattern's value in units of 2 ^ −1074 (`units-value`), so in these
--- units the true root is the root of units b · 2 ^ 1074, and (units y + units z) / 2 is the midpoint between y and z. Of every other z, from +0
--- up, the true root lies strictly on y's side of that midpoint: so y is nearer than z, and no tie arises. At the two z beside y these are the
--- midpoints that enclose the root. (A negative double is further away than +0. At infinity's pattern `units` is 2 ^ 1024 in size, the number that
--- decides where a result overflows.)
+-- y is the double nearest to the square root of the double b. `units` is a pattern's value in units of 2 ^ −1074
+-- (`units-value`), so in these units the true root is the root of units b · 2 ^ 1074, and (units y + units z) / 2 is
+-- the midpoint between y and z. Of every other z, from +0 up, the true root lies strictly on y's side of that midpoint:
+-- so y is nearer than z, and no tie arises. At the two z beside y these are the midpoints that enclose the root. (A
+-- negative double is further away than +0. At infinity's pattern `units` is 2 ^ 1024 in size, the number that decides
+-- where a result overflows.)
 pub record Nearest (b y : ℕ) : Type 0 where
   -- y is normal and finite: never subnormal, never an overflow
   pub normal : 2 ^ 52 ≤ y
@@ -143,7 +144,7 @@ sqrt-nearest b p h = rw (result-is b p h) (result-nearest b p h)
 -- Every other pattern of 64 digits: the two zeros and +infinity stay, and a NaN or a negative number gives the one NaN.
 pub record Special : Type 0 where
   pub zero-stays : sqrtBits 0 ≡ 0
-  negative-zero-stays : sqrtBits (2 ^ 63) ≡ 2 ^ 63
+  pub negative-zero-stays : sqrtBits (2 ^ 63) ≡ 2 ^ 63
   pub infinity-stays : sqrtBits infinityPattern ≡ infinityPattern
   pub of-nan : (b : ℕ) → infinityPattern < b → b < 2 ^ 63 → sqrtBits b ≡ nanPattern
   pub of-negative : (b : ℕ) → 2 ^ 63 < b → b < 2 ^ 64 → sqrtBits b ≡ nanPattern

@@ -1,4 +1,4 @@
--- The definitions of the square root, opened one layer at a time, so that no proof starts to evaluate a root: what each is, by cases.
+-- The definitions of the square root by cases, one layer at a time, so that no proof starts to evaluate a root.
 use mathlib.Core.Path.{_≡_, refl, _∙_}
 use mathlib.Core.Bool.{cond, _||_}
 use Prim.Native.Nat.{ℕ, _+_, _-_, _*_, _/_, _%_, _^_, _≤_, _<_}

@@ -1,4 +1,5 @@
--- The rounding: the rounded root of a scaled number is less than a half away from the true one, and has its leading digit at place 52.
+-- The rounding: the rounded root of a scaled number is less than a half away from the true one, and has its leading
+-- digit at place 52.
 use mathlib.Core.Path.{_≡_, refl}
 use mathlib.Core.Bool.{Bool, true, false, cond}
 use Prim.Native.Nat.{ℕ, _+_, _-_, _*_, _^_, _≤_, _<_}

@@ -1,6 +1,6 @@
--- The scaling. A positive finite pattern b stands for significand b · 2 ^ (exponent b − 1126), and the significand has its leading digit at
--- place 52 (`normalised`). The number whose root is taken lies between 2 ^ 104 and 2 ^ 106 (`scaled-bounds`), and times a square it is what b stands
--- for (`square-is`).
+-- The scaling. A positive finite pattern b stands for significand b · 2 ^ (exponent b − 1126), and the significand has
+-- its leading digit at place 52 (`normalised`). The number whose root is taken lies between 2 ^ 104 and 2 ^ 106
+-- (`scaled-bounds`), and times a square it is what b stands for (`square-is`).
 use mathlib.Core.Path.{_≡_, sym, ap, _∙_}
 use mathlib.Core.Logic.{⊎-elim}
 use Prim.Native.Nat.{ℕ, zero, suc, _+_, _-_, _*_, _/_, _%_, _^_, _≤_, _<_}
@@ -96,7 +96,10 @@ scaled-bounds b p h =
 
 -- it is a word, the significand or twice that, times 2 ^ 52
 pub word-scaled : (b : ℕ) → significand b * 2 ^ (exponent b % 2) * 2 ^ 52 ≡ scaled b
-word-scaled b = mul-assoc (significand b) (2 ^ (exponent b % 2)) (2 ^ 52) ∙ ap (λ (x : ℕ). significand b * x) (sym (pow-add 2 (exponent b % 2) 52)) ∙ sym (scaled-is b)
+word-scaled b =
+    mul-assoc (significand b) (2 ^ (exponent b % 2)) (2 ^ 52)
+    ∙ ap (λ (x : ℕ). significand b * x) (sym (pow-add 2 (exponent b % 2) 52))
+    ∙ sym (scaled-is b)
 
 pub word-bounds : (b : ℕ) → 0 < b → b < infinityPattern → (2 ^ 52 ≤ significand b * 2 ^ (exponent b % 2)) × (significand b * 2 ^ (exponent b % 2) < 2 ^ 54)
 word-bounds b p h = let s = scaled-bounds b p h in omega (arith, word-scaled b)
@@ -117,6 +120,8 @@ square-is b p h =
     ∙ sym (mul-assoc (units b) (2 ^ 52) (2 ^ 1022))
     ∙ ap (λ (x : ℕ). x * 2 ^ 1022) (normalised b p h .value)
     ∙ mul-assoc m (2 ^ e) (2 ^ 1022)
-    ∙ ap (λ (x : ℕ). m * x) (sym (pow-add 2 e 1022) ∙ ap (λ (x : ℕ). 2 ^ x) (sym sums) ∙ pow-add 2 (e % 2 + 52) (g + g) ∙ ap (λ (x : ℕ). 2 ^ (e % 2 + 52) * x) (pow-add 2 g g))
+    ∙ ap (λ (x : ℕ). m * x)
+    (sym (pow-add 2 e 1022) ∙ ap (λ (x : ℕ). 2 ^ x) (sym sums) ∙ pow-add 2 (e % 2 + 52) (g + g)
+    ∙ ap (λ (x : ℕ). 2 ^ (e % 2 + 52) * x) (pow-add 2 g g))
     ∙ sym (mul-assoc m (2 ^ (e % 2 + 52)) (2 ^ g * 2 ^ g))
     ∙ ap (λ (x : ℕ). x * (2 ^ g * 2 ^ g)) (sym (scaled-is b))

@@ -1,6 +1,6 @@
--- The number that a positive finite pattern stands for, counted in units of the smallest double, 2 ^ −1074. It is the value that the logic's
--- account of IEEE 754 reads from the pattern (`units-value`), it grows with the pattern (`units-mono`), and the step from a pattern to the next is
--- one unit in the last place (`units-suc`).
+-- The number that a positive finite pattern stands for, counted in units of the smallest double, 2 ^ −1074. It is the
+-- value that the logic's account of IEEE 754 reads from the pattern (`units-value`), it grows with the pattern
+-- (`units-mono`), and the step from a pattern to the next is one unit in the last place (`units-suc`).
 use mathlib.Core.Path.{_≡_, sym, subst, ap, ap₂, _∙_}
 use mathlib.Core.Bool.{false, cond}
 use mathlib.Core.Logic.{_⊎_, inl, inr, ⊎-elim}
@@ -121,4 +121,6 @@ units-value b h = rw (ofBits-is b (omega arith)) (⊎-elim large small (le-or-lt
     large : 2 ^ 52 ≤ b → HasValue (ofFields binary64 false (b / 2 ^ 52) (b % 2 ^ 52)) false (units b) (2 ^ 1074)
     large k =
         let q : b / 2 ^ 52 ≡ suc (b / 2 ^ 52 - 1) = omega arith in
-        rw (units-high b k) (subst (λ (x : ℕ). HasValue (ofFields binary64 false x (b % 2 ^ 52)) false ((2 ^ 52 + b % 2 ^ 52) * 2 ^ (b / 2 ^ 52 - 1)) (2 ^ 1074)) (sym q) (fields-high (b / 2 ^ 52 - 1) (b % 2 ^ 52) (omega arith)))
+        rw (units-high b k) (subst
+        (λ (x : ℕ). HasValue (ofFields binary64 false x (b % 2 ^ 52)) false ((2 ^ 52 + b % 2 ^ 52) * 2 ^ (b / 2 ^ 52 - 1)) (2 ^ 1074))
+        (sym q) (fields-high (b / 2 ^ 52 - 1) (b % 2 ^ 52) (omega arith)))

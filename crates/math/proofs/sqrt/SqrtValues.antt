@@ -1,5 +1,6 @@
--- The square root on values: `sqrtOf` of a pattern's float is the float of the pattern's root (`sqrt-of-bits`), so that what SqrtNearest says of
--- patterns holds of floats: `sqrt-nearest-value` for every float that is finite and above zero, `sqrt-special-value` for every other.
+-- The square root on values: `sqrtOf` of a pattern's float is the float of the pattern's root (`sqrt-of-bits`), so that
+-- what SqrtNearest says of patterns holds of floats: `sqrt-nearest-value` for every float that is finite and above
+-- zero, `sqrt-special-value` for every other.
 use mathlib.Core.Path.{_≡_, refl, sym, ap, subst, _∙_}
 use mathlib.Core.Bool.{Bool, true, false, not, cond}
 use Prim.Native.Nat.{ℕ, zero, suc, _+_, _*_, _/_, _%_, _^_, _≤_, _<_}
@@ -30,15 +31,17 @@ unsigned nan = false
 unsigned (inf s) = false
 unsigned (fin s m e) = not s
 
--- The midpoint between y and z is (y + z) / 2. Its square and x, each float as the fraction num / den, are these two numbers over one denominator.
+-- The midpoint between y and z is (y + z) / 2. Its square and x, each float as the fraction num / den, are these two
+-- numbers over one denominator.
 abbrev pub midpoint² : Float → Float → Float → ℕ
 midpoint² x y z = let s = num y * den z + num z * den y in s * s * den x
 
 abbrev pub radicand : Float → Float → Float → ℕ
 radicand x y z = let d = den y * den z in 4 * num x * (d * d)
 
--- y is the double nearest to the square root of x: it is finite and above zero, and of every other double z from +0 up the true root lies strictly
--- on y's side of the midpoint between the two. (A negative z is further away than +0.) Where x is the square of a double, that double is y.
+-- y is the double nearest to the square root of x: it is finite and above zero, and of every other double z from +0 up
+-- the true root lies strictly on y's side of the midpoint between the two. (A negative z is further away than +0.)
+-- Where x is the square of a double, that double is y.
 pub record NearestRoot (x y : Float) : Type 0 where
   pub held : T (fits binary64 y)
   pub finite : T (positive y)

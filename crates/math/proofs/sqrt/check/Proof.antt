@@ -1,4 +1,4 @@
--- `math::sqrt::check` meets its contract: where no remainder is too large, the last one is that of the root, and says how it is rounded.
+-- `math::sqrt::check` meets its contract: if no remainder is too large, the last is the root's, and says how to round.
 use mathlib.Core.Path.{_≡_, refl, ap}
 use mathlib.Core.Logic.{inl, inr}
 use Prim.Native.Nat.{ℕ, _+_, _*_, _/_, _^_, _<_}

@@ -1,5 +1,5 @@
--- `math::sqrt::floor_root` meets its contract. The loop's invariant: after i turns the square of the root's digits, with what is left over, and
--- below them the digits not taken yet, are n · 4 ^ i.
+-- `math::sqrt::floor_root` meets its contract. The loop's invariant: after i turns the square of the root's digits,
+-- with what is left over, and below them the digits not taken yet, are n · 4 ^ i.
 use mathlib.Core.Path.{_≡_, ap, _∙_}
 use Prim.Native.Nat.{ℕ, _+_, _-_, _*_, _/_, _%_, _^_, _≤_, _<_}
 use native.Mathlib.Nat.{pow-suc, le-of-suc-le-suc, lt-of-lt-of-le}

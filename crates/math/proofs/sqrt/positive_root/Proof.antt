@@ -1,4 +1,5 @@
--- `math::sqrt::positive_root` meets its contract: nothing wraps, and the number handed to `rounded`, times 2 ^ 52, is the scaled one.
+-- `math::sqrt::positive_root` meets its contract: nothing wraps, and the number handed to `rounded`, times 2 ^ 52, is
+-- the scaled one.
 use mathlib.Core.Path.{_≡_, sym, ap, ap₂, _∙_}
 use Prim.Native.Nat.{ℕ, _+_, _*_, _/_, _%_, _^_, _≤_, _<_}
 use native.Mathlib.Nat.{mod-eq-of-lt, lt-of-lt-of-le}
@@ -13,7 +14,8 @@ use Rattle.math.proofs.sqrt.positive_root.Statement.{statement}
 use Rattle.math.proofs.sqrt.positive_root.Tie as tie
 
 -- the shift loses nothing
-word-is : (b e m : ℕ) → 0 < b → b < spec.infinityPattern → e ≡ spec.exponent b → m ≡ spec.significand b → m * 2 ^ (e % 2) % 2 ^ 64 ≡ spec.significand b * 2 ^ (spec.exponent b % 2)
+word-is : (b e m : ℕ) → 0 < b → b < spec.infinityPattern → e ≡ spec.exponent b → m ≡ spec.significand b →
+    m * 2 ^ (e % 2) % 2 ^ 64 ≡ spec.significand b * 2 ^ (spec.exponent b % 2)
 word-is b e m p h x y = rw (x, y) (mod-eq-of-lt (lt-of-lt-of-le (word-bounds b p h .1) (lit≤ tt)))
 
 word-within : (b e m : ℕ) → 0 < b → b < spec.infinityPattern → e ≡ spec.exponent b → m ≡ spec.significand b
@@ -54,18 +56,26 @@ root-is c =
     let start = c .before .before .before in
     let b = start .args .bits in
     c .rounded .ensures
-    ∙ ap (λ (n : ℕ). spec.rounded (n * 2 ^ 52)) (word-is b _ _ (start .pre .0) (start .pre .1) (c .before .before .exponent .ensures) (c .before .significand .ensures))
+    ∙ ap (λ (n : ℕ). spec.rounded (n * 2 ^ 52))
+    (word-is b _ _ (start .pre .0) (start .pre .1) (c .before .before .exponent .ensures) (c .before .significand .ensures))
     ∙ ap spec.rounded (word-scaled b)
 
 add-result-2 : tie.Need-add-result-2
 add-result-2 c =
     let start = c .before .before .before in
     let b = start .args .bits in
-    omega (arith, root-is c, c .before .before .exponent .ensures, normalised b (start .pre .0) (start .pre .1) .last, rounded-within (spec.scaled b) (scaled-bounds b (start .pre .0) (start .pre .1)) .high)
+    omega (
+      arith,
+      root-is c,
+      c .before .before .exponent .ensures,
+      normalised b (start .pre .0) (start .pre .1) .last,
+      rounded-within (spec.scaled b) (scaled-bounds b (start .pre .0) (start .pre .1)) .high,
+    )
 
 returns : tie.Need-returns
 returns c =
-    ap₂ (λ (e r : ℕ). (e / 2 + 485) * 2 ^ 52 + r) (c .before .before .exponent .ensures) (root-is c) ∙ sym (positiveRoot-is (c .before .before .before .args .bits))
+    ap₂ (λ (e r : ℕ). (e / 2 + 485) * 2 ^ 52 + r) (c .before .before .exponent .ensures) (root-is c)
+    ∙ sym (positiveRoot-is (c .before .before .before .args .bits))
 
 pub positive-root-spec : {M : Type 1} → statement M
 positive-root-spec =
