@@ -1,4 +1,4 @@
--- The colors of edges by their numbers: bit 0 red, bit 1 green, bit 2 blue.
+-- The colours of edges by their numbers: bit 0 red, bit 1 green, bit 2 blue.
 use Prim.Native.Nat.{ℕ, zero, suc, _/_, _%_, _<_}
 use native.Mathlib.Nat.{mod-lt}
 use native.Mathlib.Omega.{arith}
@@ -10,7 +10,7 @@ use lib.Dec.{eqb, lit<}
 use Rattle.geometry.specs.declared.edge_color.EdgeColor.{EdgeColor}
 use Rattle.geometry.specs.declared.edge_color.EdgeColor.the-variants.{Black, Red, Green, Yellow, Blue, Magenta, Cyan, White}
 
--- the number of each color
+-- the number of each colour
 abbrev pub bitsOf : EdgeColor → ℕ
 bitsOf Black = 0
 bitsOf Red = 1
@@ -21,11 +21,11 @@ bitsOf Magenta = 5
 bitsOf Cyan = 6
 bitsOf White = 7
 
--- the colors in the order of their numbers
+-- the colours in the order of their numbers
 abbrev pub colors : List EdgeColor
 colors = Black ∷ Red ∷ Green ∷ Yellow ∷ Blue ∷ Magenta ∷ Cyan ∷ White ∷ []
 
--- the color of the three low bits of a number
+-- the colour of the three low bits of a number
 abbrev pub fromBits : ℕ → EdgeColor
 fromBits b = getD colors (b % 8) White
 
@@ -67,7 +67,7 @@ bits-below Magenta = lit< tt
 bits-below Cyan = lit< tt
 bits-below White = lit< tt
 
--- at a number as long as the colors, by its unary form
+-- at a number as long as the colours, by its unary form
 at-color : (n : ℕ) → n < 8 → bitsOf (getD colors n White) ≡ n
 at-color zero h = refl
 at-color (suc zero) h = refl

@@ -184,7 +184,7 @@ toStored (Cubic p0 p1 p2 p3) = record { kind = 3; points = p0 .x ∷ p0 .y ∷ p
 abbrev pub pointAt : List Float → ℕ → Vector2
 pointAt ps k = new (getD ps (2 * k) nan) (getD ps (2 * k + 1) nan)
 
--- the edge of a kind and its places, those beyond its control points ignored; a kind that is none is an answer of its own
+-- the edge of a kind and its places, those beyond its control points ignored; an unknown kind is an answer of its own
 unfoldable pub fromStored : ℕ → List Float → Decoded
 fromStored zero ps = UnknownKind
 fromStored (suc zero) ps = Edge (Line (pointAt ps 0) (pointAt ps 1))

@@ -1,4 +1,4 @@
--- Examples P8, P9 and P10 of document 01, computed from the definitions.
+-- P8, P9 and P10 (SCOPE, Examples), computed from the definitions.
 use mathlib.Core.Path.{_≡_, refl}
 use mathlib.Core.Bool.{true, false}
 use lib.IntN.{pos, negsuc}

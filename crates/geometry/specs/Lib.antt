@@ -1,4 +1,4 @@
--- The definitions that the contracts of edges and their colors cite.
+-- The definitions that the contracts of edges and their colours cite.
 pub mod EdgeColor
 pub mod EdgeSegment
 pub mod Examples

@@ -1,4 +1,4 @@
-// The color of an edge, geometry/edge_color.rs: the set of channels that the edge is drawn in. Bit 0 is red, bit 1 green, bit 2 blue.
+// The colour of an edge, geometry/edge_color.rs: the channels that it feeds. Bit 0 is red, bit 1 green, bit 2 blue.
 ghost use mathlib.Core.Path.{_≡_};
 ghost use Rattle.geometry.specs.EdgeColor.{bitsOf, fromBits, hasRed, hasGreen, hasBlue, hasChannel};
 
@@ -29,7 +29,7 @@ impl EdgeColor {
         }
     }
 
-    // The color of the three low bits of b.
+    // The colour of the three low bits of b.
     pub fn from_bits(b: u8) -> EdgeColor
         ensures { λ r. ⌜ r ≡ fromBits b ⌝ }
     {

@@ -1,3 +1,3 @@
-// Geometry: edge colors and edge segments.
+// Geometry: edge colours and edge segments.
 pub mod edge_color;
 pub mod edge_segment;

@@ -39,7 +39,8 @@ returns-8 : tie.Need-returns-8
 returns-8 c =
     let n = c .before .args .b % 8 in
     let rest = c .match .rest in
-    let at-least-4 : 4 ≤ n = next 3 n (next 2 n (next 1 n (next 0 n zero-le (rest .0 .0 .0 .0 .0 .0 .1)) (rest .0 .0 .0 .0 .0 .1)) (rest .0 .0 .0 .0 .1)) (rest .0 .0 .0 .1) in
+    let at-least-2 : 2 ≤ n = next 1 n (next 0 n zero-le (rest .0 .0 .0 .0 .0 .0 .1)) (rest .0 .0 .0 .0 .0 .1) in
+    let at-least-4 : 4 ≤ n = next 3 n (next 2 n at-least-2 (rest .0 .0 .0 .0 .1)) (rest .0 .0 .0 .1) in
     let at-least-7 : 7 ≤ n = next 6 n (next 5 n (next 4 n at-least-4 (rest .0 .0 .1)) (rest .0 .1)) (rest .1) in
     rw (last n at-least-7 (mod-lt (c .before .args .b) {m = 8} (lit< tt)))
 
