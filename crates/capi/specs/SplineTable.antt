@@ -2,7 +2,7 @@
 use Prim.Native.Nat.{ℕ, _+_}
 use Rattle.coloring.specs.SplineTable.{OfferAnswer, kept, declined, refused}
 
--- 256 and the counter where the pair is kept, 512 and the counter where it is declined, 768 and the number of the refusal
+-- the counter and 256 where the pair is kept, 512 where it is declined; or 768 and the number of the refusal
 abbrev pub answerCode : OfferAnswer → ℕ
 answerCode (kept counter) = 256 + counter
 answerCode (declined counter) = 512 + counter

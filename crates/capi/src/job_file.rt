@@ -106,8 +106,8 @@ pub extern "C" fn merelsplum_job_listing(file: &[u8], out: &mut [u8]) -> u64
     listed_code(listing::listing(file, out))
 }
 
-// The place of a contour's first byte, and 2^32 times the number of its bytes; 0 for a refused file and for a number too large. Nothing is cut
-// off: an accepted file has at most 33,177 bytes.
+// The place of a contour's first byte, and 2^32 times the number of its bytes; 0 for a refused file and for a number
+// too large. Nothing is cut off: an accepted file has at most 33,177 bytes.
 #[no_mangle]
 pub extern "C" fn merelsplum_job_contour_part(file: &[u8], contour: usize) -> u64
     ensures { λ r. ⌜ r ≡ placeCode (contourPlace (now (file .entry)) contour) ⌝ }

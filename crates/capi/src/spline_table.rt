@@ -6,7 +6,7 @@ ghost use mathlib.Core.Path.{_≡_};
 ghost use Rattle.coloring.specs.SplineTable.{offerAnswer, offer, tableOf};
 ghost use Rattle.capi.specs.SplineTable.{answerCode};
 
-// 256 and the counter where the pair is kept, 512 and the counter where it is declined, 768 and the number of the refusal.
+// The counter and 256 where the pair is kept, 512 where it is declined; or 768 and the number of the refusal.
 fn code(answer: Offer) -> u64
     ensures { λ r. ⌜ r ≡ answerCode (offerAnswer answer) ⌝ }
 {

@@ -1,4 +1,4 @@
--- `capi::by_distance::merelsplum_edge_coloring_by_distance` meets its contract, by those of its callees. Assumes nothing.
+-- `capi::by_distance::merelsplum_edge_coloring_by_distance` meets its contract, by those of its callees.
 use borrow.Author.Needs.{needs}
 use Rattle.capi.specs.EdgeColoring.{coloredCode}
 use Rattle.capi.proofs.Handing.{hands-out}

@@ -1,4 +1,4 @@
--- `capi::edge_coloring::code` meets its contract, by the cases of the answer. Assumes nothing.
+-- `capi::edge_coloring::code` meets its contract, by the cases of the answer.
 use borrow.Author.Needs.{needs}
 use mathlib.Core.Path.{ap, _∙_}
 use Prim.Native.Nat.{ℕ, _+_}

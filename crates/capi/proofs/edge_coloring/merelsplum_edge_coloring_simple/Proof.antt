@@ -1,4 +1,4 @@
--- `capi::edge_coloring::merelsplum_edge_coloring_simple` meets its contract, by those of its callees. Assumes nothing.
+-- `capi::edge_coloring::merelsplum_edge_coloring_simple` meets its contract, by those of its callees.
 use borrow.Author.Needs.{needs}
 use Rattle.capi.specs.EdgeColoring.{coloredCode}
 use Rattle.capi.proofs.Handing.{hands-out}

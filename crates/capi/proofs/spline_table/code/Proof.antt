@@ -1,4 +1,4 @@
--- `capi::spline_table::code` meets its contract, by the cases of the answer. Assumes nothing.
+-- `capi::spline_table::code` meets its contract, by the cases of the answer.
 use borrow.Author.Needs.{needs}
 use mathlib.Core.Path.{ap, _∙_}
 use Prim.Native.Nat.{ℕ, _+_}
@@ -45,4 +45,5 @@ returns-3 : tie.Need-returns-3
 returns-3 c = rw (c .before .before .before .answer3 .given .1) (ap (λ (k : ℕ). 768 + k) (c .wide3 .ensures .0 ∙ c .before .number .ensures))
 
 pub code-spec : {M : Type 1} → statement M
-code-spec = tie.close (tie.spec enum-known-answer wide-requires add-result enum-known-answer-2 wide-requires-2 add-result-2 enum-known-answer-3 number-requires wide-requires-3 add-result-3 returns returns-2 returns-3)
+code-spec = tie.close (tie.spec enum-known-answer wide-requires add-result enum-known-answer-2 wide-requires-2 add-result-2
+    enum-known-answer-3 number-requires wide-requires-3 add-result-3 returns returns-2 returns-3)

@@ -1,4 +1,4 @@
--- `capi::spline_table::merelsplum_try_add_edge` meets its contract, by those of its callees. Assumes nothing.
+-- `capi::spline_table::merelsplum_try_add_edge` meets its contract, by those of its callees.
 use borrow.Author.Needs.{needs}
 use mathlib.Core.Path.{ap, _∙_}
 use Rattle.coloring.specs.SplineTable.{Offered}
