@@ -1,5 +1,5 @@
-// Records of edges and their colors, 20 words each: the function's number; a kind or a color, eight places, a parameter; a number
-// and eight places that are the answer. Where the kind is unknown the answer is the number 0.
+// Records of edges and their colours, 20 words each: the function's number; a kind or a colour, eight places, a
+// parameter; a number and eight places that are the answer. Where the kind is unknown the answer is the number 0.
 use crate::leaves::vector;
 use crate::words::number;
 use crate::words::same;

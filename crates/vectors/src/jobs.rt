@@ -1,5 +1,6 @@
-// Records of job files (69): five words (the number, the record's bytes, how many bytes the file and its listing have, how many contours are
-// asked for), two words for each of these (the place of its part and how many bytes it has), the file, and its listing, each filled up to words.
+// Records of job files (69): five words (the number, the record's bytes, how many bytes the file and its listing have,
+// how many contours are asked for), two words for each of these (the place of its part and how many bytes it has), the
+// file, and its listing, each filled up to words.
 use crate::words::load;
 use crate::words::part;
 use crate::words::size;

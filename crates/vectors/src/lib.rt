@@ -1,6 +1,7 @@
-// Recorded calls of the library, and whether it answers as recorded. A record begins with the number of a function: 0 to 27 are
-// those of math, 32 to 46 those of geometry, 64 a run of offers to a spline table, 65 to 68 the colourings, 69 a job file. Numbers are
-// words of eight bytes, the lowest byte first. The program `replay` reads records; the comparison with the Rust makes them one by one.
+// Recorded calls of the library, and whether it answers as recorded. A record begins with the number of a function: 0
+// to 27 are those of math, 32 to 46 those of geometry, 64 a run of offers to a spline table, 65 to 68 the colourings,
+// 69 a job file. Numbers are words of eight bytes, the lowest byte first. The program `replay` reads records; the
+// comparison with the Rust makes them one by one.
 mod edges;
 mod jobs;
 mod leaves;

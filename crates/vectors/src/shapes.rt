@@ -1,7 +1,7 @@
-// Records of simple (65), ink-trap (66) and by-distance colouring (68) and of the collecting pass (67): thirteen words (the number,
-// the record's bytes, threshold, seed, how many lengths, kinds and point places go in, how many of these and of colours the result
-// buffers have, the answer, where the result begins); what goes in: lengths, kinds, point places, distances; and the result:
-// lengths, kinds, colours, point places. A length is a word.
+// Records of simple (65), ink-trap (66) and by-distance colouring (68) and of the collecting pass (67): thirteen words
+// (the number, the record's bytes, threshold, seed, how many lengths, kinds and point places go in, how many of these
+// and of colours the result buffers have, the answer, where the result begins); what goes in: lengths, kinds, point
+// places, distances; and the result: lengths, kinds, colours, point places. A length is a word.
 use crate::words::load;
 use crate::words::number;
 use crate::words::part;

@@ -1,5 +1,6 @@
-// Records of a run of offers to one spline table: five words (64, the record's bytes, how many colours, entries and offers), the
-// colours, the entries, three words an offer (a, b and the answer), and the colours and the entries after the last offer.
+// Records of a run of offers to one spline table: five words (64, the record's bytes, how many colours, entries and
+// offers), the colours, the entries, three words an offer (a, b and the answer), and the colours and the entries after
+// the last offer.
 use crate::words::load;
 use crate::words::part;
 use crate::words::size;

@@ -1,5 +1,5 @@
-// Words, floats and parts out of bytes, and the comparison of a float with a recorded pattern. The records of one part follow a
-// heading: a word of ones and the part's name, 16 bytes.
+// Words, floats and parts out of bytes, and the comparison of a float with a recorded pattern. The records of one part
+// follow a heading: a word of ones and the part's name, 16 bytes.
 use math::bits::float;
 ghost use mathlib.Core.Path.{_≡_};
 ghost use Prim.Native.Nat.{_+_, _≤_, _<_};

@@ -7,7 +7,8 @@ use Rattle.vectors.proofs.tables.offers.Statement.{statement}
 use Rattle.vectors.proofs.tables.offers.Tie as tie
 
 abbrev Inv-loop : tie.InvT-loop
-Inv-loop s coloring₀ edge-matrix₀ right₀ at₀ coloring edge-matrix right at = (at ≤ length s) × (length coloring ≡ length coloring₀) × (length edge-matrix ≡ length edge-matrix₀)
+Inv-loop s coloring₀ edge-matrix₀ right₀ at₀ coloring edge-matrix right at =
+    (at ≤ length s) × (length coloring ≡ length coloring₀) × (length edge-matrix ≡ length edge-matrix₀)
 
 abbrev μ-loop : tie.MeasureT-loop
 μ-loop s coloring₀ edge-matrix₀ right₀ at₀ coloring edge-matrix right at = length s - at
@@ -52,4 +53,5 @@ returns : tie.Need-returns Inv-loop μ-loop
 returns c = search needs
 
 pub offers-spec : {M : Type 1} → statement M
-offers-spec = tie.close (tie.spec Inv-loop μ-loop loop-holds sub-loop sub-is-right part-is-right-start part-is-right-end is-right-requires wrapping-add-u64-requires add-at loop-less loop-again same-length same-length-2 returns)
+offers-spec = tie.close (tie.spec Inv-loop μ-loop loop-holds sub-loop sub-is-right part-is-right-start part-is-right-end is-right-requires
+    wrapping-add-u64-requires add-at loop-less loop-again same-length same-length-2 returns)
