@@ -1,13 +1,7 @@
--- An answer as C sees it, one number: a number of its values, or a base and the number of the refusal.
+-- An answer as C sees it, one number: a number of its value, or a base and the number of the refusal.
 use Prim.Native.Nat.{ℕ, _+_}
-use mathlib.Core.List.{List}
-use Rattle.coloring.specs.Answers.{Answer, values, refusal}
+use Rattle.coloring.specs.Answers.{Answer, gives, refusal}
 
-abbrev pub codeOf : (List ℕ → ℕ) → ℕ → Answer → ℕ
-codeOf number base (values vs) = number vs
+abbrev pub codeOf : {A : Type 0} → (A → ℕ) → ℕ → Answer A → ℕ
+codeOf number base (gives a) = number a
 codeOf number base (refusal n) = base + n
-
--- the values, or what stood there
-abbrev pub valuesOver : Answer → List ℕ → List ℕ
-valuesOver (values vs) old = vs
-valuesOver (refusal n) old = old

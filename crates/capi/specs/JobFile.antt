@@ -1,34 +1,55 @@
 -- The answers about a job file as C sees them: one number each, and the numbers of a job.
 use Prim.Native.Nat.{ℕ, _+_, _-_, _*_, _%_}
-use mathlib.Core.Path.{_≡_}
-use mathlib.Core.List.{List}
-use lib.Ieee.{Float}
-use lib.ListN.{getD}
-use Rattle.job.specs.declared.progress.Read.{Read}
-use Rattle.job.specs.declared.listing.Listed.{Listed}
+use mathlib.Core.List.{List, [], _∷_}
+use Rattle.coloring.specs.Answers.{Answer, gives, refusal}
+use Rattle.job.specs.declared.progress.Numbers.{Numbers}
 use Rattle.job.specs.declared.part.Span.{Span}
-use Rattle.job.specs.Buffers.{Hold}
-use Rattle.job.specs.Reader.{Outcome}
-use Rattle.job.specs.Answers.{readAnswer, listedAnswer}
-use Rattle.capi.specs.Answers.{codeOf, valuesOver}
+use Rattle.job.specs.Records.{strategyNumber}
+use Rattle.job.specs.Buffers.{Buffers}
+use Rattle.job.specs.Reader.{ReadOutcome}
+use Rattle.job.specs.Listing.{TextOutcome}
+use Rattle.capi.specs.Answers.{codeOf}
 
 -- 0, or 2^32 and the number of the refusal
-abbrev pub readCode : Read → ℕ
-readCode answer = codeOf (λ vs. 0) 4294967296 (readAnswer answer)
+abbrev pub readCode : Answer Numbers → ℕ
+readCode = codeOf (λ (n : Numbers). 0) 4294967296
+
+-- strategy, seed, the threshold's bits, and how many contours, edges and distances
+abbrev pub jobValues : Numbers → List ℕ
+jobValues n = strategyNumber (n .header .strategy) ∷ n .header .seed ∷ n .header .threshold ∷ n .contours ∷ n .edges ∷ n .distances ∷ []
 
 -- the numbers of a job; of a refused file as they came
-abbrev pub numbersAfter : Read → List ℕ → List ℕ
-numbersAfter answer old = valuesOver (readAnswer answer) old
+abbrev pub numbersAfter : Answer Numbers → List ℕ → List ℕ
+numbersAfter (gives n) old = jobValues n
+numbersAfter (refusal number) old = old
 
--- a number, four buffers and the numbers at exit are those of reading
-pub record Reads (o : Outcome) (numbers₀ : List ℕ) (code : ℕ) (lengths kinds : List ℕ) (points distances : List Float) (numbers : List ℕ) : Type 0 where
-  pub answers : code ≡ readCode (o .answer)
-  pub holds : Hold (o .buffers) lengths kinds points distances
-  pub numbers-are : numbers ≡ numbersAfter (o .answer) numbers₀
+-- a number, four buffers and the numbers at exit
+pub record HandedJob : Type 0 where
+  pub code : ℕ
+  pub buffers : Buffers
+  pub numbers : List ℕ
+
+abbrev pub handedJob : ℕ → Buffers → List ℕ → HandedJob
+handedJob code buffers numbers = record { code = code; buffers = buffers; numbers = numbers }
+
+-- the outcome of reading, over numbers that stood there
+abbrev pub handOutJob : ReadOutcome → List ℕ → HandedJob
+handOutJob o old = handedJob (readCode (o .answer)) (o .buffers) (numbersAfter (o .answer) old)
 
 -- the number of bytes, or 2^32 and the number of the refusal
-abbrev pub listedCode : Listed → ℕ
-listedCode answer = codeOf (λ vs. getD vs 0 0) 4294967296 (listedAnswer answer)
+abbrev pub listedCode : Answer ℕ → ℕ
+listedCode = codeOf (λ bytes. bytes) 4294967296
+
+-- a number and the buffer at exit, and so of a listing
+pub record HandedText : Type 0 where
+  pub code : ℕ
+  pub buffer : List ℕ
+
+abbrev pub handedText : ℕ → List ℕ → HandedText
+handedText code buffer = record { code = code; buffer = buffer }
+
+abbrev pub handOutText : TextOutcome → HandedText
+handOutText o = handedText (listedCode (o .answer)) (o .buffer)
 
 -- the place of the first byte, and 2^32 times the number of bytes
 abbrev pub placeCode : Span → ℕ

@@ -4,13 +4,13 @@ use crate::wide;
 use coloring::by_distance;
 use coloring::outline::Colored;
 ghost use mathlib.Core.Path.{_≡_};
-ghost use Rattle.coloring.specs.Outline.{outline, result};
+ghost use Rattle.coloring.specs.Outline.{given, atEntry, atExit, coloredAnswer};
 ghost use Rattle.coloring.specs.EdgeColoring.{collectSplines, edgeColoringByDistance};
 ghost use Rattle.capi.specs.EdgeColoring.{collectedCode, coloredCode, handed, handOut};
 
 // The number of edges and 2^16 times that of splines, or 2^32 and the number of the refusal.
 fn collected_code(answer: Colored) -> u64
-    ensures { λ r. ⌜ r ≡ collectedCode answer ⌝ }
+    ensures { λ r. ⌜ r ≡ collectedCode (coloredAnswer answer) ⌝ }
 {
     match answer {
         Colored::Edges(counts) => {
@@ -31,9 +31,9 @@ pub extern "C" fn merelsplum_collect_splines(
     out_points: &mut [f64],
     out_splines: &mut [u8],
 ) -> u64
-    ensures { λ r. ⌜ handed r (result (now («out_lengths» .exit)) (now («out_kinds» .exit)) (now («out_points» .exit)) (now («out_splines» .exit))) ≡
-        handOut collectedCode (collectSplines (outline (now (lengths .entry)) (now (kinds .entry)) (now (points .entry))) threshold
-        (result (now («out_lengths» .entry)) (now («out_kinds» .entry)) (now («out_points» .entry)) (now («out_splines» .entry)))) ⌝ }
+    ensures { λ r. ⌜ handed r (atExit «out_lengths» «out_kinds» «out_points» «out_splines»)
+        ≡ handOut collectedCode (collectSplines (given lengths kinds points) threshold
+        (atEntry «out_lengths» «out_kinds» «out_points» «out_splines»)) ⌝ }
 {
     collected_code(by_distance::collect_splines(
         lengths,
@@ -60,10 +60,10 @@ pub extern "C" fn merelsplum_edge_coloring_by_distance(
     out_points: &mut [f64],
     out_colors: &mut [u8],
 ) -> u64
-    ensures { λ r. ⌜ handed r (result (now («out_lengths» .exit)) (now («out_kinds» .exit)) (now («out_points» .exit)) (now («out_colors» .exit))) ≡
-        handOut coloredCode (edgeColoringByDistance (outline (now (lengths .entry)) (now (kinds .entry)) (now (points .entry))) threshold seed
+    ensures { λ r. ⌜ handed r (atExit «out_lengths» «out_kinds» «out_points» «out_colors»)
+        ≡ handOut coloredCode (edgeColoringByDistance (given lengths kinds points) threshold seed
         (now (distances .entry))
-        (result (now («out_lengths» .entry)) (now («out_kinds» .entry)) (now («out_points» .entry)) (now («out_colors» .entry)))) ⌝ }
+        (atEntry «out_lengths» «out_kinds» «out_points» «out_colors»)) ⌝ }
 {
     code(by_distance::edge_coloring_by_distance(
         lengths,

@@ -3,13 +3,13 @@ use crate::wide;
 use coloring::edge_coloring;
 use coloring::outline::Colored;
 ghost use mathlib.Core.Path.{_≡_};
-ghost use Rattle.coloring.specs.Outline.{outline, result};
+ghost use Rattle.coloring.specs.Outline.{given, atEntry, atExit, coloredAnswer};
 ghost use Rattle.coloring.specs.EdgeColoring.{edgeColoringSimple, edgeColoringInkTrap};
 ghost use Rattle.capi.specs.EdgeColoring.{coloredCode, handed, handOut};
 
 // The number of edges, or 2^32 and the number of the refusal.
 pub(crate) fn code(answer: Colored) -> u64
-    ensures { λ r. ⌜ r ≡ coloredCode answer ⌝ }
+    ensures { λ r. ⌜ r ≡ coloredCode (coloredAnswer answer) ⌝ }
 {
     match answer {
         Colored::Edges(counts) => counts.edges as u64,
@@ -29,9 +29,9 @@ pub extern "C" fn merelsplum_edge_coloring_simple(
     out_points: &mut [f64],
     out_colors: &mut [u8],
 ) -> u64
-    ensures { λ r. ⌜ handed r (result (now («out_lengths» .exit)) (now («out_kinds» .exit)) (now («out_points» .exit)) (now («out_colors» .exit))) ≡
-        handOut coloredCode (edgeColoringSimple (outline (now (lengths .entry)) (now (kinds .entry)) (now (points .entry))) threshold seed
-        (result (now («out_lengths» .entry)) (now («out_kinds» .entry)) (now («out_points» .entry)) (now («out_colors» .entry)))) ⌝ }
+    ensures { λ r. ⌜ handed r (atExit «out_lengths» «out_kinds» «out_points» «out_colors»)
+        ≡ handOut coloredCode (edgeColoringSimple (given lengths kinds points) threshold seed
+        (atEntry «out_lengths» «out_kinds» «out_points» «out_colors»)) ⌝ }
 {
     code(edge_coloring::edge_coloring_simple(
         lengths,
@@ -58,9 +58,9 @@ pub extern "C" fn merelsplum_edge_coloring_ink_trap(
     out_points: &mut [f64],
     out_colors: &mut [u8],
 ) -> u64
-    ensures { λ r. ⌜ handed r (result (now («out_lengths» .exit)) (now («out_kinds» .exit)) (now («out_points» .exit)) (now («out_colors» .exit))) ≡
-        handOut coloredCode (edgeColoringInkTrap (outline (now (lengths .entry)) (now (kinds .entry)) (now (points .entry))) threshold seed
-        (result (now («out_lengths» .entry)) (now («out_kinds» .entry)) (now («out_points» .entry)) (now («out_colors» .entry)))) ⌝ }
+    ensures { λ r. ⌜ handed r (atExit «out_lengths» «out_kinds» «out_points» «out_colors»)
+        ≡ handOut coloredCode (edgeColoringInkTrap (given lengths kinds points) threshold seed
+        (atEntry «out_lengths» «out_kinds» «out_points» «out_colors»)) ⌝ }
 {
     code(edge_coloring::edge_coloring_ink_trap(
         lengths,

@@ -8,18 +8,18 @@ use job::part;
 use job::progress::Read;
 use job::reader;
 ghost use mathlib.Core.Path.{_≡_};
-ghost use Rattle.coloring.specs.Outline.{result};
-ghost use Rattle.job.specs.Buffers.{buffers};
-ghost use Rattle.job.specs.Reader.{readInto};
+ghost use Rattle.coloring.specs.Outline.{atEntry, atExit};
+ghost use Rattle.job.specs.Progress.{readAnswer};
+ghost use Rattle.job.specs.Reader.{jobAtEntry, jobAtExit, readInto};
 ghost use Rattle.job.specs.Color.{colorFile, checkFile, acceptJob};
-ghost use Rattle.job.specs.Listing.{listFile};
+ghost use Rattle.job.specs.Listing.{listedAnswer, listFile};
 ghost use Rattle.job.specs.Part.{contourPlace};
 ghost use Rattle.capi.specs.EdgeColoring.{coloredCode, handed, handOut};
-ghost use Rattle.capi.specs.JobFile.{readCode, numbersAfter, listedCode, placeCode, Reads};
+ghost use Rattle.capi.specs.JobFile.{readCode, numbersAfter, handedJob, handOutJob, listedCode, handedText, handOutText, placeCode};
 
 // 0, or 2^32 and the number of the refusal.
 fn read_code(answer: Read) -> u64
-    ensures { λ r. ⌜ r ≡ readCode answer ⌝ }
+    ensures { λ r. ⌜ r ≡ readCode (readAnswer answer) ⌝ }
 {
     match answer {
         Read::Job(_) => 0,
@@ -29,7 +29,7 @@ fn read_code(answer: Read) -> u64
 
 // The numbers of a job, one after another; of a refused file as they came.
 fn write_numbers(answer: Read, numbers: &mut [u64; 6])
-    ensures { λ _. ⌜ now (numbers .exit) ≡ numbersAfter answer (now (numbers .entry)) ⌝ }
+    ensures { λ _. ⌜ now (numbers .exit) ≡ numbersAfter (readAnswer answer) (now (numbers .entry)) ⌝ }
 {
     match answer {
         Read::Job(n) => {
@@ -57,9 +57,8 @@ pub extern "C" fn merelsplum_job_read(
     distances: &mut [f64],
     numbers: &mut [u64; 6],
 ) -> u64
-    ensures { λ r. ⌜ Reads
-        (readInto (acceptJob (now (file .entry))) (buffers (now (lengths .entry)) (now (kinds .entry)) (now (points .entry)) (now (distances .entry))))
-        (now (numbers .entry)) r (now (lengths .exit)) (now (kinds .exit)) (now (points .exit)) (now (distances .exit)) (now (numbers .exit)) ⌝ }
+    ensures { λ r. ⌜ handedJob r (jobAtExit lengths kinds points distances) (now (numbers .exit))
+        ≡ handOutJob (readInto (acceptJob (now (file .entry))) (jobAtEntry lengths kinds points distances)) (now (numbers .entry)) ⌝ }
 {
     let answer = reader::read(file, lengths, kinds, points, distances);
     write_numbers(answer, numbers);
@@ -81,16 +80,16 @@ pub extern "C" fn merelsplum_job_color(
     out_points: &mut [f64],
     out_colors: &mut [u8],
 ) -> u64
-    ensures { λ r. ⌜ handed r (result (now («out_lengths» .exit)) (now («out_kinds» .exit)) (now («out_points» .exit)) (now («out_colors» .exit))) ≡
-        handOut coloredCode (colorFile (now (file .entry))
-        (result (now («out_lengths» .entry)) (now («out_kinds» .entry)) (now («out_points» .entry)) (now («out_colors» .entry)))) ⌝ }
+    ensures { λ r. ⌜ handed r (atExit «out_lengths» «out_kinds» «out_points» «out_colors»)
+        ≡ handOut coloredCode (colorFile (now (file .entry))
+        (atEntry «out_lengths» «out_kinds» «out_points» «out_colors»)) ⌝ }
 {
     code(color::color(file, out_lengths, out_kinds, out_points, out_colors))
 }
 
 // The number of bytes, or 2^32 and the number of the refusal.
 fn listed_code(answer: Listed) -> u64
-    ensures { λ r. ⌜ r ≡ listedCode answer ⌝ }
+    ensures { λ r. ⌜ r ≡ listedCode (listedAnswer answer) ⌝ }
 {
     match answer {
         Listed::Bytes(n) => n as u64,
@@ -100,8 +99,7 @@ fn listed_code(answer: Listed) -> u64
 
 #[no_mangle]
 pub extern "C" fn merelsplum_job_listing(file: &[u8], out: &mut [u8]) -> u64
-    ensures { λ r. ⌜ r ≡ listedCode (listFile (now (file .entry)) (now (out .entry)) .answer) ⌝ }
-    ensures { λ _. ⌜ now (out .exit) ≡ listFile (now (file .entry)) (now (out .entry)) .buffer ⌝ }
+    ensures { λ r. ⌜ handedText r (now (out .exit)) ≡ handOutText (listFile (now (file .entry)) (now (out .entry))) ⌝ }
 {
     listed_code(listing::listing(file, out))
 }

@@ -3,6 +3,5 @@ pub mod Lists
 pub mod Places
 pub mod ChannelLaws
 pub mod TrichotomyExact
-pub mod AnswerLaws
 pub mod SourceLoops
 pub mod Writing

@@ -1,81 +1,116 @@
--- The answers of entries in document 01's terms (its "Forms"): values, or the number of a refusal. An offer's answer stands in SplineTable.
-use Prim.Native.Nat.{ℕ, _*_, _-_, _/_}
+-- Answers in numbers (SCOPE, "Refusals"): values, or the number of a refusal; and checks in an order, each with its
+-- number. Every entry's promise is made of these.
+use Prim.Native.Nat.{ℕ}
 use mathlib.Core.Path.{_≡_, refl}
-use mathlib.Core.Bool.{Bool, true, false, _&&_}
-use mathlib.Core.List.{List, [], _∷_, _++_}
-use lib.Dec.{leb, eqb}
-use lib.ListN.{length}
-use lib.Ieee.{Float}
-use Rattle.coloring.specs.declared.refusal.Refusal.{Refusal}
-use Rattle.coloring.specs.declared.refusal.Refusal.the-variants.{TooMany, LengthMismatch, BadDistance}
+use mathlib.Core.Bool.{Bool, true, false}
+use mathlib.Core.List.{List, [], _∷_, _++_, append-nil}
+use Rattle.coloring.specs.Refusal.{refusalNumber}
 use Rattle.coloring.specs.declared.refusal.Checked.{Checked}
 use Rattle.coloring.specs.declared.refusal.Checked.the-variants.{Passed, Failed}
-use Rattle.coloring.specs.Checks.{Check, unless}
-use Rattle.coloring.specs.Refusal.{refusalNumber, require}
-use Rattle.coloring.specs.PairOrder.{distancesValid}
-use Rattle.coloring.specs.SplineColors.{checkSplines}
-use Rattle.coloring.specs.declared.outline.Colored.{Colored}
-use Rattle.coloring.specs.declared.outline.Colored.the-variants.{Edges, Refused}
-use Rattle.coloring.specs.declared.outline.Counts.{Counts}
-use Rattle.coloring.specs.Outline.{Result, resultFits, deliver}
 
-pub data Answer : Type 0 where
-  values : List ℕ → Answer
-  refusal : ℕ → Answer
+pub data Answer (A : Type 0) : Type 0 where
+  gives : A → Answer A
+  refusal : ℕ → Answer A
 
-abbrev pub checkedAnswer : Checked → Answer
-checkedAnswer Passed = values []
+-- whether it is a value
+abbrev pub succeeds : {A : Type 0} → Answer A → Bool
+succeeds (gives a) = true
+succeeds (refusal number) = false
+
+-- ---- checks
+
+-- a refusal's number, and the test that keeps it away
+pub record Check : Type 0 where
+  pub number : ℕ
+  pub passes : Bool
+
+abbrev pub unless : ℕ → Bool → Check
+unless number passes = record { number = number; passes = passes }
+
+-- what follows where every test passes, else what the number of the first that fails comes to
+unfoldable pub inOrder : {A : Type 0} → List Check → (ℕ → A) → A → A
+inOrder [] refuse result = result
+inOrder (c ∷ checks) refuse result = elim (c .passes) [ true ↦ inOrder checks refuse result | false ↦ refuse (c .number) ]
+
+-- the answer of checks alone: the number of the first that fails, or no value
+abbrev pub allPass : Answer Unit
+allPass = gives tt
+
+unfoldable pub firstRefusal : List Check → Answer Unit
+unfolding inOrder
+firstRefusal checks = inOrder checks refusal allPass
+
+-- what the code's checks find, as an answer
+abbrev pub checkedAnswer : Checked → Answer Unit
+checkedAnswer Passed = allPass
 checkedAnswer (Failed r) = refusal (refusalNumber r)
 
--- ---- refusals in order
+-- ---- laws
 
--- the number of the first test that fails, else an answer
-unfoldable pub firstOf : List Check → Answer → Answer
-firstOf [] answer = answer
-firstOf (c ∷ checks) answer = elim (c .passes) [ true ↦ firstOf checks answer | false ↦ refusal (c .number) ]
+-- where checks pass, those after them decide
+pub passed-on : {A : Type 0} (checks more : List Check) (refuse : ℕ → A) (result : A) → firstRefusal checks ≡ allPass
+    → inOrder (checks ++ more) refuse result ≡ inOrder more refuse result
+unfolding firstRefusal inOrder
+passed-on [] more refuse result e = refl
+passed-on (c ∷ checks) more refuse result e = go (c .passes) (passed-on checks more refuse result) e
+  where
+    go : (b : Bool) → (firstRefusal checks ≡ allPass → inOrder (checks ++ more) refuse result ≡ inOrder more refuse result)
+        → elim b [ true ↦ firstRefusal checks | false ↦ refusal (c .number) ] ≡ allPass
+        → elim b [ true ↦ inOrder (checks ++ more) refuse result | false ↦ refuse (c .number) ] ≡ inOrder more refuse result
+    go true rest e = rest e
+    go false rest e = cc
 
--- an answer that hands on the refusal of its checks is told by a list: a check more, a number more
-pub told-require : (told : Checked → Answer) → ((r : Refusal) → told (Failed r) ≡ refusal (refusalNumber r))
-    → (b : Bool) (r : Refusal) (next : Checked) (checks : List Check) (answer : Answer)
-    → told next ≡ firstOf checks answer → told (require b r next) ≡ firstOf (unless (refusalNumber r) b ∷ checks) answer
-unfolding firstOf
-told-require told fails true r next checks answer e = e
-told-require told fails false r next checks answer e = fails r
+-- where one fails, its number does
+pub failed-on : {A : Type 0} (checks more : List Check) (refuse : ℕ → A) (result : A) {number : ℕ} → firstRefusal checks ≡ refusal number
+    → inOrder (checks ++ more) refuse result ≡ refuse number
+unfolding firstRefusal inOrder
+failed-on [] more refuse result e = cc
+failed-on (c ∷ checks) more refuse result {number} e = go (c .passes) (failed-on checks more refuse result) e
+  where
+    go : (b : Bool) → (firstRefusal checks ≡ refusal number → inOrder (checks ++ more) refuse result ≡ refuse number)
+        → _≡_ {A = Answer Unit} (elim b [ true ↦ firstRefusal checks | false ↦ refusal (c .number) ]) (refusal number)
+        → elim b [ true ↦ inOrder (checks ++ more) refuse result | false ↦ refuse (c .number) ] ≡ refuse number
+    go true rest e = rest e
+    go false rest e = cc
 
--- the checks of splines and their distances: too many of either 4, distance count 8, 9
-abbrev pub distanceChecks : ℕ → List Float → List Check
-distanceChecks splines distances =
-    unless 4 (leb splines 64 && leb (length distances) 2016)
-    ∷ unless 8 (eqb (length distances) (splines * (splines - 1) / 2))
-    ∷ unless 9 (distancesValid distances)
-    ∷ []
+-- the same with no checks after them
+module _ {A : Type 0} (checks : List Check) (refuse : ℕ → A) (result : A) where
+  pub all-passed : firstRefusal checks ≡ allPass → inOrder checks refuse result ≡ result
+  unfolding inOrder
+  all-passed e = rw append-nil at (passed-on checks [] refuse result e)
 
-pub told-distances : (told : Checked → Answer) → ((r : Refusal) → told (Failed r) ≡ refusal (refusalNumber r))
-    → (splines : ℕ) (distances : List Float) (checks : List Check) (answer : Answer)
-    → told Passed ≡ firstOf checks answer → told (checkSplines splines distances) ≡ firstOf (distanceChecks splines distances ++ checks) answer
-told-distances told fails splines distances checks answer e =
-    told-require told fails _ TooMany _ _ answer
-    (told-require told fails _ LengthMismatch _ _ answer
-    (told-require told fails _ BadDistance Passed checks answer e))
+  pub one-failed : {number : ℕ} → firstRefusal checks ≡ refusal number → inOrder checks refuse result ≡ refuse number
+  one-failed e = rw append-nil at (failed-on checks [] refuse result e)
 
--- the edges of the result and their splines
-abbrev pub coloredAnswer : Colored → Answer
-coloredAnswer (Edges counts) = values (counts .edges ∷ counts .splines ∷ [])
-coloredAnswer (Refused r) = refusal (refusalNumber r)
-
--- what is delivered after checks is told by a list: 11 last
-module _ (counts : Counts) (written old : Result) where
-  abbrev pub told-after : Checked → Answer
-  told-after checked = coloredAnswer (deliver checked counts written old .answer)
-
-  pub told-refused : (r : Refusal) → told-after (Failed r) ≡ refusal (refusalNumber r)
-  unfolding deliver
-  told-refused r = refl
-
-  pub told-passed : told-after Passed ≡ firstOf (unless 11 (resultFits written old) ∷ []) (values (counts .edges ∷ counts .splines ∷ []))
-  unfolding deliver firstOf
-  told-passed = go (resultFits written old) refl
+  -- so what holds in both cases holds
+  pub either-way : (P : A → Type 0) → (firstRefusal checks ≡ allPass → P result) → ((number : ℕ) → firstRefusal checks ≡ refusal number → P (refuse number))
+      → P (inOrder checks refuse result)
+  either-way P passes fails = go (firstRefusal checks) refl
     where
-      go : (b : Bool) → resultFits written old ≡ b → told-after Passed ≡ firstOf (unless 11 (resultFits written old) ∷ []) (values (counts .edges ∷ counts .splines ∷ []))
-      go true e = rw e
-      go false e = rw e
+      go : (answer : Answer Unit) → firstRefusal checks ≡ answer → P (inOrder checks refuse result)
+      go (gives u) e = rw (all-passed e) (passes e)
+      go (refusal number) e = rw (one-failed e) (fails number e)
+
+pub refused-first : (checks more : List Check) {number : ℕ} → firstRefusal checks ≡ refusal number → firstRefusal (checks ++ more) ≡ refusal number
+unfolding firstRefusal
+refused-first checks more e = failed-on checks more refusal allPass e
+
+-- where all pass, the first does and the rest do
+pub passed-both : (number : ℕ) (b : Bool) (checks : List Check) → firstRefusal (unless number b ∷ checks) ≡ allPass
+    → (b ≡ true) × (firstRefusal checks ≡ allPass)
+unfolding firstRefusal inOrder
+passed-both number true checks e = (refl, e)
+passed-both number false checks e = (cc, cc)
+
+-- a part of what follows is what follows by that part
+pub in-order-part : {A B : Type 0} (part : A → B) (checks : List Check) (refuse : ℕ → A) (result : A)
+    → part (inOrder checks refuse result) ≡ inOrder checks (λ number. part (refuse number)) (part result)
+unfolding inOrder
+in-order-part part [] refuse result = refl
+in-order-part part (c ∷ checks) refuse result = go (c .passes) (in-order-part part checks refuse result)
+  where
+    go : (b : Bool) → part (inOrder checks refuse result) ≡ inOrder checks (λ number. part (refuse number)) (part result)
+        → part (elim b [ true ↦ inOrder checks refuse result | false ↦ refuse (c .number) ])
+        ≡ elim b [ true ↦ inOrder checks (λ number. part (refuse number)) (part result) | false ↦ part (refuse (c .number)) ]
+    go true rest = rest
+    go false rest = refl

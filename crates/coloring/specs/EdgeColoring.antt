@@ -2,13 +2,12 @@
 -- `edge_coloring_by_distance` of by_distance.rs, their first line replaced by the given threshold and the matrix by the
 -- given distances; and the collecting pass of the last. One definition stands behind all four.
 use Prim.Native.Nat.{ℕ}
-use mathlib.Core.List.{List, [], map}
+use mathlib.Core.List.{List, [], _∷_, map}
 use lib.Dec.{leb}
 use lib.Ieee.{Float}
 use lib.ListN.{length}
-use Rattle.coloring.specs.declared.refusal.Refusal.the-variants.{TooMany}
+use Rattle.coloring.specs.Answers.{unless}
 use Rattle.coloring.specs.Limits.{maxDistances}
-use Rattle.coloring.specs.Refusal.{require}
 use Rattle.coloring.specs.declared.settings.Strategy.the-variants.{Simple, InkTrap}
 use Rattle.coloring.specs.declared.settings.Marking.{Marking}
 use Rattle.coloring.specs.declared.settings.Marking.the-variants.{Colors, Numbers, Distances}
@@ -25,7 +24,7 @@ use Rattle.coloring.specs.Shape.{painted, countsOf, deliverFound}
 unfoldable pub edgeColoring : Settings → Outline → List Float → Result → Outcome
 unfolding searchCorners contours check layout deliver painted countsOf splineValues splineTotal
 edgeColoring settings o distances =
-    deliverFound (require (leb (length distances) maxDistances) TooMany (check o (settings .threshold))) (settings .marking) distances
+    deliverFound (unless 4 (leb (length distances) maxDistances) ∷ check o (settings .threshold)) (settings .marking) distances
     (map (searchCorners (settings .threshold)) (contours o))
 
 abbrev settingsOf : Marking → Float → Settings

@@ -15,8 +15,7 @@ use Rattle.geometry.specs.EdgeSegment.{vmix, point, direction, toStored, fromSt
 use Rattle.geometry.specs.declared.edge_color.EdgeColor.{EdgeColor}
 use Rattle.geometry.specs.declared.edge_color.EdgeColor.the-variants.{Yellow, Magenta, Cyan}
 use Rattle.geometry.specs.declared.edge_segment.EdgeSegment.{EdgeSegment}
-use Rattle.coloring.specs.declared.refusal.Refusal.the-variants.{ResultTooShort}
-use Rattle.coloring.specs.declared.outline.Colored.the-variants.{Edges, Refused}
+use Rattle.coloring.specs.Answers.{gives, refusal}
 use Rattle.coloring.specs.Trichotomy.{symmetricalTrichotomy}
 use Rattle.coloring.specs.Switching.{switchColor, switchColorBanned}
 use Rattle.coloring.specs.Corners.{cornerCount, firstCorner}
@@ -24,7 +23,7 @@ use Rattle.coloring.specs.Layout.{thirds, layout}
 use Rattle.coloring.specs.Teardrop.{runs}
 use Rattle.coloring.specs.Splines.{paint}
 use Rattle.coloring.specs.InkTrap.{cornerAt, markMinors}
-use Rattle.coloring.specs.Outline.{Outline, Result, outline, result, Outcome}
+use Rattle.coloring.specs.Outline.{Outline, Result, outline, result, Outcome, outcome}
 use Rattle.coloring.specs.EdgeColoring.{edgeColoring, edgeColoringSimple, edgeColoringInkTrap}
 
 -- ---- P1 to P3: the rule at several places of n
@@ -102,15 +101,15 @@ two-squares = refl
 abbrev into : List ℕ → Outcome
 into colors = edgeColoringSimple square eighth 0 (room 1 colors)
 
--- refutes one that refuses a result that resultFits exactly, or writes beyond it
+-- refutes one that refuses a result that fits exactly, or writes beyond it
 pub exactly-fits :
-    (into (9 ∷ 9 ∷ 9 ∷ 9 ∷ 8 ∷ []) .answer ≡ Edges (record { contours = 1; edges = 4; splines = 4 }))
+    (into (9 ∷ 9 ∷ 9 ∷ 9 ∷ 8 ∷ []) .answer ≡ gives (record { contours = 1; edges = 4; splines = 4 }))
     × (into (9 ∷ 9 ∷ 9 ∷ 9 ∷ 8 ∷ []) .buffers .colors ≡ (5 ∷ 3 ∷ 6 ∷ 3 ∷ 8 ∷ []))
 unfolding square edgeColoring cornerCount firstCorner direction sub dot cross divScalar squaredLength lengthOf normalize sqrtOf toStored fromStored Ieee.add Ieee.sub Ieee.mul Ieee.div Ieee.neg Ieee.ne Ieee.le Ieee.lt Ieee.ofBits
 exactly-fits = (refl, refl)
 
 -- refutes one that writes before it refuses
-pub one-short : into (9 ∷ 9 ∷ 9 ∷ []) ≡ record { answer = Refused ResultTooShort; buffers = room 1 (9 ∷ 9 ∷ 9 ∷ []) }
+pub one-short : into (9 ∷ 9 ∷ 9 ∷ []) ≡ outcome (refusal 11) (room 1 (9 ∷ 9 ∷ 9 ∷ []))
 unfolding square edgeColoring cornerCount firstCorner direction sub dot cross divScalar squaredLength lengthOf normalize sqrtOf toStored fromStored Ieee.add Ieee.sub Ieee.mul Ieee.div Ieee.neg Ieee.ne Ieee.le Ieee.lt Ieee.ofBits
 one-short = refl
 

@@ -1,7 +1,7 @@
 -- The definitions that the contracts of the colouring cite.
 pub mod Limits
 pub mod Refusal
-pub mod Checks
+pub mod Answers
 pub mod Seed
 pub mod Lists
 pub mod Places
@@ -27,12 +27,11 @@ pub mod PairOrder
 pub mod PairNumbers
 pub mod SecondDegree
 pub mod SplineColors
--- the answers in document 01's numbers
-pub mod Answers
--- laws that crates above cite too: truth values, how long the parts of a result are, and how it is painted
+-- laws that crates above cite too: truth values, how long the parts of a result are, how it is painted and delivered
 pub mod Bools
 pub mod Sizes
 pub mod PaintLaws
+pub mod DeliverLaws
 -- worked examples
 pub mod OfferExamples
 pub mod SplineColorsExamples

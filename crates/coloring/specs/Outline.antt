@@ -1,9 +1,11 @@
 -- Outline buffers and the contours that they stand for, both ways, and the checks of an outline (document 01, "Trays
 -- and the job file").
 use Prim.Native.Nat.{ℕ, suc, _-_, _*_, _≤_}
+use denote.Ref.{RefT, now}
+use denote.Triple.Both.{Both}
 use mathlib.Core.Path.{_≡_, refl}
-use mathlib.Core.Bool.{Bool, true, false, _&&_, cond}
-use mathlib.Core.List.{List, [], _∷_, map, flatten}
+use mathlib.Core.Bool.{Bool, true, false, _&&_}
+use mathlib.Core.List.{List, [], _∷_, _++_, map, flatten}
 use lib.ListN.{length, take, drop}
 use lib.Dec.{leb, eqb}
 use lib.IntN.{pos}
@@ -11,15 +13,11 @@ use lib.Ieee as Ieee
 use lib.Ieee.{Float, fin, binary64, ofBits}
 use Rattle.math.specs.Scalar.{f1}
 use Rattle.math.specs.Vector2.{zeroVector}
-use Rattle.geometry.specs.EdgeSegment.{toStored, fromStored}
+use Rattle.geometry.specs.EdgeSegment.{toStored, DecodedAnswer, edge, refused, fromStored}
 use Rattle.geometry.specs.declared.edge_segment.EdgeSegment.{EdgeSegment}
 use Rattle.geometry.specs.declared.edge_segment.EdgeSegment.the-variants.{Line}
-use Rattle.geometry.specs.declared.edge_segment.Decoded.{Decoded}
-use Rattle.geometry.specs.declared.edge_segment.Decoded.the-variants.{Edge, UnknownKind as NoKind}
-use Rattle.coloring.specs.declared.refusal.Refusal.the-variants.{TooMany, UnknownKind, BadThreshold, BadCoordinate, LengthMismatch, ResultTooShort}
-use Rattle.coloring.specs.declared.refusal.Checked.{Checked}
-use Rattle.coloring.specs.declared.refusal.Checked.the-variants.{Passed, Failed}
-use Rattle.coloring.specs.Refusal.{require}
+use Rattle.coloring.specs.Refusal.{refusalNumber}
+use Rattle.coloring.specs.Answers.{Answer, gives, refusal, Check, unless, inOrder}
 use Rattle.coloring.specs.Lists.{all, over, overFrom}
 use Rattle.coloring.specs.declared.outline.Counts.{Counts}
 use Rattle.coloring.specs.declared.outline.Colored.{Colored}
@@ -46,9 +44,9 @@ cut (n ∷ lengths) xs = take n xs ∷ cut lengths (drop n xs)
 abbrev pub anyEdge : EdgeSegment
 anyEdge = Line zeroVector zeroVector
 
-abbrev pub decoded : Decoded → EdgeSegment
-decoded (Edge e) = e
-decoded NoKind = anyEdge
+abbrev pub decoded : DecodedAnswer → EdgeSegment
+decoded (edge e) = e
+decoded (refused number) = anyEdge
 
 -- the edge of a kind and its eight places; the checks leave only known kinds
 unfoldable pub edgeStored : ℕ → List Float → EdgeSegment
@@ -91,7 +89,7 @@ encode edges bytes =
       colors = flatten bytes;
     }
 
--- ---- the checks, in document 01's order
+-- ---- the checks, in the order of SCOPE, "Refusals"
 
 abbrev pub knownKind : ℕ → Bool
 knownKind kind = leb 1 kind && leb kind 3
@@ -123,24 +121,31 @@ coordinatesFit [] points = true
 coordinatesFit (kind ∷ kinds) points =
     all inRange (take (usedPlaces kind) points) && coordinatesFit kinds (drop 8 points)
 
--- 4, 8, 5, 7, 6: the first that applies
-unfoldable pub check : Outline → Float → Checked
+unfoldable pub check : Outline → Float → List Check
 unfolding total all coordinatesFit
 check o threshold =
     let edges = total (o .lengths) in
-    require (leb (length (o .lengths)) maxContours && leb edges maxEdges) TooMany
-    (require (eqb (length (o .kinds)) edges && eqb (length (o .points)) (8 * edges)) LengthMismatch
-    (require (all knownKind (o .kinds)) UnknownKind
-    (require (coordinatesFit (o .kinds) (o .points)) BadCoordinate
-    (require (between (Ieee.neg f1) threshold f1) BadThreshold
-    Passed))))
+    unless 4 (leb (length (o .lengths)) maxContours && leb edges maxEdges)
+    ∷ unless 8 (eqb (length (o .kinds)) edges && eqb (length (o .points)) (8 * edges))
+    ∷ unless 5 (all knownKind (o .kinds))
+    ∷ unless 7 (coordinatesFit (o .kinds) (o .points))
+    ∷ unless 6 (between (Ieee.neg f1) threshold f1)
+    ∷ []
 
 -- ---- what a colouring does to the result buffers
 
 -- the answer, and the four buffers at exit
 pub record Outcome : Type 0 where
-  pub answer : Colored
+  pub answer : Answer Counts
   pub buffers : Result
+
+abbrev pub outcome : Answer Counts → Result → Outcome
+outcome answer buffers = record { answer = answer; buffers = buffers }
+
+-- what a colouring answers: the contours, edges and splines of the result, or the number of a refusal
+abbrev pub coloredAnswer : Colored → Answer Counts
+coloredAnswer (Edges counts) = gives counts
+coloredAnswer (Refused r) = refusal (refusalNumber r)
 
 -- whether a result is no longer than its buffers
 unfoldable pub resultFits : Result → Result → Bool
@@ -154,22 +159,20 @@ resultFits written old =
 unfoldable pub delivered : Counts → Result → Result → Outcome
 unfolding over
 delivered counts written old =
-    record {
-      answer = Edges counts;
-      buffers = record {
-        lengths = over (written .lengths) (old .lengths);
-        kinds = over (written .kinds) (old .kinds);
-        points = over (written .points) (old .points);
-        colors = over (written .colors) (old .colors);
-      };
-    }
+    outcome (gives counts)
+    (record {
+      lengths = over (written .lengths) (old .lengths);
+      kinds = over (written .kinds) (old .kinds);
+      points = over (written .points) (old .points);
+      colors = over (written .colors) (old .colors);
+    })
 
--- The refusal of the checks; 11 where the result would not fit; or the result.
-unfoldable pub deliver : Checked → Counts → Result → Result → Outcome
-unfolding resultFits delivered
-deliver (Failed refusal) counts written old = record { answer = Refused refusal; buffers = old }
-deliver Passed counts written old =
-    cond (resultFits written old) (delivered counts written old) (record { answer = Refused ResultTooShort; buffers = old })
+-- The first refusal of the checks, and 11 last, where the result would not fit, with the buffers as they came; or the
+-- result.
+unfoldable pub deliver : List Check → Counts → Result → Result → Outcome
+unfolding inOrder resultFits delivered
+deliver checks counts written old =
+    inOrder (checks ++ (unless 11 (resultFits written old) ∷ [])) (λ number. outcome (refusal number) old) (delivered counts written old)
 
 -- ---- in the words of contracts
 
@@ -180,9 +183,19 @@ outline lengths kinds points = record { lengths = lengths; kinds = kinds; points
 abbrev pub result : List ℕ → List ℕ → List Float → List ℕ → Result
 result lengths kinds points colors = record { lengths = lengths; kinds = kinds; points = points; colors = colors }
 
--- an answer with the buffers at exit
-abbrev pub outcome : Colored → Result → Outcome
-outcome answer buffers = record { answer = answer; buffers = buffers }
+-- a buffer that a function is given, with what it holds at entry and at exit
+abbrev pub Buffer : Type 0 → Type 0
+Buffer A = Both (RefT (List A)) (RefT (List A))
+
+-- the outline that is given, and the four result buffers at entry and at exit
+abbrev pub given : Buffer ℕ → Buffer ℕ → Buffer Float → Outline
+given lengths kinds points = outline (now (lengths .entry)) (now (kinds .entry)) (now (points .entry))
+
+abbrev pub atEntry : Buffer ℕ → Buffer ℕ → Buffer Float → Buffer ℕ → Result
+atEntry lengths kinds points colors = result (now (lengths .entry)) (now (kinds .entry)) (now (points .entry)) (now (colors .entry))
+
+abbrev pub atExit : Buffer ℕ → Buffer ℕ → Buffer Float → Buffer ℕ → Result
+atExit lengths kinds points colors = result (now (lengths .exit)) (now (kinds .exit)) (now (points .exit)) (now (colors .exit))
 
 -- the buffers of an outline agree, and hold no more contours and edges than are allowed
 pub record Agrees (o : Outline) : Type 0 where

@@ -2,11 +2,10 @@
 use Prim.Native.Nat.{ℕ, _≤_}
 use mathlib.Core.Path.{_≡_}
 use mathlib.Core.Bool.{Bool}
-use mathlib.Core.List.{List, [], map}
+use mathlib.Core.List.{List, [], _++_, map}
 use lib.Ieee.{Float}
 use lib.ListN.{length}
-use Rattle.coloring.specs.declared.refusal.Checked.{Checked}
-use Rattle.coloring.specs.Refusal.{andThen}
+use Rattle.coloring.specs.Answers.{Check}
 use Rattle.coloring.specs.declared.settings.Marking.{Marking}
 use Rattle.coloring.specs.declared.outline.Counts.{Counts}
 use Rattle.coloring.specs.Limits.{maxResultEdges, maxShapeSplines}
@@ -28,15 +27,15 @@ countsOf laid =
     let written = encode (edgesIn laid) [] in
     record { contours = length (written .lengths); edges = length (written .kinds); splines = splineTotal laid }
 
-abbrev pub deliverValues : Checked → Marking → List ℕ → List Cornered → Result → Outcome
-deliverValues checked marking values laid old = deliver checked (countsOf laid) (painted (middleValue marking) values laid) old
+abbrev pub deliverValues : List Check → Marking → List ℕ → List Cornered → Result → Outcome
+deliverValues checks marking values laid old = deliver checks (countsOf laid) (painted (middleValue marking) values laid) old
 
 -- The outcome of an entry, once its checks are made and its corners found: the layout, and from there on the result
 -- alone. The splines are checked, each gets its value, and each edge that of its spline.
-abbrev pub deliverFound : Checked → Marking → List Float → List Cornered → Result → Outcome
-deliverFound checked marking distances found old =
+abbrev pub deliverFound : List Check → Marking → List Float → List Cornered → Result → Outcome
+deliverFound checks marking distances found old =
     let laid = map layout found in
-    deliverValues (andThen checked (checkMarking marking (splineTotal laid) distances)) marking (splineValues marking distances laid) laid old
+    deliverValues (checks ++ checkMarking marking (splineTotal laid) distances) marking (splineValues marking distances laid) laid old
 
 -- ---- in the words of contracts
 

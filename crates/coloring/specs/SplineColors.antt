@@ -8,11 +8,8 @@ use lib.Dec.{leb, eqb}
 use lib.Ieee.{Float, eq}
 use lib.ListN.{length, replicate}
 use Rattle.math.specs.Scalar.{f0}
-use Rattle.coloring.specs.declared.refusal.Refusal.the-variants.{TooMany, LengthMismatch, BadDistance}
-use Rattle.coloring.specs.declared.refusal.Checked.{Checked}
-use Rattle.coloring.specs.declared.refusal.Checked.the-variants.{Passed, Failed}
 use Rattle.coloring.specs.Limits.{maxSplines, maxDistances}
-use Rattle.coloring.specs.Refusal.{require}
+use Rattle.coloring.specs.Answers.{Answer, refusal, Check, allPass, unless, inOrder}
 use Rattle.coloring.specs.SplineTable.{Table, tableOf, enter, sound}
 use Rattle.coloring.specs.Sequence.{Pair, Run, run}
 use Rattle.coloring.specs.PairOrder.{distancesValid, Distances, SplinePair, pairOrder}
@@ -70,17 +67,28 @@ colorSplines n distances seed = offerSplines n distances seed .ends .table .colo
 
 -- ---- the checks before it
 
--- splines or distances above the maximum 4; one distance a pair, else 8; each of them finite and not below zero, else 9
-abbrev pub checkSplines : ℕ → List Float → Checked
+-- too many splines or distances; one distance for each pair; each of them finite and not below zero
+abbrev pub checkSplines : ℕ → List Float → List Check
 checkSplines splines distances =
-    require (leb splines maxSplines && leb (length distances) maxDistances) TooMany
-    (require (eqb (length distances) (splines * (splines - 1) / 2)) LengthMismatch
-    (require (distancesValid distances) BadDistance Passed))
+    unless 4 (leb splines maxSplines && leb (length distances) maxDistances)
+    ∷ unless 8 (eqb (length distances) (splines * (splines - 1) / 2))
+    ∷ unless 9 (distancesValid distances)
+    ∷ []
 
--- the colours where the checks passed, else what stood there
-abbrev pub coloringAfter : Checked → List ℕ → List ℕ → List ℕ
-coloringAfter Passed coloring old = coloring
-coloringAfter (Failed refusal) coloring old = old
+-- the answer of `color_splines`, and its buffer at exit
+pub record SplinesColored : Type 0 where
+  pub answer : Answer Unit
+  pub coloring : List ℕ
+
+abbrev pub splinesColored : Answer Unit → List ℕ → SplinesColored
+splinesColored answer coloring = record { answer = answer; coloring = coloring }
+
+-- the colours of as many splines as the buffer has places; or the first refusal, and the buffer as it came
+unfoldable pub colorSplinesInto : List Float → ℕ → List ℕ → SplinesColored
+unfolding inOrder offerSplines
+colorSplinesInto distances seed old =
+    inOrder (checkSplines (length old) distances) (λ number. splinesColored (refusal number) old)
+    (splinesColored allPass (colorSplines (length old) distances seed))
 
 -- ---- what the functions behind it ask of each other
 

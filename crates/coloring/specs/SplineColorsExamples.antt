@@ -8,15 +8,14 @@ use lib.Ieee.{Float, nan, inf, fin}
 use lib.IntN.{pos}
 use lib.ListN.{replicate}
 use Rattle.math.specs.Scalar.{f0, f1}
-use Rattle.coloring.specs.declared.refusal.Refusal.the-variants.{TooMany, LengthMismatch, BadDistance}
-use Rattle.coloring.specs.declared.refusal.Checked.the-variants.{Passed, Failed}
+use Rattle.coloring.specs.Answers.{refusal, allPass, firstRefusal}
 use Rattle.coloring.specs.SplineTable.{kept, declined}
 use Rattle.coloring.specs.Lists.{all}
 use Rattle.coloring.specs.SplineTable.{offer}
 use Rattle.coloring.specs.Sequence.{Pair}
 use Rattle.coloring.specs.PairOrder.{validDistance, pairOrder}
 use Rattle.coloring.specs.SecondDegree.{startingColor}
-use Rattle.coloring.specs.SplineColors.{zeroPairs, offerSplines, colorSplines, checkSplines, coloringAfter}
+use Rattle.coloring.specs.SplineColors.{zeroPairs, offerSplines, colorSplines, checkSplines, splinesColored, colorSplinesInto}
 
 abbrev minus0 : Float
 minus0 = fin true 0 (pos 0)
@@ -97,26 +96,28 @@ no-pairs = (refl, refl)
 -- ---- the refusals, and their order
 
 -- refutes one that refuses always: the square's distances pass
-pub square-passes : checkSplines 4 squareDistances ≡ Passed
-unfolding all validDistance Ieee.le Ieee.lt Ieee.ofBits
+pub square-passes : firstRefusal (checkSplines 4 squareDistances) ≡ allPass
+unfolding firstRefusal all validDistance Ieee.le Ieee.lt Ieee.ofBits
 square-passes = refl
 
 -- refutes one that counts the distances first: 65 splines and no distance give 4
-pub splines-first : (checkSplines 65 [] ≡ Failed TooMany) × (checkSplines 64 [] ≡ Failed LengthMismatch)
+pub splines-first : (firstRefusal (checkSplines 65 []) ≡ refusal 4) × (firstRefusal (checkSplines 64 []) ≡ refusal 8)
+unfolding firstRefusal
 splines-first = (refl, refl)
 
 -- refutes one that writes and then refuses, leaves what stood there, or draws without the spline's number
 pub written-where-passed :
-    (coloringAfter (checkSplines 2 (nan ∷ [])) (colorSplines 2 (nan ∷ []) 3) (9 ∷ 9 ∷ []) ≡ (9 ∷ 9 ∷ []))
-    × (coloringAfter (checkSplines 2 (f1 ∷ [])) (colorSplines 2 (f1 ∷ []) 3) (9 ∷ 9 ∷ []) ≡ (0 ∷ 2 ∷ []))
-unfolding offerSplines offer all validDistance Ieee.le Ieee.lt Ieee.eq Ieee.ofBits
+    (colorSplinesInto (nan ∷ []) 3 (9 ∷ 9 ∷ []) ≡ splinesColored (refusal 9) (9 ∷ 9 ∷ []))
+    × (colorSplinesInto (f1 ∷ []) 3 (9 ∷ 9 ∷ []) ≡ splinesColored allPass (0 ∷ 2 ∷ []))
+unfolding colorSplinesInto offer all validDistance Ieee.le Ieee.lt Ieee.eq Ieee.ofBits
 written-where-passed = (refl, refl)
 
 -- refutes one that has 8 for too many distances
-pub distances-many : checkSplines 0 (replicate 2017 f0) ≡ Failed TooMany
+pub distances-many : firstRefusal (checkSplines 0 (replicate 2017 f0)) ≡ refusal 4
+unfolding firstRefusal
 distances-many = refl
 
 -- refutes one that looks at the distances before their count
-pub count-first : (checkSplines 3 (nan ∷ []) ≡ Failed LengthMismatch) × (checkSplines 2 (nan ∷ []) ≡ Failed BadDistance)
-unfolding all validDistance Ieee.le Ieee.lt Ieee.ofBits
+pub count-first : (firstRefusal (checkSplines 3 (nan ∷ [])) ≡ refusal 8) × (firstRefusal (checkSplines 2 (nan ∷ [])) ≡ refusal 9)
+unfolding firstRefusal all validDistance Ieee.le Ieee.lt Ieee.ofBits
 count-first = (refl, refl)

@@ -5,7 +5,7 @@ use Prim.Native.Nat.{ℕ, zero, suc, _+_, _*_}
 use lib.ListN.{length, getD, set}
 use lib.Dec.{leb, ltb, eqb}
 use Rattle.coloring.specs.Recolor.{row, vertexPossibleColors, firstPossibleColor, Walk, recolored, stopped, recolor}
-use Rattle.coloring.specs.Checks.{Check, unless, inOrder}
+use Rattle.coloring.specs.Answers.{Check, unless, inOrder}
 use Rattle.coloring.specs.Limits.{maxSplines}
 use Rattle.coloring.specs.Refusal.{refusalNumber}
 use Rattle.coloring.specs.declared.spline_table.Offer.{Offer}

@@ -10,10 +10,7 @@ use lib.Ieee.{Float}
 use Rattle.geometry.specs.EdgeColor.{bitsOf}
 use Rattle.geometry.specs.declared.edge_color.EdgeColor.{EdgeColor}
 use Rattle.geometry.specs.declared.edge_color.EdgeColor.the-variants.{Yellow, Cyan, Magenta, White}
-use Rattle.coloring.specs.declared.refusal.Refusal.the-variants.{TooMany}
-use Rattle.coloring.specs.declared.refusal.Checked.{Checked}
-use Rattle.coloring.specs.declared.refusal.Checked.the-variants.{Passed}
-use Rattle.coloring.specs.Refusal.{require}
+use Rattle.coloring.specs.Answers.{Check, unless}
 use Rattle.coloring.specs.Lists.{range}
 use Rattle.coloring.specs.Limits.{maxSplines}
 use Rattle.coloring.specs.SplineColors.{checkSplines, colorSplines}
@@ -77,7 +74,7 @@ middleValue Numbers = noSpline
 middleValue (Distances seed) = bitsOf White
 
 -- so many splines can be marked: at most 64 are numbered; by distance there is a distance for each pair of them
-abbrev pub checkMarking : Marking → ℕ → List Float → Checked
-checkMarking (Colors strategy seed) splines distances = Passed
-checkMarking Numbers splines distances = require (leb splines maxSplines) TooMany Passed
+abbrev pub checkMarking : Marking → ℕ → List Float → List Check
+checkMarking (Colors strategy seed) splines distances = []
+checkMarking Numbers splines distances = unless 4 (leb splines maxSplines) ∷ []
 checkMarking (Distances seed) splines distances = checkSplines splines distances

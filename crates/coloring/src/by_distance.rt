@@ -5,7 +5,7 @@ use crate::outline::Colored;
 use crate::settings::Marking;
 use crate::settings::Settings;
 ghost use mathlib.Core.Path.{_≡_};
-ghost use Rattle.coloring.specs.Outline.{outline, result, outcome};
+ghost use Rattle.coloring.specs.Outline.{given, atEntry, atExit, coloredAnswer, outcome};
 ghost use Rattle.coloring.specs.EdgeColoring.{collectSplines, edgeColoringByDistance};
 
 // The split outline, each edge with the number of its spline, or 255 where it is White.
@@ -19,9 +19,8 @@ pub fn collect_splines(
     out_points: &mut [f64],
     out_splines: &mut [u8],
 ) -> Colored
-    ensures { λ r. ⌜ outcome r (result (now («out_lengths» .exit)) (now («out_kinds» .exit)) (now («out_points» .exit)) (now («out_splines» .exit))) ≡
-        collectSplines (outline (now (lengths .entry)) (now (kinds .entry)) (now (points .entry))) threshold
-        (result (now («out_lengths» .entry)) (now («out_kinds» .entry)) (now («out_points» .entry)) (now («out_splines» .entry))) ⌝ }
+    ensures { λ r. ⌜ outcome (coloredAnswer r) (atExit «out_lengths» «out_kinds» «out_points» «out_splines») 
+        ≡ collectSplines (given lengths kinds points) threshold (atEntry «out_lengths» «out_kinds» «out_points» «out_splines») ⌝ }
 {
     let settings = Settings {
         marking: Marking::Numbers,
@@ -53,9 +52,9 @@ pub fn edge_coloring_by_distance(
     out_points: &mut [f64],
     out_colors: &mut [u8],
 ) -> Colored
-    ensures { λ r. ⌜ outcome r (result (now («out_lengths» .exit)) (now («out_kinds» .exit)) (now («out_points» .exit)) (now («out_colors» .exit))) ≡
-        edgeColoringByDistance (outline (now (lengths .entry)) (now (kinds .entry)) (now (points .entry))) threshold seed (now (distances .entry))
-        (result (now («out_lengths» .entry)) (now («out_kinds» .entry)) (now («out_points» .entry)) (now («out_colors» .entry))) ⌝ }
+    ensures { λ r. ⌜ outcome (coloredAnswer r) (atExit «out_lengths» «out_kinds» «out_points» «out_colors») 
+        ≡ edgeColoringByDistance (given lengths kinds points) threshold seed (now (distances .entry))
+        (atEntry «out_lengths» «out_kinds» «out_points» «out_colors») ⌝ }
 {
     let settings = Settings {
         marking: Marking::Distances(seed),

@@ -12,7 +12,7 @@ use crate::settings::Settings;
 use crate::settings::Strategy;
 use crate::shape::color_shape;
 ghost use mathlib.Core.Path.{_≡_};
-ghost use Rattle.coloring.specs.Outline.{outline, result, outcome};
+ghost use Rattle.coloring.specs.Outline.{given, atEntry, atExit, coloredAnswer, outcome};
 ghost use Rattle.coloring.specs.EdgeColoring.{edgeColoring, edgeColoringSimple, edgeColoringInkTrap};
 
 // The checks; the corners, once; then the values of the splines, the edges of the result and the byte of each.
@@ -27,9 +27,8 @@ pub(crate) fn edge_coloring(
     out_points: &mut [f64],
     out_colors: &mut [u8],
 ) -> Colored
-    ensures { λ r. ⌜ outcome r (result (now («out_lengths» .exit)) (now («out_kinds» .exit)) (now («out_points» .exit)) (now («out_colors» .exit))) ≡
-        edgeColoring settings (outline (now (lengths .entry)) (now (kinds .entry)) (now (points .entry))) (now (distances .entry))
-        (result (now («out_lengths» .entry)) (now («out_kinds» .entry)) (now («out_points» .entry)) (now («out_colors» .entry))) ⌝ }
+    ensures { λ r. ⌜ outcome (coloredAnswer r) (atExit «out_lengths» «out_kinds» «out_points» «out_colors») 
+        ≡ edgeColoring settings (given lengths kinds points) (now (distances .entry)) (atEntry «out_lengths» «out_kinds» «out_points» «out_colors») ⌝ }
 {
     if distances.len() > MAX_DISTANCES {
         return Colored::Refused(Refusal::TooMany);
@@ -67,9 +66,8 @@ pub fn edge_coloring_simple(
     out_points: &mut [f64],
     out_colors: &mut [u8],
 ) -> Colored
-    ensures { λ r. ⌜ outcome r (result (now («out_lengths» .exit)) (now («out_kinds» .exit)) (now («out_points» .exit)) (now («out_colors» .exit))) ≡
-        edgeColoringSimple (outline (now (lengths .entry)) (now (kinds .entry)) (now (points .entry))) threshold seed
-        (result (now («out_lengths» .entry)) (now («out_kinds» .entry)) (now («out_points» .entry)) (now («out_colors» .entry))) ⌝ }
+    ensures { λ r. ⌜ outcome (coloredAnswer r) (atExit «out_lengths» «out_kinds» «out_points» «out_colors») 
+        ≡ edgeColoringSimple (given lengths kinds points) threshold seed (atEntry «out_lengths» «out_kinds» «out_points» «out_colors») ⌝ }
 {
     let settings = Settings {
         marking: Marking::Colors(Strategy::Simple, seed),
@@ -100,9 +98,8 @@ pub fn edge_coloring_ink_trap(
     out_points: &mut [f64],
     out_colors: &mut [u8],
 ) -> Colored
-    ensures { λ r. ⌜ outcome r (result (now («out_lengths» .exit)) (now («out_kinds» .exit)) (now («out_points» .exit)) (now («out_colors» .exit))) ≡
-        edgeColoringInkTrap (outline (now (lengths .entry)) (now (kinds .entry)) (now (points .entry))) threshold seed
-        (result (now («out_lengths» .entry)) (now («out_kinds» .entry)) (now («out_points» .entry)) (now («out_colors» .entry))) ⌝ }
+    ensures { λ r. ⌜ outcome (coloredAnswer r) (atExit «out_lengths» «out_kinds» «out_points» «out_colors») 
+        ≡ edgeColoringInkTrap (given lengths kinds points) threshold seed (atEntry «out_lengths» «out_kinds» «out_points» «out_colors») ⌝ }
 {
     let settings = Settings {
         marking: Marking::Colors(Strategy::InkTrap, seed),

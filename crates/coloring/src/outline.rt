@@ -13,7 +13,9 @@ ghost use mathlib.Core.Bool.{true};
 ghost use Prim.Native.Nat.{_≤_, _<_, _*_};
 ghost use lib.ListN.{length, getD, set};
 ghost use Rattle.coloring.specs.Lists.{all, overFrom};
-ghost use Rattle.coloring.specs.Outline.{knownKind, between, inRange, usedPlaces, coordinatesFit, check, anyEdge, edgesOf, kindStored, placesStored, outline, Stored};
+ghost use Rattle.coloring.specs.Answers.{checkedAnswer, firstRefusal};
+ghost use Rattle.coloring.specs.Outline.{knownKind, between, inRange, usedPlaces, coordinatesFit, check, given};
+ghost use Rattle.coloring.specs.Outline.{anyEdge, edgesOf, kindStored, placesStored, Stored};
 ghost use Rattle.coloring.specs.Limits.{maxContours};
 ghost use Rattle.coloring.specs.Places.{total};
 
@@ -116,9 +118,9 @@ fn coordinates_fit(kinds: &[u8], points: &[f64]) -> bool
     true
 }
 
-// The first refusal of an outline and a threshold, in document 01's order.
+// The first refusal of an outline and a threshold.
 pub fn check(lengths: &[u16], kinds: &[u8], points: &[f64], threshold: f64) -> Checked
-    ensures { λ r. ⌜ r ≡ check (outline (now (lengths .entry)) (now (kinds .entry)) (now (points .entry))) threshold ⌝ }
+    ensures { λ r. ⌜ checkedAnswer r ≡ firstRefusal (check (given lengths kinds points) threshold) ⌝ }
 {
     if lengths.len() > MAX_CONTOURS {
         return Checked::Failed(Refusal::TooMany);

@@ -14,16 +14,15 @@ use crate::values::middle_value;
 use crate::values::spline_values;
 ghost use mathlib.Core.Path.{_≡_};
 ghost use mathlib.Core.Bool.{_&&_};
-ghost use mathlib.Core.List.{map};
+ghost use mathlib.Core.List.{[], map};
 ghost use Prim.Native.Nat.{_*_, _≤_};
 ghost use lib.Dec.{leb};
 ghost use lib.ListN.{length};
-ghost use Rattle.coloring.specs.declared.refusal.Checked.the-variants.{Passed};
 ghost use Rattle.coloring.specs.Limits.{maxContours, maxEdges, maxResultEdges};
 ghost use Rattle.coloring.specs.Places.{total};
 ghost use Rattle.coloring.specs.Corners.{cornered};
 ghost use Rattle.coloring.specs.Layout.{layout};
-ghost use Rattle.coloring.specs.Outline.{edgesOf, result, outcome, Cut};
+ghost use Rattle.coloring.specs.Outline.{edgesOf, atEntry, atExit, coloredAnswer, outcome, Cut};
 ghost use Rattle.coloring.specs.Shape.{deliverValues, deliverFound, Counted};
 
 // How many contours and edges the result has, and how many splines.
@@ -83,10 +82,10 @@ fn paint_shape(
 ) -> Colored
     requires { ⌜ Cut (now lengths) (now kinds) (now points) (now flags) ⌝ }
     requires { ⌜ Counted (now lengths) (now flags) counts × (length (now values) ≡ counts .splines) ⌝ }
-    ensures { λ r. ⌜ outcome r (result (now («out_lengths» .exit)) (now («out_kinds» .exit)) (now («out_points» .exit)) (now («out_colors» .exit))) ≡
-        deliverValues Passed (settings .marking) (now (values .entry))
+    ensures { λ r. ⌜ outcome (coloredAnswer r) (atExit «out_lengths» «out_kinds» «out_points» «out_colors»)
+        ≡ deliverValues [] (settings .marking) (now (values .entry))
         (map layout (cornered (now (lengths .entry)) (edgesOf (now (kinds .entry)) (now (points .entry))) (now (flags .entry))))
-        (result (now («out_lengths» .entry)) (now («out_kinds» .entry)) (now («out_points» .entry)) (now («out_colors» .entry))) ⌝ }
+        (atEntry «out_lengths» «out_kinds» «out_points» «out_colors») ⌝ }
 {
     let room = has_room(
         counts,
@@ -136,10 +135,10 @@ pub(crate) fn color_shape(
     out_colors: &mut [u8],
 ) -> Colored
     requires { ⌜ Cut (now lengths) (now kinds) (now points) (now flags) ⌝ }
-    ensures { λ r. ⌜ outcome r (result (now («out_lengths» .exit)) (now («out_kinds» .exit)) (now («out_points» .exit)) (now («out_colors» .exit))) ≡
-        deliverFound Passed (settings .marking) (now (distances .entry))
+    ensures { λ r. ⌜ outcome (coloredAnswer r) (atExit «out_lengths» «out_kinds» «out_points» «out_colors»)
+        ≡ deliverFound [] (settings .marking) (now (distances .entry))
         (cornered (now (lengths .entry)) (edgesOf (now (kinds .entry)) (now (points .entry))) (now (flags .entry)))
-        (result (now («out_lengths» .entry)) (now («out_kinds» .entry)) (now («out_points» .entry)) (now («out_colors» .entry))) ⌝ }
+        (atEntry «out_lengths» «out_kinds» «out_points» «out_colors») ⌝ }
 {
     let counts = count_shape(lengths, flags);
     let splines = counts.splines;

@@ -20,7 +20,10 @@ ghost use Rattle.coloring.specs.SplineTable.{tableOf};
 ghost use Rattle.coloring.specs.Sequence.{run};
 ghost use Rattle.coloring.specs.PairOrder.{Distances, pairOrder};
 ghost use Rattle.coloring.specs.PairNumbers.{Below, pairAt};
-ghost use Rattle.coloring.specs.SplineColors.{zeroPairs, otherPairs, enterPairs, colorSplines, checkSplines, coloringAfter, OfferableAll, Ordered};
+ghost use Rattle.coloring.specs.Answers.{checkedAnswer, firstRefusal};
+ghost use Rattle.coloring.specs.Limits.{maxSplines};
+ghost use Rattle.coloring.specs.SplineColors.{zeroPairs, otherPairs, enterPairs, colorSplines, OfferableAll, Ordered};
+ghost use Rattle.coloring.specs.SplineColors.{checkSplines, splinesColored, colorSplinesInto};
 
 // The code of the pair at place k of the order.
 fn code_at(codes: &[u16], order: &[u16], k: usize) -> u16
@@ -124,7 +127,7 @@ fn color_valid(distances: &[f64], seed: u64, coloring: &mut [u8])
 
 // How many pairs there are.
 fn pair_count(splines: usize) -> usize
-    requires { ⌜ splines ≤ 64 ⌝ }
+    requires { ⌜ splines ≤ maxSplines ⌝ }
     ensures { λ r. ⌜ r ≡ splines * (splines - 1) / 2 ⌝ }
 {
     if splines == 0 {
@@ -135,7 +138,7 @@ fn pair_count(splines: usize) -> usize
 
 // The first refusal of so many splines and their distances.
 fn check_splines(splines: usize, distances: &[f64]) -> Checked
-    ensures { λ r. ⌜ r ≡ checkSplines splines (now (distances .entry)) ⌝ }
+    ensures { λ r. ⌜ checkedAnswer r ≡ firstRefusal (checkSplines splines (now (distances .entry))) ⌝ }
 {
     if splines > MAX_SPLINES {
         return Checked::Failed(Refusal::TooMany);
@@ -154,9 +157,7 @@ fn check_splines(splines: usize, distances: &[f64]) -> Checked
 
 // The colours 0 to 2 of as many splines as `coloring` has places, from the distance of each pair i < j, by i then j.
 pub fn color_splines(distances: &[f64], seed: u64, coloring: &mut [u8]) -> Checked
-    ensures answer { λ r. ⌜ r ≡ checkSplines (length (now (coloring .entry))) (now (distances .entry)) ⌝ }
-    ensures colors { λ r. ⌜ now (coloring .exit)
-        ≡ coloringAfter r (colorSplines (length (now (coloring .entry))) (now (distances .entry)) seed) (now (coloring .entry)) ⌝ }
+    ensures { λ r. ⌜ splinesColored (checkedAnswer r) (now (coloring .exit)) ≡ colorSplinesInto (now (distances .entry)) seed (now (coloring .entry)) ⌝ }
 {
     let checked = check_splines(coloring.len(), distances);
     if let Checked::Failed(_) = checked {

@@ -20,6 +20,7 @@ ghost use Prim.Native.Nat.{_+_, _≤_};
 ghost use lib.ListN.{length};
 ghost use Rattle.geometry.specs.EdgeColor.{bitsOf};
 ghost use Rattle.coloring.specs.declared.refusal.Checked.the-variants.{Passed};
+ghost use Rattle.coloring.specs.Answers.{checkedAnswer, firstRefusal};
 ghost use Rattle.coloring.specs.Lists.{range};
 ghost use Rattle.coloring.specs.Limits.{maxSplines};
 ghost use Rattle.coloring.specs.Places.{total};
@@ -186,7 +187,7 @@ pub(crate) fn spline_values(
 ) -> Checked
     requires { ⌜ Cut (now lengths) (now kinds) (now points) (now flags) ⌝ }
     requires { ⌜ length (now values) ≡ total (map splineCount (cut (now lengths) (now flags))) ⌝ }
-    ensures answer { λ r. ⌜ r ≡ checkMarking marking (length (now (values .entry))) (now (distances .entry)) ⌝ }
+    ensures answer { λ r. ⌜ checkedAnswer r ≡ firstRefusal (checkMarking marking (length (now (values .entry))) (now (distances .entry))) ⌝ }
     ensures bytes { λ r. ⌜ (r ≡ Passed → now (values .exit) ≡ splineValues marking (now (distances .entry))
         (cornered (now (lengths .entry)) (edgesOf (now (kinds .entry)) (now (points .entry))) (now (flags .entry)))) ⌝ }
 {

@@ -184,16 +184,25 @@ toStored (Cubic p0 p1 p2 p3) = record { kind = 3; points = p0 .x ∷ p0 .y ∷ p
 abbrev pub pointAt : List Float → ℕ → Vector2
 pointAt ps k = new (getD ps (2 * k) nan) (getD ps (2 * k + 1) nan)
 
--- the edge of a kind and its places, those beyond its control points ignored; an unknown kind is an answer of its own
-unfoldable pub fromStored : ℕ → List Float → Decoded
-fromStored zero ps = UnknownKind
-fromStored (suc zero) ps = Edge (Line (pointAt ps 0) (pointAt ps 1))
-fromStored (suc (suc zero)) ps = Edge (Quadratic (pointAt ps 0) (pointAt ps 1) (pointAt ps 2))
-fromStored (suc (suc (suc zero))) ps = Edge (Cubic (pointAt ps 0) (pointAt ps 1) (pointAt ps 2) (pointAt ps 3))
-fromStored (suc (suc (suc (suc n)))) ps = UnknownKind
+-- what a stored form stands for: an edge, or the number of its refusal (SCOPE, "Refusals")
+pub data DecodedAnswer : Type 0 where
+  edge : EdgeSegment → DecodedAnswer
+  refused : ℕ → DecodedAnswer
+
+abbrev pub decodedAnswer : Decoded → DecodedAnswer
+decodedAnswer (Edge e) = edge e
+decodedAnswer UnknownKind = refused 5
+
+-- the edge of a kind and its places, those beyond its control points ignored; an unknown kind is 5
+unfoldable pub fromStored : ℕ → List Float → DecodedAnswer
+fromStored zero ps = refused 5
+fromStored (suc zero) ps = edge (Line (pointAt ps 0) (pointAt ps 1))
+fromStored (suc (suc zero)) ps = edge (Quadratic (pointAt ps 0) (pointAt ps 1) (pointAt ps 2))
+fromStored (suc (suc (suc zero))) ps = edge (Cubic (pointAt ps 0) (pointAt ps 1) (pointAt ps 2) (pointAt ps 3))
+fromStored (suc (suc (suc (suc n)))) ps = refused 5
 
 -- an edge is what its stored form stands for
-pub stored-again : (e : EdgeSegment) → fromStored (toStored e .kind) (toStored e .points) ≡ Edge e
+pub stored-again : (e : EdgeSegment) → fromStored (toStored e .kind) (toStored e .points) ≡ edge e
 unfolding toStored fromStored
 stored-again (Line p0 p1) = refl
 stored-again (Quadratic p0 p1 p2) = refl

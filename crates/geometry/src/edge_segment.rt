@@ -7,7 +7,7 @@ ghost use Rattle.math.specs.Vector2.{cross, sub};
 ghost use Rattle.geometry.specs.EdgeSegment.{vmix, line, colinear, control, quadratic, cubic, order};
 ghost use Rattle.geometry.specs.EdgeSegment.{quadraticPoint, cubicPoint, point, quadraticTangent, cubicTangent};
 ghost use Rattle.geometry.specs.EdgeSegment.{quadraticDirection, cubicDirection, direction, splitLine, splitQuadratic};
-ghost use Rattle.geometry.specs.EdgeSegment.{startControl, endControl, splitCubic, splitInThirds, toStored, fromStored};
+ghost use Rattle.geometry.specs.EdgeSegment.{startControl, endControl, splitCubic, splitInThirds, toStored, decodedAnswer, fromStored};
 
 // An edge with its control points: 2 of a line, 3 of a quadratic, 4 of a cubic.
 pub enum EdgeSegment {
@@ -293,7 +293,7 @@ impl EdgeSegment {
 
     // The edge of a kind number and eight places, those beyond its control points ignored. The kind is kept.
     pub fn from_stored(kind: u8, points: [f64; 8]) -> Decoded
-        ensures { λ r. ⌜ r ≡ fromStored kind points ⌝ }
+        ensures { λ r. ⌜ decodedAnswer r ≡ fromStored kind points ⌝ }
     {
         let p0 = Vector2 {
             x: points[0],

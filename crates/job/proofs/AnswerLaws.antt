@@ -9,62 +9,42 @@ use lib.ListN.{length, take, drop, length-append, length-map}
 use lib.Seq.{take-at}
 use borrow.Author.Tests.{le-leb, lt-leb}
 use Rattle.geometry.specs.declared.edge_segment.EdgeSegment.{EdgeSegment}
-use Rattle.coloring.specs.declared.refusal.Checked.{Checked}
-use Rattle.coloring.specs.declared.refusal.Checked.the-variants.{Passed, Failed}
-use Rattle.coloring.specs.declared.refusal.Refusal.{Refusal}
-use Rattle.coloring.specs.declared.refusal.Refusal.the-variants.{Truncated, UnknownMark, MisplacedMark, TooMany, UnknownKind, BadThreshold}
-use Rattle.coloring.specs.declared.refusal.Refusal.the-variants.{BadCoordinate, LengthMismatch, BadDistance, BadTable, ResultTooShort}
-use Rattle.coloring.specs.Refusal.{refusalNumber}
 use Rattle.coloring.specs.Lists.{over}
 use Rattle.coloring.specs.declared.outline.Counts.{Counts}
-use Rattle.coloring.specs.declared.outline.Colored.the-variants.{Edges, Refused}
 use Rattle.coloring.specs.Places.{total}
 use Rattle.coloring.specs.Sizes.{Sized, sizes, sizes-map, cut-again, flatten-length}
 use Rattle.coloring.specs.Outline.{kindStored, cut, encode, Result, Outcome, outcome, resultFits, delivered, deliver}
 use Rattle.coloring.specs.Shape.{countsOf}
-use Rattle.job.specs.Job.{Job, Reading, reads, refuses, readJob}
-use Rattle.job.specs.Color.{laidIn, checkJob, coloredEdges, edgeColors, colored, colorJob, colorReading, colorFile, answered, checkReading, checkFile, HoldsResults}
-use Rattle.job.specs.declared.listing.Listed.the-variants as listed
-use Rattle.job.specs.Listing as list
-use Rattle.job.specs.Listing.{listing, refusalLine, checkedText, readingText, fileText, listFile, contourCount}
+use Rattle.coloring.specs.Answers.{Answer, gives, refusal, inOrder, firstRefusal, all-passed, one-failed, either-way}
+use Rattle.coloring.specs.DeliverLaws.{deliver-fits, deliver-passed, deliver-failed, deliver-answer}
+use Rattle.job.specs.Limits.{maxText}
+use Rattle.job.specs.Job.{Job, Reading, readJob}
+use Rattle.job.specs.Color.{laidIn, checkJob, coloredEdges, edgeColors, colored, colorJob}
+use Rattle.job.specs.Color.{colorReading, colorFile, checkReading, checkFile, HoldsResults}
+use Rattle.job.specs.Listing.{listing, refusalLine, jobText, readingText, fileText, textOutcome, listFile}
 use Rattle.job.proofs.listing.ListingLaws.{listing-few, refusal-few}
 use Rattle.job.proofs.color.ColorLaws.{map-flatten, numbered}
 use Rattle.job.proofs.color.ShapeLaws.{ShapeOf, shape-of}
 
 -- ---- the text is at most 5,598 bytes long
 
-below : (refusal : Refusal) → refusalNumber refusal ≤ 11
-below Truncated = omega arith
-below UnknownMark = omega arith
-below MisplacedMark = omega arith
-below TooMany = omega arith
-below UnknownKind = omega arith
-below BadThreshold = omega arith
-below BadCoordinate = omega arith
-below LengthMismatch = omega arith
-below BadDistance = omega arith
-below BadTable = omega arith
-below ResultTooShort = omega arith
+refusal-short : (number : ℕ) → length (refusalLine number) ≤ maxText
+refusal-short number = omega (arith, refusal-few number)
 
-refusal-short : (refusal : Refusal) → length (refusalLine refusal) ≤ 5598
-refusal-short refusal = omega (arith, refusal-few refusal (omega (arith, below refusal)))
-
-pub text-few : (file : List ℕ) → length (fileText file) ≤ 5598
+pub text-few : (file : List ℕ) → length (fileText file) ≤ maxText
 unfolding fileText readingText
 text-few file = go (readJob file) refl
   where
-    go : (reading : Reading) → readJob file ≡ reading → length (readingText reading) ≤ 5598
-    go (reads job) e = of (checkJob job)
-      where
-        s : ShapeOf job
-        s = shape-of job file e
-
-        of : (k : Checked) → length (checkedText k (coloredEdges job) (edgeColors job)) ≤ 5598
-        of Passed =
-            listing-few (map (map kindStored) (coloredEdges job)) (edgeColors job) (omega (arith, length-map (coloredEdges job) (map kindStored), s .contours-fit))
-            (omega (arith, ap length (map-flatten kindStored (coloredEdges job)), length-map (flatten (coloredEdges job)) kindStored, s .edges-fit)) (s .are-colors)
-        of (Failed refusal) = refusal-short refusal
-    go (refuses refusal) e = refusal-short refusal
+    go : (reading : Reading) → readJob file ≡ reading → length (readingText reading) ≤ maxText
+    go (gives job) e =
+        let s = shape-of job file e in
+        either-way (checkJob job) refusalLine (jobText job) (λ (text : List ℕ). length text ≤ maxText)
+        (λ passed. listing-few (map (map kindStored) (coloredEdges job)) (edgeColors job)
+        (omega (arith, length-map (coloredEdges job) (map kindStored), s .contours-fit))
+        (omega (arith, ap length (map-flatten kindStored (coloredEdges job)), length-map (flatten (coloredEdges job)) kindStored, s .edges-fit))
+        (s .are-colors))
+        (λ number failed. refusal-short number)
+    go (refusal number) e = refusal-short number
 
 -- ---- the answer
 
@@ -95,8 +75,10 @@ stored-listing edges colors e =
     let bytes : cut (sizes edges) (flatten colors) ≡ colors = rw (← e) (cut-again colors) in
     rw (kinds, bytes)
 
-front-of : (file : List ℕ) (contours edges : ℕ) (job : Job) (old new : Result) → ShapeOf job → contours ≡ length (coloredEdges job) → edges ≡ length (flatten (coloredEdges job))
-    → new .lengths ≡ over (colored job .lengths) (old .lengths) → new .kinds ≡ over (colored job .kinds) (old .kinds) → new .colors ≡ over (colored job .colors) (old .colors)
+front-of : (file : List ℕ) (contours edges : ℕ) (job : Job) (old new : Result)
+    → ShapeOf job → contours ≡ length (coloredEdges job) → edges ≡ length (flatten (coloredEdges job))
+    → new .lengths ≡ over (colored job .lengths) (old .lengths) → new .kinds ≡ over (colored job .kinds) (old .kinds)
+    → new .colors ≡ over (colored job .colors) (old .colors)
     → fileText file ≡ listing (map (map kindStored) (coloredEdges job)) (edgeColors job) → Front file contours edges new
 unfolding colored encode
 front-of file contours edges job old new s c e l k m text =
@@ -122,7 +104,8 @@ front-of file contours edges job old new s c e l k m text =
     }
 
 module _ (file : List ℕ) (old : Result) (room : HoldsResults old) where
-  fits-sized : (job : Job) (shape : Result) → readJob file ≡ reads job → Sized shape (length (coloredEdges job)) (length (flatten (coloredEdges job))) → resultFits shape old ≡ true
+  fits-sized : (job : Job) (shape : Result) → readJob file ≡ gives job
+      → Sized shape (length (coloredEdges job)) (length (flatten (coloredEdges job))) → resultFits shape old ≡ true
   unfolding resultFits
   fits-sized job shape e long =
       let s = shape-of job file e in
@@ -133,65 +116,71 @@ module _ (file : List ℕ) (old : Result) (room : HoldsResults old) where
         le-leb (length (shape .colors)) (length (old .colors)) (omega (arith, long .colors-long, s .edges-fit, room .colors-fit)),
       )
 
-  fits-all : (job : Job) → readJob file ≡ reads job → resultFits (colored job) old ≡ true
+  fits-all : (job : Job) → readJob file ≡ gives job → resultFits (colored job) old ≡ true
   fits-all job e = fits-sized job (colored job) e (shape-of job file e .sized)
 
-  pub fits-numbered : (job : Job) → readJob file ≡ reads job → resultFits (numbered job) old ≡ true
+  pub fits-numbered : (job : Job) → readJob file ≡ gives job → resultFits (numbered job) old ≡ true
   fits-numbered job e = fits-sized job _ e (shape-of job file e .numbers-sized)
 
   pub color-answer : colorFile file old .answer ≡ checkFile file
-  unfolding colorFile colorReading colorJob checkFile checkReading deliver delivered
+  unfolding colorFile colorReading colorJob checkFile checkReading
   color-answer = go (readJob file) refl
     where
       go : (reading : Reading) → readJob file ≡ reading → colorReading reading old .answer ≡ checkReading reading
-      go (reads job) e = of (checkJob job)
-        where
-          of : (k : Checked) → deliver k (countsOf (laidIn job)) (colored job) old .answer ≡ answered k (countsOf (laidIn job))
-          of Passed = rw (fits-all job e)
-          of (Failed refusal) = refl
-      go (refuses refusal) e = refl
+      go (gives job) e = deliver-answer (countsOf (laidIn job)) (colored job) old (checkJob job) (fits-all job e)
+      go (refusal number) e = refl
 
-  pub front : (contours : ℕ) (counts : Counts) (new : Result) → contours ≡ contourCount (readJob file) → outcome (Edges counts) new ≡ colorFile file old
-      → Front file contours (counts .edges) new
-  unfolding colorFile colorReading colorJob deliver delivered countsOf fileText readingText
-  front contours counts new c same = go (readJob file) refl c same
+  answer-in : {a b : Outcome} → a ≡ b → a .answer ≡ b .answer
+  answer-in e = ap (λ (o : Outcome). o .answer) e
+
+  pub front : (counts : Counts) (new : Result) → outcome (gives counts) new ≡ colorFile file old → Front file (counts .contours) (counts .edges) new
+  unfolding colorFile colorReading colorJob delivered countsOf fileText readingText
+  front counts new same = go (readJob file) refl same
     where
-      go : (reading : Reading) → readJob file ≡ reading → contours ≡ contourCount reading → outcome (Edges counts) new ≡ colorReading reading old
-          → Front file contours (counts .edges) new
-      go (reads job) e c same = of (checkJob job) refl same
+      go : (reading : Reading) → readJob file ≡ reading → outcome (gives counts) new ≡ colorReading reading old
+          → Front file (counts .contours) (counts .edges) new
+      go (gives job) e same = of (firstRefusal (checkJob job)) refl
         where
-          of : (k : Checked) → checkJob job ≡ k → outcome (Edges counts) new ≡ deliver k (countsOf (laidIn job)) (colored job) old
-              → Front file contours (counts .edges) new
-          of Passed p same =
+          of : (k : Answer Unit) → firstRefusal (checkJob job) ≡ k → Front file (counts .contours) (counts .edges) new
+          of (gives u) passed =
               let s = shape-of job file e in
-              let given = rw (fits-all job e) at same in
-              let answer = ap (λ (o : Outcome). o .answer) given in
+              let written = deliver-passed (countsOf (laidIn job)) (colored job) old (checkJob job) passed ∙ deliver-fits (countsOf (laidIn job)) (colored job) old (fits-all job e) in
+              let given = same ∙ written in
+              let answer = answer-in given in
+              let contours : counts .contours ≡ length (colored job .lengths) = cc in
               let edges : counts .edges ≡ length (colored job .kinds) = cc in
-              front-of file contours (counts .edges) job old new s (c ∙ sym (s .contours-are)) (edges ∙ s .sized .kinds-long)
+              front-of file (counts .contours) (counts .edges) job old new s (contours ∙ s .sized .lengths-long) (edges ∙ s .sized .kinds-long)
               (ap (λ (o : Outcome). o .buffers .lengths) given) (ap (λ (o : Outcome). o .buffers .kinds) given)
-              (ap (λ (o : Outcome). o .buffers .colors) given) (rw (e, p))
-          of (Failed refusal) p same = let no = ap (λ (o : Outcome). o .answer) same in let z : _≡_ {A = ℕ} 0 1 = cc in absurd (omega arith)
-      go (refuses refusal) e c same = let no = ap (λ (o : Outcome). o .answer) same in let z : _≡_ {A = ℕ} 0 1 = cc in absurd (omega arith)
+              (ap (λ (o : Outcome). o .buffers .colors) given) (rw e (all-passed (checkJob job) refusalLine (jobText job) passed))
+          of (refusal number) failed =
+              let no = answer-in (same ∙ sym (deliver-failed (countsOf (laidIn job)) (colored job) old (checkJob job) failed)) in
+              let z : _≡_ {A = ℕ} 0 1 = cc in absurd (omega arith)
+      go (refusal number) e same = let no = answer-in same in let z : _≡_ {A = ℕ} 0 1 = cc in absurd (omega arith)
 
-  pub refused-text : (refusal : Refusal) (new : Result) → outcome (Refused refusal) new ≡ colorFile file old → fileText file ≡ refusalLine refusal
-  unfolding colorFile colorReading colorJob deliver delivered fileText readingText
-  refused-text refusal new same = go (readJob file) refl same
+  pub refused-text : (number : ℕ) (new : Result) → outcome (refusal number) new ≡ colorFile file old → fileText file ≡ refusalLine number
+  unfolding colorFile colorReading colorJob delivered fileText readingText
+  refused-text number new same = go (readJob file) refl same
     where
-      go : (reading : Reading) → readJob file ≡ reading → outcome (Refused refusal) new ≡ colorReading reading old → readingText reading ≡ refusalLine refusal
-      go (reads job) e same = of (checkJob job) same
+      go : (reading : Reading) → readJob file ≡ reading → outcome (refusal number) new ≡ colorReading reading old → readingText reading ≡ refusalLine number
+      go (gives job) e same = of (firstRefusal (checkJob job)) refl
         where
-          of : (k : Checked) → outcome (Refused refusal) new ≡ deliver k (countsOf (laidIn job)) (colored job) old → checkedText k (coloredEdges job) (edgeColors job) ≡ refusalLine refusal
-          of Passed same = let given = rw (fits-all job e) at same in let no = ap (λ (o : Outcome). o .answer) given in let z : _≡_ {A = ℕ} 0 1 = cc in absurd (omega arith)
-          of (Failed other) same = let is : other ≡ refusal = (let a = ap (λ (o : Outcome). o .answer) same in cc) in ap refusalLine is
-      go (refuses other) e same = let is : other ≡ refusal = (let a = ap (λ (o : Outcome). o .answer) same in cc) in ap refusalLine is
+          of : (k : Answer Unit) → firstRefusal (checkJob job) ≡ k → inOrder (checkJob job) refusalLine (jobText job) ≡ refusalLine number
+          of (gives u) passed =
+              let written = deliver-passed (countsOf (laidIn job)) (colored job) old (checkJob job) passed ∙ deliver-fits (countsOf (laidIn job)) (colored job) old (fits-all job e) in
+              let no = answer-in (same ∙ written) in cc
+          of (refusal other) failed =
+              let told = answer-in (same ∙ sym (deliver-failed (countsOf (laidIn job)) (colored job) old (checkJob job) failed)) in
+              let is : other ≡ number = cc in
+              one-failed (checkJob job) refusalLine (jobText job) failed ∙ ap refusalLine is
+      go (refusal other) e same = let told = answer-in same in let is : other ≡ number = cc in ap refusalLine is
 
 -- ---- the listing: 11 where the text does not fit, else the text over what stood there
 
 module _ (file old : List ℕ) (n : ℕ) (e : n ≡ length (fileText file)) where
-  pub list-short : length old < n → list.outcome (listed.Refused ResultTooShort) old ≡ listFile file old
+  pub list-short : length old < n → textOutcome (refusal 11) old ≡ listFile file old
   unfolding listFile
   list-short h = rw (lt-leb (length (fileText file)) (length old) (omega (arith, e)))
 
-  pub list-fits : (new : List ℕ) → n ≤ length old → new ≡ over (fileText file) old → list.outcome (listed.Bytes n) new ≡ listFile file old
+  pub list-fits : (new : List ℕ) → n ≤ length old → new ≡ over (fileText file) old → textOutcome (gives n) new ≡ listFile file old
   unfolding listFile
   list-fits new h same = rw (le-leb (length (fileText file)) (length old) (omega (arith, e)), e, same)

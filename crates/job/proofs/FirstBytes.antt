@@ -9,11 +9,12 @@ use lib.Dec.{leb}
 use lib.ListN.{length, getD, take, drop, length-append, length-drop, take-append-drop}
 use lib.Seq.{drop-drop, take-all, take-append-le, drop-append-le, length-take-le}
 use borrow.Author.Tests.{le-leb, leb-true, leb-false}
-use Rattle.coloring.specs.declared.refusal.Refusal.{Refusal}
-use Rattle.coloring.specs.declared.refusal.Refusal.the-variants.{Truncated, MisplacedMark, TooMany, UnknownKind, BadThreshold, BadCoordinate, BadDistance}
 use Rattle.coloring.specs.Bools.{and-left}
 use Rattle.coloring.specs.Lists.{all}
 use Rattle.coloring.specs.Outline.{Result}
+use Rattle.coloring.specs.Limits.{maxDistances}
+use Rattle.coloring.specs.Answers.{gives, refusal, succeeds}
+use Rattle.job.specs.Limits.{maxFile, decidingBytes}
 use Rattle.job.specs.declared.records.Kind.{Kind}
 use Rattle.job.specs.declared.records.Mark.{Mark}
 use Rattle.job.specs.declared.records.Mark.the-variants.{Header, Contour, Edge, Distances, End}
@@ -24,11 +25,11 @@ use Rattle.job.specs.declared.records.Phase.the-variants.{Start, Outside
 use Rattle.job.specs.declared.records.State.{State}
 use Rattle.job.specs.declared.progress.Progress.{Progress}
 use Rattle.job.specs.Patterns.{number, words, floats, isThreshold, isCoordinate, isDistance}
-use Rattle.job.specs.Records.{Record, header, edge, distances, Step, next, ends, fails, require, knownStrategy, strategyOf, controls, bodySize}
-use Rattle.job.specs.Records.{allowed, fits, closing, among, byDistance, edgeOf, itemOf, recordSize, markOf, readHeader, readEdge}
+use Rattle.job.specs.Records.{Record, header, edge, distances, Step, next, ends, fails, stepIf, knownStrategy, strategyOf, controls, bodySize}
+use Rattle.job.specs.Records.{allowed, belowMaximum, closing, among, byDistance, edgeOf, itemOf, recordSize, markOf, readHeader, readEdge}
 use Rattle.job.specs.Records.{readDistances, readEnd, readBody, readMarked, readRecord, after, Records, _then_, recordsFrom}
-use Rattle.job.specs.Job.{noJob, jobFrom, Reading, reads, refuses, readJob}
-use Rattle.job.specs.Color.{colorReading, colorFile, acceptReading, acceptJob, hasJob, accepted}
+use Rattle.job.specs.Job.{noJob, jobFrom, Reading, readJob}
+use Rattle.job.specs.Color.{colorReading, colorFile, acceptReading, acceptJob, accepted}
 use Rattle.job.specs.Part.{contourPart}
 use Rattle.job.specs.Listing.{readingText, fileText}
 use Rattle.job.specs.Progress.{begin, advanced}
@@ -41,7 +42,7 @@ use Rattle.job.proofs.part.PartLaws.{part-refused}
 abbrev extend : List ℕ → Step → Step
 extend more (next r rest) = next r (rest ++ more)
 extend more ends = ends
-extend more (fails refusal) = fails refusal
+extend more (fails number) = fails number
 
 -- so many numbers do not turn on the bytes after them
 words-more : (n : ℕ) (bytes more : List ℕ) → 8 * n ≤ length bytes → words n (bytes ++ more) ≡ words n bytes
@@ -51,41 +52,41 @@ words-more (suc n) bytes more h =
     rw (take-append-le 8 bytes more (omega arith), drop-append-le 8 bytes more (omega arith), words-more n (drop 8 bytes) more (rw length-drop (omega arith)))
 
 module _ (more : List ℕ) where
-  require-more : (b : Bool) (refusal : Refusal) (step step' : Step) → (b ≡ true → step' ≡ extend more step)
-      → require b refusal step' ≡ extend more (require b refusal step)
-  require-more true refusal step step' f = f refl
-  require-more false refusal step step' f = refl
+  step-if-more : (b : Bool) (number : ℕ) (step step' : Step) → (b ≡ true → step' ≡ extend more step)
+      → stepIf b number step' ≡ extend more (stepIf b number step)
+  step-if-more true number step step' f = f refl
+  step-if-more false number step step' f = refl
 
   header-more : (body rest : List ℕ) → readHeader body (rest ++ more) ≡ extend more (readHeader body rest)
   unfolding readHeader
   header-more body rest =
       let threshold = number (take 8 (drop 9 body)) in
       let r = header (record { strategy = strategyOf (getD body 0 0); seed = number (take 8 (drop 1 body)); threshold = threshold }) in
-      require-more (knownStrategy (getD body 0 0)) UnknownKind (require (isThreshold threshold) BadThreshold (next r rest))
-      (require (isThreshold threshold) BadThreshold (next r (rest ++ more)))
-      (λ h. require-more (isThreshold threshold) BadThreshold (next r rest) (next r (rest ++ more)) (λ k. refl))
+      step-if-more (knownStrategy (getD body 0 0)) 5 (stepIf (isThreshold threshold) 6 (next r rest))
+      (stepIf (isThreshold threshold) 6 (next r (rest ++ more)))
+      (λ h. step-if-more (isThreshold threshold) 6 (next r rest) (next r (rest ++ more)) (λ k. refl))
 
   edge-more : (kind : Kind) (body rest : List ℕ) → readEdge kind body (rest ++ more) ≡ extend more (readEdge kind body rest)
   unfolding readEdge
   edge-more kind body rest =
       let coordinates = words (2 * controls kind) body in
       let r = edge (edgeOf kind (floats coordinates)) in
-      require-more (all isCoordinate coordinates) BadCoordinate (next r rest) (next r (rest ++ more)) (λ h. refl)
+      step-if-more (all isCoordinate coordinates) 7 (next r rest) (next r (rest ++ more)) (λ h. refl)
 
-  distances-more : (body rest : List ℕ) → 8 * 2016 ≤ length rest → readDistances body (rest ++ more) ≡ extend more (readDistances body rest)
+  distances-more : (body rest : List ℕ) → 8 * maxDistances ≤ length rest → readDistances body (rest ++ more) ≡ extend more (readDistances body rest)
   unfolding readDistances
   distances-more body rest enough =
       let count = number body in
-      let read : List ℕ → Step = λ bytes. require (all isDistance (words count bytes)) BadDistance
+      let read : List ℕ → Step = λ bytes. stepIf (all isDistance (words count bytes)) 9
       (next (distances (floats (words count bytes))) (drop (8 * count) bytes)) in
-      let there : List ℕ → Step = λ bytes. require (leb (8 * count) (length bytes)) Truncated (read bytes) in
-      require-more (leb count 2016) TooMany (there rest) (there (rest ++ more))
+      let there : List ℕ → Step = λ bytes. stepIf (leb (8 * count) (length bytes)) 1 (read bytes) in
+      step-if-more (leb count maxDistances) 4 (there rest) (there (rest ++ more))
       (λ h.
-      let few = leb-true count 2016 h in
+      let few = leb-true count maxDistances h in
       let one : leb (8 * count) (length rest) ≡ true = le-leb (8 * count) (length rest) (omega arith) in
       let two : leb (8 * count) (length (rest ++ more)) ≡ true = le-leb (8 * count) (length (rest ++ more)) (omega (arith, length-append rest more)) in
       rw (one, two, words-more count rest more (omega arith), drop-append-le (8 * count) rest more (omega arith))
-      (require-more (all isDistance (words count rest)) BadDistance (next (distances (floats (words count rest))) (drop (8 * count) rest))
+      (step-if-more (all isDistance (words count rest)) 9 (next (distances (floats (words count rest))) (drop (8 * count) rest))
       (next (distances (floats (words count rest))) (drop (8 * count) rest ++ more)) (λ k. refl)))
 
   end-more : (rest : List ℕ) → 1 ≤ length rest → readEnd (rest ++ more) ≡ extend more (readEnd rest)
@@ -101,10 +102,10 @@ module _ (more : List ℕ) where
   unfolding readMarked
   known-more s mark bytes size body =
       let n = bodySize mark in
-      let read : List ℕ → Step = λ b. require (leb n (length b)) Truncated (readBody mark (take n b) (drop n b)) in
-      require-more (allowed (s .phase) (s .numbers .header .strategy) mark) MisplacedMark (require (fits (s .numbers) mark) TooMany (read bytes))
-      (require (fits (s .numbers) mark) TooMany (read (bytes ++ more)))
-      (λ may. require-more (fits (s .numbers) mark) TooMany (read bytes) (read (bytes ++ more))
+      let read : List ℕ → Step = λ b. stepIf (leb n (length b)) 1 (readBody mark (take n b) (drop n b)) in
+      step-if-more (allowed (s .phase) (s .numbers .header .strategy) mark) 3 (stepIf (belowMaximum (s .numbers) mark) 4 (read bytes))
+      (stepIf (belowMaximum (s .numbers) mark) 4 (read (bytes ++ more)))
+      (λ may. step-if-more (belowMaximum (s .numbers) mark) 4 (read bytes) (read (bytes ++ more))
       (λ room.
       let whole = size may in
       let one : leb n (length bytes) ≡ true = le-leb n (length bytes) whole in
@@ -146,7 +147,7 @@ besides-most Outside = (omega arith, λ h. omega arith)
 besides-most Inside = (omega arith, λ h. omega arith)
 besides-most Closing = (omega arith, λ h. let z : _≡_ {A = ℕ} 0 1 = cc in absurd (omega arith))
 
-module _ (short more : List ℕ) (long : length short ≡ 34000) where
+module _ (short more : List ℕ) (long : length short ≡ decidingBytes) where
   abbrev file : List ℕ
   file = short ++ more
 
@@ -175,16 +176,18 @@ module _ (short more : List ℕ) (long : length short ≡ 34000) where
       ∙ ap (λ (x : Records). r then x) (later r rest e)
       ∙ sym (records-next (p .state) (drop (p .at) short) r rest e)
   same-here p at later ends e = absurd (omega (arith, end-size (p .state) (drop (p .at) short) e, length-drop (p .at) short, before-cut p at .0))
-  same-here p at later (fails refusal) e =
-      records-fault (p .state) (drop (p .at) file) refusal (same-step p at ∙ ap (extend more) e) ∙ sym (records-fault (p .state) (drop (p .at) short) refusal e)
+  same-here p at later (fails number) e =
+      records-fault (p .state) (drop (p .at) file) number (same-step p at ∙ ap (extend more) e) ∙ sym (records-fault (p .state) (drop (p .at) short) number e)
 
-  same-records : (n : ℕ) (p : Progress) → Reached file p → 34000 - p .at ≤ n
+  same-records : (n : ℕ) (p : Progress) → Reached file p → decidingBytes - p .at ≤ n
       → recordsFrom (p .state) (drop (p .at) file) ≡ recordsFrom (p .state) (drop (p .at) short)
   same-records zero p at h = absurd (omega (arith, before-cut p at .0))
   same-records (suc n) p at h = same-here p at (λ r rest e. later (λ q. same-records n q) p at h r rest e) (readRecord (p .state) (drop (p .at) short)) refl
     where
-      later : ((q : Progress) → Reached file q → 34000 - q .at ≤ n → recordsFrom (q .state) (drop (q .at) file) ≡ recordsFrom (q .state) (drop (q .at) short))
-          → (p : Progress) → Reached file p → 34000 - p .at ≤ suc n → (r : Record) (rest : List ℕ) → readRecord (p .state) (drop (p .at) short) ≡ next r rest
+      later : ((q : Progress) → Reached file q → decidingBytes - q .at ≤ n
+          → recordsFrom (q .state) (drop (q .at) file) ≡ recordsFrom (q .state) (drop (q .at) short))
+          → (p : Progress) → Reached file p → decidingBytes - p .at ≤ suc n → (r : Record) (rest : List ℕ)
+          → readRecord (p .state) (drop (p .at) short) ≡ next r rest
           → recordsFrom (after (p .state) (itemOf r)) (rest ++ more) ≡ recordsFrom (after (p .state) (itemOf r)) rest
       later same p at h r rest e =
           let f : readRecord (p .state) (drop (p .at) file) ≡ next r (rest ++ more) = same-step p at ∙ ap (extend more) e in
@@ -195,43 +198,43 @@ module _ (short more : List ℕ) (long : length short ≡ 34000) where
           ∙ drop-drop (recordSize r) (p .at) file in
           rw (all, kept) (same q on (omega (arith, further file p at r (rest ++ more) f)))
 
-pub first-bytes-decide : (file : List ℕ) → readJob (take 34000 file) ≡ readJob file
+pub first-bytes-decide : (file : List ℕ) → readJob (take decidingBytes file) ≡ readJob file
 unfolding readJob
-first-bytes-decide file = go (leb (length file) 34000) refl
+first-bytes-decide file = go (leb (length file) decidingBytes) refl
   where
-    go : (b : Bool) → leb (length file) 34000 ≡ b → readJob (take 34000 file) ≡ readJob file
-    go true h = ap readJob (take-all 34000 file (leb-true _ _ h))
+    go : (b : Bool) → leb (length file) decidingBytes ≡ b → readJob (take decidingBytes file) ≡ readJob file
+    go true h = ap readJob (take-all decidingBytes file (leb-true _ _ h))
     go false h =
-        let short = take 34000 file in
-        let more = drop 34000 file in
-        let size : length short ≡ 34000 = length-take-le 34000 file (omega (arith, leb-false (length file) 34000 h)) in
-        let whole : short ++ more ≡ file = take-append-drop 34000 file in
-        ap (jobFrom noJob) (sym (same-records short more size 34000 begin (reached-begin (short ++ more)) (omega arith))) ∙ ap readJob whole
+        let short = take decidingBytes file in
+        let more = drop decidingBytes file in
+        let size : length short ≡ decidingBytes = length-take-le decidingBytes file (omega (arith, leb-false (length file) decidingBytes h)) in
+        let whole : short ++ more ≡ file = take-append-drop decidingBytes file in
+        ap (jobFrom noJob) (sym (same-records short more size decidingBytes begin (reached-begin (short ++ more)) (omega arith))) ∙ ap readJob whole
 
 -- ---- what follows for a file's colouring, its text, its acceptance and the parts of its contours
 
-pub first-bytes-color : (file : List ℕ) (old : Result) → colorFile (take 34000 file) old ≡ colorFile file old
+pub first-bytes-color : (file : List ℕ) (old : Result) → colorFile (take decidingBytes file) old ≡ colorFile file old
 unfolding colorFile
 first-bytes-color file old = ap (λ (r : Reading). colorReading r old) (first-bytes-decide file)
 
-pub first-bytes-text : (file : List ℕ) → fileText (take 34000 file) ≡ fileText file
+pub first-bytes-text : (file : List ℕ) → fileText (take decidingBytes file) ≡ fileText file
 unfolding fileText
 first-bytes-text file = ap readingText (first-bytes-decide file)
 
-pub accepted-few : (file : List ℕ) → accepted file ≡ true → length file ≤ 33177
+pub accepted-few : (file : List ℕ) → accepted file ≡ true → length file ≤ maxFile
 unfolding acceptJob acceptReading
 accepted-few file h = go (readJob file) refl h
   where
-    go : (reading : Reading) → readJob file ≡ reading → hasJob (acceptReading reading) ≡ true → length file ≤ 33177
-    go (reads job) e h = bytes-few file job e
-    go (refuses refusal) e h = let z : _≡_ {A = ℕ} 0 1 = cc in absurd (omega arith)
+    go : (reading : Reading) → readJob file ≡ reading → succeeds (acceptReading reading) ≡ true → length file ≤ maxFile
+    go (gives job) e h = bytes-few file job e
+    go (refusal number) e h = let z : _≡_ {A = ℕ} 0 1 = cc in absurd (omega arith)
 
-pub first-bytes-part : (file : List ℕ) (number : ℕ) → contourPart (take 34000 file) number ≡ contourPart file number
+pub first-bytes-part : (file : List ℕ) (number : ℕ) → contourPart (take decidingBytes file) number ≡ contourPart file number
 first-bytes-part file number = go (accepted file) refl
   where
-    same : accepted (take 34000 file) ≡ accepted file
-    same = unfold acceptJob in ap (λ (r : Reading). hasJob (acceptReading r)) (first-bytes-decide file)
+    same : accepted (take decidingBytes file) ≡ accepted file
+    same = unfold acceptJob in ap (λ (r : Reading). succeeds (acceptReading r)) (first-bytes-decide file)
 
-    go : (b : Bool) → accepted file ≡ b → contourPart (take 34000 file) number ≡ contourPart file number
-    go true h = ap (λ (x : List ℕ). contourPart x number) (take-all 34000 file (omega (arith, accepted-few file h)))
-    go false h = part-refused (take 34000 file) number (same ∙ h) ∙ sym (part-refused file number h)
+    go : (b : Bool) → accepted file ≡ b → contourPart (take decidingBytes file) number ≡ contourPart file number
+    go true h = ap (λ (x : List ℕ). contourPart x number) (take-all decidingBytes file (omega (arith, accepted-few file h)))
+    go false h = part-refused (take decidingBytes file) number (same ∙ h) ∙ sym (part-refused file number h)

@@ -9,12 +9,14 @@ use lib.Ieee.{Float}
 use Rattle.geometry.specs.declared.edge_segment.EdgeSegment.{EdgeSegment}
 use Rattle.geometry.specs.EdgeSegment.{toStored}
 use Rattle.coloring.specs.Lists.{over}
+use Rattle.coloring.specs.Outline.{kindStored, placesStored}
 use Rattle.job.specs.declared.records.Kind.{Kind}
 use Rattle.job.specs.declared.records.Kind.the-variants.{Line, Quadratic, Cubic}
+use Rattle.job.specs.declared.records.Mark.the-variants as mark
 use Rattle.job.specs.declared.records.Item.{Item}
 use Rattle.job.specs.declared.records.Item.the-variants.{Header, Contour, Edge, Distances}
 use Rattle.job.specs.Patterns.{words, floats}
-use Rattle.job.specs.Records.{controls, edgeOf}
+use Rattle.job.specs.Records.{controls, bodySize, edgeOf}
 use Rattle.job.specs.declared.progress.Numbers.{Numbers}
 use Rattle.job.specs.Job.{Job}
 
@@ -25,19 +27,19 @@ pub record Buffers : Type 0 where
   pub points : List Float
   pub distances : List Float
 
-abbrev pub kindsOf : List EdgeSegment → List ℕ
-kindsOf edges = map (λ (e : EdgeSegment). toStored e .kind) edges
+abbrev pub kindsStored : List EdgeSegment → List ℕ
+kindsStored edges = map kindStored edges
 
 -- unused places are +0
-abbrev pub placesOf : List EdgeSegment → List Float
-placesOf edges = flatten (map (λ (e : EdgeSegment). toStored e .points) edges)
+abbrev pub pointsStored : List EdgeSegment → List Float
+pointsStored edges = flatten (map placesStored edges)
 
 -- a job as it is stored
-unfoldable pub stored : Job → Buffers
-stored job = record {
+unfoldable pub storedJob : Job → Buffers
+storedJob job = record {
   lengths = map (λ (contour : List EdgeSegment). length contour) (job .contours);
-  kinds = kindsOf (flatten (job .contours));
-  points = placesOf (flatten (job .contours));
+  kinds = kindsStored (flatten (job .contours));
+  points = pointsStored (flatten (job .contours));
   distances = job .distances;
 }
 
@@ -75,18 +77,18 @@ kindNumber Quadratic = 2
 kindNumber Cubic = 3
 
 -- the eight places of an edge of a kind, from its bytes
-unfoldable pub placesFrom : Kind → List ℕ → List Float
-placesFrom kind body = toStored (edgeOf kind (floats (words (2 * controls kind) body))) .points
+unfoldable pub pointsRead : Kind → List ℕ → List Float
+pointsRead kind body = toStored (edgeOf kind (floats (words (2 * controls kind) body))) .points
 
 -- the buffers after a record that was read with so much before it from some bytes
 unfoldable pub written : Item → Numbers → List ℕ → Buffers → Buffers
-unfolding placesFrom
+unfolding pointsRead
 written (Header h) n bytes b = b
 written Contour n bytes b = record { lengths = set (b .lengths) (n .contours) 0; kinds = b .kinds; points = b .points; distances = b .distances }
 written (Edge kind) n bytes b = record {
   lengths = set (b .lengths) (n .contours - 1) (getD (b .lengths) (n .contours - 1) 0 + 1);
   kinds = set (b .kinds) (n .edges) (kindNumber kind);
-  points = take (8 * n .edges) (b .points) ++ (placesFrom kind (take (16 * controls kind) (drop 2 bytes)) ++ drop 8 (drop (8 * n .edges) (b .points)));
+  points = take (8 * n .edges) (b .points) ++ (pointsRead kind (take (bodySize (mark.Edge kind)) (drop 2 bytes)) ++ drop 8 (drop (8 * n .edges) (b .points)));
   distances = b .distances;
 }
 written (Distances count) n bytes b = record {
@@ -97,10 +99,10 @@ written (Distances count) n bytes b = record {
 }
 
 -- there is room for a record
-abbrev pub Room : Item → Numbers → List ℕ → Buffers → Type 0
-Room (Header h) n bytes b = Unit
-Room Contour n bytes b = n .contours < length (b .lengths)
-Room (Edge kind) n bytes b =
+abbrev pub RecordFits : Item → Numbers → List ℕ → Buffers → Type 0
+RecordFits (Header h) n bytes b = Unit
+RecordFits Contour n bytes b = n .contours < length (b .lengths)
+RecordFits (Edge kind) n bytes b =
     (0 < n .contours) × (n .contours ≤ length (b .lengths)) × (getD (b .lengths) (n .contours - 1) 0 < 65535)
-    × (n .edges < length (b .kinds)) × (8 * suc (n .edges) ≤ length (b .points)) × (2 + 16 * controls kind ≤ length bytes)
-Room (Distances count) n bytes b = (count ≤ length (b .distances)) × (4 + 8 * count ≤ length bytes)
+    × (n .edges < length (b .kinds)) × (8 * suc (n .edges) ≤ length (b .points)) × (2 + bodySize (mark.Edge kind) ≤ length bytes)
+RecordFits (Distances count) n bytes b = (count ≤ length (b .distances)) × (4 + 8 * count ≤ length bytes)

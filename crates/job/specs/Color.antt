@@ -2,19 +2,14 @@
 -- reading, splines 4, 8, 11).
 use Prim.Native.Nat.{ℕ, _-_, _*_, _/_, _≤_}
 use mathlib.Core.Path.{_≡_}
-use mathlib.Core.Bool.{Bool, true, false}
-use mathlib.Core.List.{List, map}
+use mathlib.Core.Bool.{Bool}
+use mathlib.Core.List.{List, [], _∷_, map}
 use lib.Dec.{leb, eqb}
 use lib.Ieee.{Float}
 use lib.ListN.{length}
 use Rattle.geometry.specs.declared.edge_segment.EdgeSegment.{EdgeSegment}
-use Rattle.coloring.specs.declared.refusal.Checked.{Checked}
-use Rattle.coloring.specs.declared.refusal.Checked.the-variants.{Passed, Failed}
-use Rattle.coloring.specs.declared.refusal.Refusal.the-variants.{TooMany, LengthMismatch}
-use Rattle.coloring.specs.Refusal.{require}
+use Rattle.coloring.specs.Limits.{maxContours, maxEdges, maxResultEdges, maxSplines, maxDistances}
 use Rattle.coloring.specs.declared.outline.Counts.{Counts}
-use Rattle.coloring.specs.declared.outline.Colored.{Colored}
-use Rattle.coloring.specs.declared.outline.Colored.the-variants.{Edges, Refused}
 use Rattle.coloring.specs.declared.settings.Strategy.the-variants.{Simple, InkTrap}
 use Rattle.coloring.specs.declared.settings.Marking.{Marking}
 use Rattle.coloring.specs.declared.settings.Marking.the-variants.{Colors, Distances}
@@ -22,16 +17,17 @@ use Rattle.coloring.specs.Corners.{Cornered, searchCorners, edgesIn, flagsIn}
 use Rattle.coloring.specs.Layout.{layout}
 use Rattle.coloring.specs.Splines.{splineTotal, paintContours}
 use Rattle.coloring.specs.Values.{splineValues, middleValue, checkMarking}
-use Rattle.coloring.specs.Outline.{Outline, Result, Outcome, encode, deliver}
+use Rattle.coloring.specs.Outline.{Outline, Result, Outcome, outcome, encode, deliver}
 use Rattle.coloring.specs.Shape.{countsOf}
 use Rattle.coloring.specs.EdgeColoring.{edgeColoring, edgeColoringSimple, edgeColoringInkTrap, edgeColoringByDistance}
+use Rattle.coloring.specs.Answers.{Answer, gives, refusal, succeeds, Check, unless, inOrder}
 use Rattle.job.specs.declared.progress.Numbers as Numbers
 use Rattle.job.specs.declared.records.Strategy.{Strategy}
 use Rattle.job.specs.declared.records.Strategy.the-variants as strategy
-use Rattle.job.specs.Job.{thresholdOf, Job, Reading, reads, refuses, readJob}
-use Rattle.job.specs.declared.progress.Read.the-variants as read
+use Rattle.job.specs.Job.{thresholdOf, Job, Reading, readJob}
 use Rattle.job.specs.Progress.{answerOf}
 use Rattle.job.specs.Buffers.{Buffers}
+use Rattle.job.specs.Limits.{maxPlaces, maxResultPlaces}
 
 -- ---- a job
 
@@ -51,7 +47,7 @@ unfolding searchCorners layout
 laidIn job = map layout (map (searchCorners (thresholdOf (job .header))) (job .contours))
 
 -- what is left to check of a job that was read, for strategy 3 only: splines 4, then the distances
-unfoldable pub checkJob : Job → Checked
+unfoldable pub checkJob : Job → List Check
 unfolding laidIn splineTotal
 checkJob job = checkMarking (markingOf job) (splineTotal (laidIn job)) (job .distances)
 
@@ -70,7 +66,7 @@ unfoldable pub colored : Job → Result
 unfolding coloredEdges edgeColors encode
 colored job = encode (coloredEdges job) (edgeColors job)
 
--- answer and buffers: a refusal of the checks; 11 where the result would not fit; or the coloured shape
+-- answer and buffers: the first refusal, 11 last; or the coloured shape
 unfoldable pub colorJob : Job → Result → Outcome
 unfolding laidIn checkJob colored countsOf deliver
 colorJob job old = deliver (checkJob job) (countsOf (laidIn job)) (colored job) old
@@ -79,48 +75,36 @@ colorJob job old = deliver (checkJob job) (countsOf (laidIn job)) (colored job) 
 
 unfoldable pub colorReading : Reading → Result → Outcome
 unfolding colorJob
-colorReading (reads job) old = colorJob job old
-colorReading (refuses refusal) old = record { answer = Refused refusal; buffers = old }
+colorReading (gives job) old = colorJob job old
+colorReading (refusal number) old = outcome (refusal number) old
 
 unfoldable pub colorFile : List ℕ → Result → Outcome
 unfolding readJob colorReading
 colorFile file = colorReading (readJob file)
 
--- the answer where every result has room
-abbrev pub answered : Checked → Counts → Colored
-answered Passed counts = Edges counts
-answered (Failed refusal) counts = Refused refusal
+-- the answer where every result has room: what the result comes to, or the first refusal
+unfoldable pub checkReading : Reading → Answer Counts
+unfolding inOrder laidIn checkJob countsOf
+checkReading (gives job) = inOrder (checkJob job) refusal (gives (countsOf (laidIn job)))
+checkReading (refusal number) = refusal number
 
-unfoldable pub checkReading : Reading → Colored
-unfolding laidIn checkJob countsOf
-checkReading (reads job) = answered (checkJob job) (countsOf (laidIn job))
-checkReading (refuses refusal) = Refused refusal
-
-unfoldable pub checkFile : List ℕ → Colored
+unfoldable pub checkFile : List ℕ → Answer Counts
 unfolding readJob checkReading
 checkFile file = checkReading (readJob file)
 
 -- the job of an accepted file, or its first refusal: that of reading, then that of the checks
-abbrev pub acceptChecked : Checked → Job → Reading
-acceptChecked Passed job = reads job
-acceptChecked (Failed refusal) job = refuses refusal
-
 unfoldable pub acceptReading : Reading → Reading
-unfolding checkJob
-acceptReading (reads job) = acceptChecked (checkJob job) job
-acceptReading (refuses refusal) = refuses refusal
+unfolding inOrder checkJob
+acceptReading (gives job) = inOrder (checkJob job) refusal (gives job)
+acceptReading (refusal number) = refusal number
 
 unfoldable pub acceptJob : List ℕ → Reading
 unfolding readJob acceptReading
 acceptJob file = acceptReading (readJob file)
 
 -- accepted: reading and colouring give no number other than 11
-abbrev pub hasJob : Reading → Bool
-hasJob (reads job) = true
-hasJob (refuses refusal) = false
-
 abbrev pub accepted : List ℕ → Bool
-accepted file = hasJob (acceptJob file)
+accepted file = succeeds (acceptJob file)
 
 -- ---- in the words of contracts
 
@@ -136,28 +120,29 @@ colorStored by seed threshold b old =
     (edgeColoringInkTrap (outlineOf b) threshold seed old)
     (edgeColoringByDistance (outlineOf b) threshold seed (b .distances) old)
 
--- what was counted, where it has at most 64 splines and a distance for each pair of them
-abbrev pub paired : Colored → ℕ → Colored
-paired (Edges counts) distances =
-    answered (require (leb (counts .splines) 64) TooMany
-    (require (eqb distances (counts .splines * (counts .splines - 1) / 2)) LengthMismatch Passed)) counts
-paired (Refused refusal) distances = Refused refusal
+-- what was counted, where it has few enough splines and a distance for each pair of them
+unfoldable pub paired : Answer Counts → ℕ → Answer Counts
+unfolding inOrder
+paired (gives counts) distances =
+    let splines = counts .splines in
+    inOrder (unless 4 (leb splines maxSplines) ∷ unless 8 (eqb distances (splines * (splines - 1) / 2)) ∷ []) refusal (gives counts)
+paired (refusal number) distances = refusal number
 
 -- a file was read, with these numbers, and its strategy asks for distances
 pub record AsksDistances (reading : Reading) (n : Numbers.Numbers) : Type 0 where
-  pub told : read.Job n ≡ answerOf reading
+  pub numbers-are : gives n ≡ answerOf reading
   pub asks : n .header .strategy ≡ strategy.ByDistance
 
 -- four buffers that hold every job
 pub record HoldsJobs (b : Buffers) : Type 0 where
-  pub lengths-fit : 64 ≤ length (b .lengths)
-  pub kinds-fit : 256 ≤ length (b .kinds)
-  pub points-fit : 2048 ≤ length (b .points)
-  pub distances-fit : 2016 ≤ length (b .distances)
+  pub lengths-fit : maxContours ≤ length (b .lengths)
+  pub kinds-fit : maxEdges ≤ length (b .kinds)
+  pub points-fit : maxPlaces ≤ length (b .points)
+  pub distances-fit : maxDistances ≤ length (b .distances)
 
 -- four buffers that hold every result
 pub record HoldsResults (b : Result) : Type 0 where
-  pub lengths-fit : 64 ≤ length (b .lengths)
-  pub kinds-fit : 508 ≤ length (b .kinds)
-  pub points-fit : 4064 ≤ length (b .points)
-  pub colors-fit : 508 ≤ length (b .colors)
+  pub lengths-fit : maxContours ≤ length (b .lengths)
+  pub kinds-fit : maxResultEdges ≤ length (b .kinds)
+  pub points-fit : maxResultPlaces ≤ length (b .points)
+  pub colors-fit : maxResultEdges ≤ length (b .colors)

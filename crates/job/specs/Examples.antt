@@ -11,20 +11,16 @@ use Rattle.math.specs.Sqrt.{sqrtOf}
 use Rattle.math.specs.Vector2.{new, sub, divScalar, dot, cross, squaredLength, lengthOf, normalize}
 use Rattle.geometry.specs.EdgeSegment.{direction, toStored}
 use Rattle.geometry.specs.declared.edge_segment.EdgeSegment.the-variants.{Line}
-use Rattle.coloring.specs.declared.refusal.Refusal.the-variants.{Truncated, UnknownMark, MisplacedMark, TooMany, UnknownKind, BadThreshold}
-use Rattle.coloring.specs.declared.refusal.Refusal.the-variants.{BadCoordinate, LengthMismatch, BadDistance, ResultTooShort}
-use Rattle.coloring.specs.declared.outline.Colored.the-variants.{Edges, Refused}
 use Rattle.coloring.specs.Corners.{searchCorners, cornerCount, firstCorner}
 use Rattle.coloring.specs.Outline.{Result, result, outcome}
+use Rattle.coloring.specs.Answers.{gives, refusal}
 use Rattle.job.specs.declared.records.Strategy.{Strategy}
 use Rattle.job.specs.declared.records.Strategy.the-variants.{Simple, InkTrap, ByDistance}
 use Rattle.job.specs.declared.records.Header.{Header}
-use Rattle.job.specs.Job.{Job, reads, refuses, readJob, fileOf}
+use Rattle.job.specs.Job.{Job, readJob, fileOf}
 use Rattle.job.specs.Part.{contourPart}
 use Rattle.job.specs.Color.{colorFile, checkFile, acceptJob, accepted}
-use Rattle.job.specs.declared.listing.Listed.the-variants as answer
-use Rattle.job.specs.Listing as list
-use Rattle.job.specs.Listing.{decimal, refusalLine, fileText, listFile}
+use Rattle.job.specs.Listing.{decimal, listing, refusalLine, fileText, textOutcome, listFile}
 
 -- ---- files in bytes
 
@@ -62,14 +58,14 @@ abbrev opening : ℕ → List ℕ → List ℕ
 opening strategy rest = JB (strategy ∷ zeros ++ eighth ++ rest)
 
 -- LN from (x0, y0) to (x1, y1)
-abbrev line : List ℕ → List ℕ → List ℕ → List ℕ → List ℕ → List ℕ
-line x0 y0 x1 y1 rest = LN (x0 ++ y0 ++ x1 ++ y1 ++ rest)
+abbrev lineRecord : List ℕ → List ℕ → List ℕ → List ℕ → List ℕ → List ℕ
+lineRecord x0 y0 x1 y1 rest = LN (x0 ++ y0 ++ x1 ++ y1 ++ rest)
 
 -- ---- what they read as
 
 -- the square (0,0) (1,0) (1,1) (0,1) of lines, strategy 1, seed 0, threshold 0.125
 abbrev squareContour : List ℕ → List ℕ
-squareContour rest = CT (line zeros zeros one zeros (line one zeros one one (line one one zeros one (line zeros one zeros zeros rest))))
+squareContour rest = CT (lineRecord zeros zeros one zeros (lineRecord one zeros one one (lineRecord one one zeros one (lineRecord zeros one zeros zeros rest))))
 
 abbrev pub squareFile : List ℕ
 squareFile = opening 1 (squareContour (EN []))
@@ -84,47 +80,47 @@ squareJob = record {
   distances = [];
 }
 
-pub square : readJob squareFile ≡ reads squareJob
+pub square-read : readJob squareFile ≡ gives squareJob
 unfolding readJob ofBits
-square = refl
+square-read = refl
 
 -- a job without contours
-pub no-contours : readJob (opening 1 (EN [])) ≡ reads (record { header = headerOf Simple; contours = []; distances = [] })
+pub no-contours : readJob (opening 1 (EN [])) ≡ gives (record { header = headerOf Simple; contours = []; distances = [] })
 unfolding readJob ofBits
 no-contours = refl
 
 -- the same by distance: DS stands there with the count 0
-pub no-pairs : readJob (opening 3 (DS (0 ∷ 0 ∷ EN []))) ≡ reads (record { header = headerOf ByDistance; contours = []; distances = [] })
+pub no-distances : readJob (opening 3 (DS (0 ∷ 0 ∷ EN []))) ≡ gives (record { header = headerOf ByDistance; contours = []; distances = [] })
 unfolding readJob ofBits
-no-pairs = refl
+no-distances = refl
 
 -- two contours, the first empty; an edge goes to the last
-pub empty-contour : readJob (opening 2 (CT (CT (line zeros zeros one one (EN []))))) ≡ reads
+pub empty-contour : readJob (opening 2 (CT (CT (lineRecord zeros zeros one one (EN []))))) ≡ gives
     (record { header = headerOf InkTrap; contours = [] ∷ (Line (new f0 f0) (new f1 f1) ∷ []) ∷ []; distances = [] })
 unfolding readJob ofBits
 empty-contour = refl
 
 -- 0 bytes; a file that ends before EN
-pub no-bytes : readJob [] ≡ refuses Truncated
+pub no-bytes : readJob [] ≡ refusal 1
 unfolding readJob
 no-bytes = refl
 
-pub no-end : readJob (opening 1 (CT [])) ≡ refuses Truncated
+pub no-end : readJob (opening 1 (CT [])) ≡ refusal 1
 unfolding readJob ofBits
 no-end = refl
 
 -- ---- the order of the numbers: each file has both faults of its name, and is refused with the first
 
 -- the earliest record with a fault decides
-pub threshold-before-next-mark : readJob (JB (1 ∷ zeros ++ noNumber ++ 0x3F ∷ 0x3F ∷ [])) ≡ refuses BadThreshold
+pub threshold-before-next-mark : readJob (JB (1 ∷ zeros ++ noNumber ++ 0x3F ∷ 0x3F ∷ [])) ≡ refusal 6
 unfolding readJob
 threshold-before-next-mark = refl
 
-pub cut-mark-before-unknown : readJob (0x3F ∷ []) ≡ refuses Truncated
+pub cut-mark-before-unknown : readJob (0x3F ∷ []) ≡ refusal 1
 unfolding readJob
 cut-mark-before-unknown = refl
 
-pub unknown-before-misplaced : readJob (0x3F ∷ 0x3F ∷ []) ≡ refuses UnknownMark
+pub unknown-before-misplaced : readJob (0x3F ∷ 0x3F ∷ []) ≡ refusal 2
 unfolding readJob
 unknown-before-misplaced = refl
 
@@ -136,77 +132,77 @@ abbrev contours64 : List ℕ → List ℕ
 contours64 rest = eightfold (eightfold CT) rest
 
 -- a contour more, after DS
-pub misplaced-before-too-many : readJob (opening 3 (contours64 (DS (0 ∷ 0 ∷ CT [])))) ≡ refuses MisplacedMark
+pub misplaced-before-too-many : readJob (opening 3 (contours64 (DS (0 ∷ 0 ∷ CT [])))) ≡ refusal 3
 unfolding readJob
 misplaced-before-too-many = refl
 
-pub too-many-contours : readJob (opening 1 (contours64 (CT []))) ≡ refuses TooMany
+pub too-many-contours : readJob (opening 1 (contours64 (CT []))) ≡ refusal 4
 unfolding readJob
 too-many-contours = refl
 
 -- 256 edges, and one more that is cut
 abbrev edges64 : List ℕ → List ℕ
-edges64 rest = eightfold (eightfold (line zeros zeros zeros zeros)) rest
+edges64 rest = eightfold (eightfold (lineRecord zeros zeros zeros zeros)) rest
 
 abbrev edges256 : List ℕ → List ℕ
 edges256 rest = edges64 (edges64 (edges64 (edges64 rest)))
 
-pub too-many-edges-before-cut : readJob (opening 1 (CT (edges256 (LN [])))) ≡ refuses TooMany
+pub too-many-edges-before-cut : readJob (opening 1 (CT (edges256 (LN [])))) ≡ refusal 4
 unfolding readJob
 too-many-edges-before-cut = refl
 
 -- LN before JB, and JB again, each cut
-pub misplaced-before-cut : (readJob (LN []) ≡ refuses MisplacedMark) × (readJob (opening 1 (JB [])) ≡ refuses MisplacedMark)
+pub misplaced-before-cut : (readJob (LN []) ≡ refusal 3) × (readJob (opening 1 (JB [])) ≡ refusal 3)
 unfolding readJob
 misplaced-before-cut = (refl, refl)
 
-pub cut-before-strategy : readJob (JB (0 ∷ [])) ≡ refuses Truncated
+pub cut-before-strategy : readJob (JB (0 ∷ [])) ≡ refusal 1
 unfolding readJob
 cut-before-strategy = refl
 
-pub strategy-before-threshold : readJob (JB (4 ∷ zeros ++ noNumber)) ≡ refuses UnknownKind
+pub strategy-before-threshold : readJob (JB (4 ∷ zeros ++ noNumber)) ≡ refusal 5
 unfolding readJob
 strategy-before-threshold = refl
 
-pub cut-before-coordinate : readJob (opening 1 (CT (LN (noNumber ++ zeros)))) ≡ refuses Truncated
+pub cut-before-coordinate : readJob (opening 1 (CT (LN (noNumber ++ zeros)))) ≡ refusal 1
 unfolding readJob
 cut-before-coordinate = refl
 
-pub coordinate : readJob (opening 1 (CT (line zeros zeros noNumber zeros []))) ≡ refuses BadCoordinate
+pub coordinate : readJob (opening 1 (CT (lineRecord zeros zeros noNumber zeros []))) ≡ refusal 7
 unfolding readJob
 coordinate = refl
 
 -- ---- DS
 
-pub misplaced-before-count : readJob (opening 1 (DS [])) ≡ refuses MisplacedMark
+pub misplaced-before-count : readJob (opening 1 (DS [])) ≡ refusal 3
 unfolding readJob
 misplaced-before-count = refl
 
-pub count-cut-before-too-many : readJob (opening 3 (DS (0xFF ∷ []))) ≡ refuses Truncated
+pub count-cut-before-too-many : readJob (opening 3 (DS (0xFF ∷ []))) ≡ refusal 1
 unfolding readJob
 count-cut-before-too-many = refl
 
 -- 2,017 and no distances
-pub too-many-before-distances-cut : readJob (opening 3 (DS (0xE1 ∷ 0x07 ∷ []))) ≡ refuses TooMany
+pub too-many-before-distances-cut : readJob (opening 3 (DS (0xE1 ∷ 0x07 ∷ []))) ≡ refusal 4
 unfolding readJob
 too-many-before-distances-cut = refl
 
 -- the first of two distances is no number, the second is cut
-pub distances-cut-before-bad : readJob (opening 3 (DS (2 ∷ 0 ∷ noNumber))) ≡ refuses Truncated
+pub distances-cut-before-bad : readJob (opening 3 (DS (2 ∷ 0 ∷ noNumber))) ≡ refusal 1
 unfolding readJob
 distances-cut-before-bad = refl
 
-pub bad-distance : readJob (opening 3 (DS (1 ∷ 0 ∷ noNumber))) ≡ refuses BadDistance
+pub bad-distance : readJob (opening 3 (DS (1 ∷ 0 ∷ noNumber))) ≡ refusal 9
 unfolding readJob
 bad-distance = refl
 
 -- ---- EN
 
-pub end-while-distances-due : readJob (opening 3 (EN [])) ≡ refuses MisplacedMark
+pub end-while-distances-due : readJob (opening 3 (EN [])) ≡ refusal 3
 unfolding readJob
 end-while-distances-due = refl
 
-pub byte-after-end : readJob (opening 1 (EN (0 ∷ []))) ≡ refuses MisplacedMark
+pub byte-after-end : readJob (opening 1 (EN (0 ∷ []))) ≡ refusal 3
 unfolding readJob
 byte-after-end = refl
 
@@ -224,9 +220,9 @@ square-part = refl
 
 -- up to the next CT, up to EN and up to DS
 abbrev twoContours : List ℕ
-twoContours = opening 2 (CT (line zeros zeros one one (CT (EN []))))
+twoContours = opening 2 (CT (lineRecord zeros zeros one one (CT (EN []))))
 
-pub next-part : (contourPart twoContours 0 ≡ CT (line zeros zeros one one [])) × (contourPart twoContours 1 ≡ CT [])
+pub next-part : (contourPart twoContours 0 ≡ CT (lineRecord zeros zeros one one [])) × (contourPart twoContours 1 ≡ CT [])
 unfolding contourPart ofBits
 next-part = (refl, refl)
 
@@ -249,31 +245,37 @@ noPlaces = result [] [] [] []
 abbrev squareAlone : List ℕ
 squareAlone = opening 3 (squareContour (DS (0 ∷ 0 ∷ EN [])))
 
-pub miscounted-before-short : (colorFile squareAlone noPlaces ≡ outcome (Refused LengthMismatch) noPlaces) × (accepted squareAlone ≡ false)
+pub miscounted-before-short : (colorFile squareAlone noPlaces ≡ outcome (refusal 8) noPlaces) × (accepted squareAlone ≡ false)
 unfolding colorFile acceptJob ofBits searchCorners cornerCount firstCorner direction sub dot cross divScalar squaredLength lengthOf normalize sqrtOf
     Ieee.add Ieee.sub Ieee.mul Ieee.div Ieee.ne Ieee.le Ieee.lt
 miscounted-before-short = (refl, refl)
 
 -- 66 splines: a line forth and back 33 times, each joint a corner; and no distance
 abbrev forthAndBack : List ℕ → List ℕ
-forthAndBack rest = line zeros zeros one zeros (line one zeros zeros zeros rest)
+forthAndBack rest = lineRecord zeros zeros one zeros (lineRecord one zeros zeros zeros rest)
 
 abbrev manySplines : List ℕ
 manySplines = opening 3 (CT (forthAndBack (eightfold forthAndBack
     (eightfold forthAndBack (eightfold forthAndBack (eightfold forthAndBack (DS (0 ∷ 0 ∷ EN []))))))))
 
-pub splines-before-miscounted : acceptJob manySplines ≡ refuses TooMany
+-- and a byte after EN
+pub reading-before-splines : acceptJob (manySplines ++ (0 ∷ [])) ≡ refusal 3
+unfolding acceptJob ofBits
+reading-before-splines = refl
+
+pub splines-before-miscounted : acceptJob manySplines ≡ refusal 4
 unfolding acceptJob ofBits searchCorners cornerCount firstCorner direction sub dot cross divScalar squaredLength lengthOf normalize sqrtOf Ieee.add Ieee.sub
     Ieee.mul Ieee.div Ieee.ne Ieee.le Ieee.lt
 splines-before-miscounted = refl
 
 -- 11 is no fault of the file
-pub short : (colorFile squareFile noPlaces ≡ outcome (Refused ResultTooShort) noPlaces) × (accepted squareFile ≡ true)
+pub short : (colorFile squareFile noPlaces ≡ outcome (refusal 11) noPlaces) × (accepted squareFile ≡ true)
 unfolding colorFile acceptJob ofBits
 short = (refl, refl)
 
-pub square-checked : checkFile squareFile ≡ Edges (record { contours = 1; edges = 4; splines = 4 })
-unfolding checkFile ofBits searchCorners cornerCount firstCorner direction sub dot cross divScalar squaredLength lengthOf normalize sqrtOf Ieee.add Ieee.sub Ieee.mul Ieee.div Ieee.ne Ieee.le Ieee.lt
+pub square-checked : checkFile squareFile ≡ gives (record { contours = 1; edges = 4; splines = 4 })
+unfolding checkFile ofBits searchCorners cornerCount firstCorner direction sub dot cross divScalar squaredLength lengthOf normalize sqrtOf
+    Ieee.add Ieee.sub Ieee.mul Ieee.div Ieee.ne Ieee.le Ieee.lt
 square-checked = refl
 
 -- ---- the text of an answer
@@ -299,12 +301,12 @@ no-contours-printed = refl
 
 -- three contours, the second empty: its number is passed over, and places begin anew
 pub contours-printed :
-    list.listing ((1 ∷ []) ∷ [] ∷ (2 ∷ 3 ∷ []) ∷ []) ((5 ∷ []) ∷ [] ∷ (3 ∷ 6 ∷ []) ∷ [])
+    listing ((1 ∷ []) ∷ [] ∷ (2 ∷ 3 ∷ []) ∷ []) ((5 ∷ []) ∷ [] ∷ (3 ∷ 6 ∷ []) ∷ [])
     ≡ (0x30 ∷ 0x20 ∷ 0x30 ∷ 0x20 ∷ 0x4C ∷ 0x20 ∷ 0x35 ∷ 0x0A
     ∷ 0x32 ∷ 0x20 ∷ 0x30 ∷ 0x20 ∷ 0x51 ∷ 0x20 ∷ 0x33 ∷ 0x0A
     ∷ 0x32 ∷ 0x20 ∷ 0x31 ∷ 0x20 ∷ 0x43 ∷ 0x20 ∷ 0x36 ∷ 0x0A
     ∷ 0x65 ∷ 0x64 ∷ 0x67 ∷ 0x65 ∷ 0x73 ∷ 0x20 ∷ 0x33 ∷ 0x0A ∷ [])
-unfolding list.listing
+unfolding listing
 contours-printed = refl
 
 -- 0 bytes
@@ -313,12 +315,12 @@ unfolding fileText
 no-bytes-printed = refl
 
 -- a place beyond the text keeps its byte; one place too few, and all do
-pub listed : listFile [] (1 ∷ 2 ∷ 3 ∷ 4 ∷ 5 ∷ 6 ∷ 7 ∷ 8 ∷ 9 ∷ 10 ∷ 11 ∷ []) ≡ list.outcome (answer.Bytes 10)
+pub listed : listFile [] (1 ∷ 2 ∷ 3 ∷ 4 ∷ 5 ∷ 6 ∷ 7 ∷ 8 ∷ 9 ∷ 10 ∷ 11 ∷ []) ≡ textOutcome (gives 10)
     (0x72 ∷ 0x65 ∷ 0x66 ∷ 0x75 ∷ 0x73 ∷ 0x65 ∷ 0x64 ∷ 0x20 ∷ 0x31 ∷ 0x0A ∷ 11 ∷ [])
 unfolding listFile
 listed = refl
 
-pub not-listed : listFile [] (1 ∷ 2 ∷ 3 ∷ 4 ∷ 5 ∷ 6 ∷ 7 ∷ 8 ∷ 9 ∷ []) ≡ list.outcome (answer.Refused ResultTooShort) (1 ∷ 2 ∷ 3 ∷ 4 ∷ 5 ∷ 6 ∷ 7 ∷ 8 ∷ 9 ∷ [])
+pub not-listed : listFile [] (1 ∷ 2 ∷ 3 ∷ 4 ∷ 5 ∷ 6 ∷ 7 ∷ 8 ∷ 9 ∷ []) ≡ textOutcome (refusal 11) (1 ∷ 2 ∷ 3 ∷ 4 ∷ 5 ∷ 6 ∷ 7 ∷ 8 ∷ 9 ∷ [])
 unfolding listFile
 not-listed = refl
 
@@ -327,6 +329,6 @@ pub decimals : (decimal 63 ≡ (0x36 ∷ 0x33 ∷ [])) × (decimal 508 ≡ (0x35
 unfolding decimal
 decimals = (refl, refl)
 
-pub refused-11 : refusalLine ResultTooShort ≡ (0x72 ∷ 0x65 ∷ 0x66 ∷ 0x75 ∷ 0x73 ∷ 0x65 ∷ 0x64 ∷ 0x20 ∷ 0x31 ∷ 0x31 ∷ 0x0A ∷ [])
+pub refused-11 : refusalLine 11 ≡ (0x72 ∷ 0x65 ∷ 0x66 ∷ 0x75 ∷ 0x73 ∷ 0x65 ∷ 0x64 ∷ 0x20 ∷ 0x31 ∷ 0x31 ∷ 0x0A ∷ [])
 unfolding refusalLine
 refused-11 = refl

@@ -6,7 +6,7 @@ use mathlib.Core.Bool.{Bool, true, cond}
 use mathlib.Core.List.{List, [], _∷_, _++_, map, flatten}
 use lib.Ieee.{Float, binary64, fits, ofBits}
 use Rattle.geometry.specs.declared.edge_segment.EdgeSegment.{EdgeSegment}
-use Rattle.coloring.specs.declared.refusal.Refusal.{Refusal}
+use Rattle.coloring.specs.Answers.{Answer, gives, refusal}
 use Rattle.coloring.specs.Lists.{all}
 use Rattle.job.specs.declared.records.Mark.the-variants.{End}
 use Rattle.job.specs.declared.records.Header.{Header}
@@ -33,24 +33,23 @@ withEdge (c ∷ []) e = (c ++ (e ∷ [])) ∷ []
 withEdge (c ∷ d ∷ contours) e = c ∷ withEdge (d ∷ contours) e
 
 -- a job with a record more
-unfoldable pub enter : Job → Record → Job
+unfoldable pub withRecord : Job → Record → Job
 unfolding withEdge
-enter job (header h) = record { header = h; contours = job .contours; distances = job .distances }
-enter job contour = record { header = job .header; contours = job .contours ++ ([] ∷ []); distances = job .distances }
-enter job (edge e) = record { header = job .header; contours = withEdge (job .contours) e; distances = job .distances }
-enter job (distances ds) = record { header = job .header; contours = job .contours; distances = ds }
+withRecord job (header h) = record { header = h; contours = job .contours; distances = job .distances }
+withRecord job contour = record { header = job .header; contours = job .contours ++ ([] ∷ []); distances = job .distances }
+withRecord job (edge e) = record { header = job .header; contours = withEdge (job .contours) e; distances = job .distances }
+withRecord job (distances ds) = record { header = job .header; contours = job .contours; distances = ds }
 
--- what reading a file gives
-pub data Reading : Type 0 where
-  reads : Job → Reading
-  refuses : Refusal → Reading
+-- what reading a file gives: its job, or the number of its first refusal
+abbrev pub Reading : Type 0
+Reading = Answer Job
 
 -- the job of some records, from what was read before them
 unfoldable pub jobFrom : Job → Records → Reading
-unfolding enter
-jobFrom job complete = reads job
-jobFrom job (fault refusal) = refuses refusal
-jobFrom job (r then rest) = jobFrom (enter job r) rest
+unfolding withRecord
+jobFrom job complete = gives job
+jobFrom job (fault number) = refusal number
+jobFrom job (r then rest) = jobFrom (withRecord job r) rest
 
 unfoldable pub readJob : List ℕ → Reading
 unfolding jobFrom recordsFrom

@@ -1,4 +1,6 @@
 -- The definitions that the contracts of the job file cite.
+-- sizes
+pub mod Limits
 -- the file format: numbers, records, the job
 pub mod Patterns
 pub mod Records
@@ -12,7 +14,5 @@ pub mod Color
 pub mod Part
 -- the text of an answer
 pub mod Listing
--- the answers in document 01's numbers
-pub mod Answers
 -- evaluated examples
 pub mod Examples

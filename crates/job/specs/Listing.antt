@@ -1,23 +1,19 @@
 -- The text of an answer (document 01, "Trays and the job file", program `channels`): a line an output edge, last
--- `edges` and their count; or one line
--- with the refusal's number.
+-- `edges` and their count; or one line with the refusal's number.
 use Prim.Native.Nat.{ℕ, zero, suc, _+_, _/_, _%_, _≤_}
 use mathlib.Core.Path.{_≡_}
 use mathlib.Core.Bool.{true, false, cond}
 use mathlib.Core.List.{List, [], _∷_, _++_, map, flatten}
-use lib.ListN.{length, take, drop}
+use lib.ListN.{length}
 use lib.Dec.{leb, ltb}
 use Rattle.geometry.specs.declared.edge_segment.EdgeSegment.{EdgeSegment}
 use Rattle.coloring.specs.Refusal.{refusalNumber}
-use Rattle.coloring.specs.declared.refusal.Refusal.{Refusal}
-use Rattle.coloring.specs.declared.refusal.Refusal.the-variants.{ResultTooShort}
-use Rattle.coloring.specs.declared.refusal.Checked.{Checked}
-use Rattle.coloring.specs.declared.refusal.Checked.the-variants.{Passed, Failed}
-use Rattle.coloring.specs.Lists.{over}
+use Rattle.coloring.specs.Lists.{over, overFrom}
 use Rattle.coloring.specs.Outline.{kindStored}
+use Rattle.coloring.specs.Answers.{Answer, gives, refusal, inOrder}
 use Rattle.job.specs.declared.listing.Listed.{Listed}
 use Rattle.job.specs.declared.listing.Listed.the-variants.{Bytes, Refused}
-use Rattle.job.specs.Job.{Reading, reads, refuses, readJob}
+use Rattle.job.specs.Job.{Job, Reading, readJob}
 use Rattle.job.specs.Color.{checkJob, coloredEdges, edgeColors}
 
 -- ---- numbers and letters
@@ -58,16 +54,16 @@ refusedWord = 0x72 ∷ 0x65 ∷ 0x66 ∷ 0x75 ∷ 0x73 ∷ 0x65 ∷ 0x64 ∷ spa
 -- ---- lines
 
 -- contour, place in it, kind, colour
-unfoldable pub line : ℕ → ℕ → ℕ → ℕ → List ℕ
+unfoldable pub edgeLine : ℕ → ℕ → ℕ → ℕ → List ℕ
 unfolding decimal
-line contour place kind color = decimal contour ++ (space ∷ (decimal place ++ (space ∷ (letter kind ∷ (space ∷ (decimal color ++ (newline ∷ [])))))))
+edgeLine contour place kind color = decimal contour ++ (space ∷ (decimal place ++ (space ∷ (letter kind ∷ (space ∷ (decimal color ++ (newline ∷ [])))))))
 
 -- the edges of a contour from a place on, each with its colour; there are as many of these
 unfoldable pub contourLines : ℕ → ℕ → List ℕ → List ℕ → List ℕ
-unfolding line
+unfolding edgeLine
 contourLines contour place [] colors = []
 contourLines contour place (kind ∷ kinds) [] = []
-contourLines contour place (kind ∷ kinds) (color ∷ colors) = line contour place kind color ++ contourLines contour (suc place) kinds colors
+contourLines contour place (kind ∷ kinds) (color ∷ colors) = edgeLine contour place kind color ++ contourLines contour (suc place) kinds colors
 
 -- the contours from a number on
 unfoldable pub shapeLines : ℕ → List (List ℕ) → List (List ℕ) → List ℕ
@@ -85,21 +81,21 @@ unfoldable pub listing : List (List ℕ) → List (List ℕ) → List ℕ
 unfolding flatten shapeLines countLine
 listing kinds colors = shapeLines 0 kinds colors ++ countLine (length (flatten kinds))
 
-unfoldable pub refusalLine : Refusal → List ℕ
+unfoldable pub refusalLine : ℕ → List ℕ
 unfolding decimal
-refusalLine refusal = refusedWord ++ (decimal (refusalNumber refusal) ++ (newline ∷ []))
+refusalLine number = refusedWord ++ (decimal number ++ (newline ∷ []))
 
 -- ---- a file
 
--- the coloured shape where the checks are passed
-abbrev pub checkedText : Checked → List (List EdgeSegment) → List (List ℕ) → List ℕ
-checkedText Passed edges colors = listing (map (map kindStored) edges) colors
-checkedText (Failed refusal) edges colors = refusalLine refusal
+-- the coloured shape of a job
+abbrev pub jobText : Job → List ℕ
+jobText job = listing (map (map kindStored) (coloredEdges job)) (edgeColors job)
 
+-- its listing where the checks pass, else the refusal
 unfoldable pub readingText : Reading → List ℕ
-unfolding checkJob coloredEdges edgeColors listing refusalLine
-readingText (reads job) = checkedText (checkJob job) (coloredEdges job) (edgeColors job)
-readingText (refuses refusal) = refusalLine refusal
+unfolding inOrder checkJob coloredEdges edgeColors listing refusalLine
+readingText (gives job) = inOrder (checkJob job) refusalLine (jobText job)
+readingText (refusal number) = refusalLine number
 
 -- what `channels` prints
 unfoldable pub fileText : List ℕ → List ℕ
@@ -107,38 +103,34 @@ unfolding readJob readingText
 fileText file = readingText (readJob file)
 
 -- the answer and the buffer: the text over what stood there, and its length; 11 where it would not fit
-pub record Outcome : Type 0 where
-  pub answer : Listed
+pub record TextOutcome : Type 0 where
+  pub answer : Answer ℕ
   pub buffer : List ℕ
 
-unfoldable pub listFile : List ℕ → List ℕ → Outcome
+abbrev pub textOutcome : Answer ℕ → List ℕ → TextOutcome
+textOutcome answer buffer = record { answer = answer; buffer = buffer }
+
+unfoldable pub listFile : List ℕ → List ℕ → TextOutcome
 unfolding fileText over
 listFile file old =
     let text = fileText file in
-    cond (leb (length text) (length old))
-    (record { answer = Bytes (length text); buffer = over text old })
-    (record { answer = Refused ResultTooShort; buffer = old })
+    cond (leb (length text) (length old)) (textOutcome (gives (length text)) (over text old)) (textOutcome (refusal 11) old)
 
 -- ---- in the words of contracts
 
-abbrev pub outcome : Listed → List ℕ → Outcome
-outcome answer buffer = record { answer = answer; buffer = buffer }
-
-abbrev pub contourCount : Reading → ℕ
-contourCount (reads job) = length (job .contours)
-contourCount (refuses refusal) = 0
+-- how many bytes, or the number of a refusal
+abbrev pub listedAnswer : Listed → Answer ℕ
+listedAnswer (Bytes n) = gives n
+listedAnswer (Refused r) = refusal (refusalNumber r)
 
 -- a number and the byte after it
 abbrev pub field : ℕ → ℕ → List ℕ
 field n byte = decimal n ++ (byte ∷ [])
 
--- a text written at a place
-unfoldable pub pasted : ℕ → List ℕ → List ℕ → List ℕ
-pasted at text out = take at out ++ (text ++ drop (at + length text) out)
-
+-- a text written at a place, and the place after it
 pub record Pasted (text : List ℕ) (at : ℕ) (old : List ℕ) (next : ℕ) (new : List ℕ) : Type 0 where
   pub place : next ≡ at + length text
-  pub holds : new ≡ pasted at text old
+  pub holds : new ≡ overFrom at text old
 
 -- a text over what stood there, and its length
 pub record Printed (text old : List ℕ) (n : ℕ) (new : List ℕ) : Type 0 where

@@ -5,12 +5,13 @@ use mathlib.Core.Bool.{cond}
 use mathlib.Core.List.{List, []}
 use lib.Dec.{ltb}
 use lib.ListN.{length, take, drop, getD}
+use Rattle.coloring.specs.Answers.{gives, refusal}
 use Rattle.job.specs.declared.records.Item.{Item}
 use Rattle.job.specs.declared.records.Item.the-variants.{Header, Contour, Edge, Distances}
 use Rattle.job.specs.declared.part.Span.{Span}
 use Rattle.job.specs.declared.part.Seek.{Seek}
 use Rattle.job.specs.declared.part.Seek.the-variants.{Passing, Open, Done}
-use Rattle.job.specs.Job.{Job, Reading, reads, refuses, contourRecords, outlineRecords, recordBytes}
+use Rattle.job.specs.Job.{Job, Reading, contourRecords, outlineRecords, recordBytes}
 use Rattle.job.specs.Color.{acceptJob}
 
 abbrev pub nowhere : Span
@@ -24,8 +25,8 @@ spanIn job number =
     record { start = start; end = start + length (recordBytes (contourRecords (getD (job .contours) number []))) }
 
 abbrev pub placeIn : Reading → ℕ → Span
-placeIn (reads job) number = cond (ltb number (length (job .contours))) (spanIn job number) nowhere
-placeIn (refuses refusal) number = nowhere
+placeIn (gives job) number = cond (ltb number (length (job .contours))) (spanIn job number) nowhere
+placeIn (refusal reason) number = nowhere
 
 -- where its bytes stand: nowhere for a refused file or a number too large
 unfoldable pub contourPlace : List ℕ → ℕ → Span

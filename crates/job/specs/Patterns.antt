@@ -1,7 +1,6 @@
 -- Numbers in a file, lowest byte first, and the tests of the floats' bit patterns. A pattern is tested as a whole
--- number before it becomes
--- a float, so that nothing turns on the bits of a NaN; proofs/patterns/PatternMeaning.antt says what each test means
--- of the float.
+-- number before it becomes a float, so that nothing turns on the bits of a NaN; proofs/patterns/PatternMeaning.antt
+-- says what each test means of the float.
 use Prim.Native.Nat.{ℕ, zero, suc, _+_, _*_, _/_, _%_}
 use mathlib.Core.Bool.{Bool, _||_}
 use mathlib.Core.List.{List, [], _∷_, _++_, map}

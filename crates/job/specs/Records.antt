@@ -9,11 +9,9 @@ use lib.Ieee.{Float}
 use Rattle.geometry.specs.EdgeSegment.{pointAt, toStored}
 use Rattle.geometry.specs.declared.edge_segment.EdgeSegment.{EdgeSegment}
 use Rattle.geometry.specs.declared.edge_segment.EdgeSegment.the-variants as segment
-use Rattle.coloring.specs.declared.refusal.Refusal.{Refusal}
-use Rattle.coloring.specs.declared.refusal.Refusal.the-variants.{Truncated, UnknownMark, MisplacedMark, TooMany, UnknownKind, BadThreshold}
-use Rattle.coloring.specs.declared.refusal.Refusal.the-variants.{BadCoordinate, BadDistance}
+use Rattle.coloring.specs.Refusal.{refusalNumber}
 use Rattle.coloring.specs.Lists.{all}
-use Rattle.coloring.specs.Limits.{maxDistances}
+use Rattle.coloring.specs.Limits.{maxContours, maxEdges, maxDistances}
 use Rattle.job.specs.declared.records.Strategy.{Strategy}
 use Rattle.job.specs.declared.records.Strategy.the-variants.{Simple, InkTrap, ByDistance}
 use Rattle.job.specs.declared.records.Header as fields
@@ -63,9 +61,13 @@ controls Line = 2
 controls Quadratic = 3
 controls Cubic = 4
 
+-- strategy, seed, threshold
+abbrev pub headerSize : ℕ
+headerSize = 17
+
 -- how many bytes follow the mark; of DS, the count's
 abbrev pub bodySize : Mark → ℕ
-bodySize Header = 17
+bodySize Header = headerSize
 bodySize Contour = 0
 bodySize (Edge kind) = 16 * controls kind
 bodySize Distances = 2
@@ -134,13 +136,13 @@ allowed phase strategy (Edge kind) = inside phase
 allowed phase strategy Distances = among phase && byDistance strategy
 allowed phase strategy End = closing phase || among phase && not (byDistance strategy)
 
--- at most 64 contours and 256 edges; distances are counted in their record
-abbrev pub fits : Numbers → Mark → Bool
-fits n Header = true
-fits n Contour = ltb (n .contours) 64
-fits n (Edge kind) = ltb (n .edges) 256
-fits n Distances = true
-fits n End = true
+-- whether one more is within the maximum; distances are counted in their record
+abbrev pub belowMaximum : Numbers → Mark → Bool
+belowMaximum n Header = true
+belowMaximum n Contour = ltb (n .contours) maxContours
+belowMaximum n (Edge kind) = ltb (n .edges) maxEdges
+belowMaximum n Distances = true
+belowMaximum n End = true
 
 -- ---- one record
 
@@ -150,16 +152,16 @@ pub data Record : Type 0 where
   edge : EdgeSegment → Record
   distances : List Float → Record
 
--- what the first record of some bytes is: a record, with the bytes after it; the end; or its fault
+-- what the first record of some bytes is: a record, with the bytes after it; the end; or the number of its fault
 pub data Step : Type 0 where
   next : Record → List ℕ → Step
   ends : Step
-  fails : Refusal → Step
+  fails : ℕ → Step
 
--- what follows where a test passes, else the refusal
-abbrev pub require : Bool → Refusal → Step → Step
-require true refusal step = step
-require false refusal step = fails refusal
+-- what follows where a test passes, else the refusal with its number
+abbrev pub stepIf : Bool → ℕ → Step → Step
+stepIf true number step = step
+stepIf false number step = fails number
 
 -- the edge of its control points
 abbrev pub edgeOf : Kind → List Float → EdgeSegment
@@ -179,15 +181,15 @@ readHeader body rest =
     let strategy = getD body 0 0 in
     let seed = number (take 8 (drop 1 body)) in
     let threshold = number (take 8 (drop 9 body)) in
-    require (knownStrategy strategy) UnknownKind
-    (require (isThreshold threshold) BadThreshold
+    stepIf (knownStrategy strategy) 5
+    (stepIf (isThreshold threshold) 6
     (next (header (record { strategy = strategyOf strategy; seed = seed; threshold = threshold })) rest))
 
 unfoldable pub readEdge : Kind → List ℕ → List ℕ → Step
 unfolding words floats all
 readEdge kind body rest =
     let coordinates = words (2 * controls kind) body in
-    require (all isCoordinate coordinates) BadCoordinate
+    stepIf (all isCoordinate coordinates) 7
     (next (edge (edgeOf kind (floats coordinates))) rest)
 
 unfoldable pub readDistances : List ℕ → List ℕ → Step
@@ -195,15 +197,15 @@ unfolding number words floats all
 readDistances body rest =
     let count = number body in
     let patterns = words count rest in
-    require (leb count maxDistances) TooMany
-    (require (leb (8 * count) (length rest)) Truncated
-    (require (all isDistance patterns) BadDistance
+    stepIf (leb count maxDistances) 4
+    (stepIf (leb (8 * count) (length rest)) 1
+    (stepIf (all isDistance patterns) 9
     (next (distances (floats patterns)) (drop (8 * count) rest))))
 
 -- any byte after EN is one too many
 unfoldable pub readEnd : List ℕ → Step
 readEnd [] = ends
-readEnd (b ∷ rest) = fails MisplacedMark
+readEnd (b ∷ rest) = fails 3
 
 unfoldable pub readBody : Mark → List ℕ → List ℕ → Step
 unfolding readHeader readEdge readDistances readEnd
@@ -216,18 +218,18 @@ readBody End body rest = readEnd rest
 -- 2, 3, 4, 1 for the rest, then the fields
 unfoldable pub readMarked : State → Marked → List ℕ → Step
 unfolding readBody
-readMarked s Unknown bytes = fails UnknownMark
+readMarked s Unknown bytes = fails 2
 readMarked s (Known mark) bytes =
-    require (allowed (s .phase) (s .numbers .header .strategy) mark) MisplacedMark
-    (require (fits (s .numbers) mark) TooMany
-    (require (leb (bodySize mark) (length bytes)) Truncated
+    stepIf (allowed (s .phase) (s .numbers .header .strategy) mark) 3
+    (stepIf (belowMaximum (s .numbers) mark) 4
+    (stepIf (leb (bodySize mark) (length bytes)) 1
     (readBody mark (take (bodySize mark) bytes) (drop (bodySize mark) bytes))))
 
 -- 1 for the mark first
 unfoldable pub readRecord : State → List ℕ → Step
 unfolding markOf readMarked
-readRecord s [] = fails Truncated
-readRecord s (a ∷ []) = fails Truncated
+readRecord s [] = fails 1
+readRecord s (a ∷ []) = fails 1
 readRecord s (a ∷ b ∷ bytes) = readMarked s (markOf a b) bytes
 
 -- ---- and back: a record as it stands in a file
@@ -286,16 +288,16 @@ after s item = record { phase = phaseAfter (s .phase) item; numbers = counted (s
 -- the records of a file up to its end or the first fault
 pub data Records : Type 0 where
   complete : Records
-  fault : Refusal → Records
+  fault : ℕ → Records
   _then_ : Record → Records → Records
 
 infixr 5 _then_
 -- a record takes two bytes or more, so a file has no more records than bytes
 unfoldable pub recordsWithin : ℕ → State → List ℕ → Records
 unfolding readRecord
-recordsWithin zero s bytes = fault Truncated
+recordsWithin zero s bytes = fault 1
 recordsWithin (suc n) s bytes =
-    elim (readRecord s bytes) [ next r rest ↦ r then recordsWithin n (after s (itemOf r)) rest | ends ↦ complete | fails refusal ↦ fault refusal ]
+    elim (readRecord s bytes) [ next r rest ↦ r then recordsWithin n (after s (itemOf r)) rest | ends ↦ complete | fails number ↦ fault number ]
 
 unfoldable pub recordsFrom : State → List ℕ → Records
 unfolding recordsWithin
@@ -306,7 +308,18 @@ recordsFrom s bytes = recordsWithin (length bytes) s bytes
 abbrev pub recordSize : Record → ℕ
 recordSize r = length (bytesOf r)
 
-abbrev pub foundOf : Step → Found
-foundOf (next r rest) = found.Item (itemOf r) (recordSize r)
-foundOf ends = found.End
-foundOf (fails refusal) = found.Fails refusal
+-- an item with the bytes that its record takes, the end, or the number of a fault
+pub data Finding : Type 0 where
+  finds : Item → ℕ → Finding
+  finished : Finding
+  faulty : ℕ → Finding
+
+abbrev pub foundAnswer : Found → Finding
+foundAnswer (found.Item item size) = finds item size
+foundAnswer found.End = finished
+foundAnswer (found.Fails r) = faulty (refusalNumber r)
+
+abbrev pub foundOf : Step → Finding
+foundOf (next r rest) = finds (itemOf r) (recordSize r)
+foundOf ends = finished
+foundOf (fails number) = faulty number

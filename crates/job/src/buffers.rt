@@ -4,6 +4,7 @@ use crate::progress::Numbers;
 use crate::records;
 use crate::records::Item;
 use crate::records::Kind;
+use crate::records::Mark;
 use math::bits::float;
 ghost use mathlib.Core.Path.{_≡_};
 ghost use Prim.Native.Nat.{_*_, _≤_};
@@ -11,8 +12,9 @@ ghost use lib.ListN.{length, replicate};
 ghost use Rattle.math.specs.Scalar.{f0};
 ghost use Rattle.coloring.specs.Lists.{over};
 ghost use Rattle.job.specs.Patterns.{words, floats};
-ghost use Rattle.job.specs.Records.{controls};
-ghost use Rattle.job.specs.Buffers.{buffers, kindNumber, placesFrom, written, Room, Hold};
+ghost use Rattle.job.specs.declared.records.Mark.the-variants.{Edge};
+ghost use Rattle.job.specs.Records.{bodySize};
+ghost use Rattle.job.specs.Buffers.{buffers, kindNumber, pointsRead, written, RecordFits, Hold};
 
 // +0 in every place.
 fn clear(places: &mut [f64])
@@ -41,8 +43,8 @@ fn write_floats(n: usize, bytes: &[u8], to: &mut [f64])
 
 // The eight places of an edge, from its bytes: its control points, then +0.
 fn write_points(kind: Kind, body: &[u8], places: &mut [f64])
-    requires { ⌜ (length (now body) ≡ 16 * controls kind) × (length (now places) ≡ 8) ⌝ }
-    ensures { λ _. ⌜ now (places .exit) ≡ placesFrom kind (now (body .entry)) ⌝ }
+    requires { ⌜ (length (now body) ≡ bodySize (Edge kind)) × (length (now places) ≡ 8) ⌝ }
+    ensures { λ _. ⌜ now (places .exit) ≡ pointsRead kind (now (body .entry)) ⌝ }
 {
     clear(places);
     write_floats(2 * records::controls(kind), body, places);
@@ -68,7 +70,7 @@ pub(crate) fn write_item(
     points: &mut [f64],
     distances: &mut [f64],
 )
-    requires { ⌜ Room item n (now bytes) (buffers (now lengths) (now kinds) (now points) (now distances)) ⌝ }
+    requires { ⌜ RecordFits item n (now bytes) (buffers (now lengths) (now kinds) (now points) (now distances)) ⌝ }
     ensures { λ _. ⌜ Hold
         (written item n (now (bytes .entry)) (buffers (now (lengths .entry)) (now (kinds .entry)) (now (points .entry)) (now (distances .entry))))
         (now (lengths .exit)) (now (kinds .exit)) (now (points .exit)) (now (distances .exit)) ⌝ }
@@ -84,7 +86,7 @@ pub(crate) fn write_item(
             lengths[last] = lengths[last] + 1;
             let edges = n.edges;
             kinds[edges] = kind_number(kind);
-            let end = 2 + 16 * records::controls(kind);
+            let end = 2 + records::body_size(Mark::Edge(kind));
             let from = 8 * edges;
             let to = from + 8;
             write_points(kind, &bytes[2..end], &mut points[from..to]);

@@ -1,4 +1,11 @@
 // Reading and colouring in one: a file, and four buffers that its coloured shape goes to.
+use crate::limits::MAX_CONTOURS;
+use crate::limits::MAX_DISTANCES;
+use crate::limits::MAX_EDGES;
+use crate::limits::MAX_PLACES;
+use crate::limits::MAX_RESULT_EDGES;
+use crate::limits::MAX_RESULT_PLACES;
+use crate::limits::MAX_SPLINES;
 use crate::progress;
 use crate::progress::Numbers;
 use crate::progress::Read;
@@ -14,10 +21,12 @@ use coloring::refusal::Refusal;
 use math::bits::float;
 ghost use mathlib.Core.Path.{_≡_};
 ghost use Prim.Native.Nat.{_-_, _*_, _/_, _≤_};
-ghost use Rattle.coloring.specs.Outline.{result, outcome};
+ghost use Rattle.coloring.specs.Limits.{maxSplines};
+ghost use Rattle.coloring.specs.Outline.{result, atEntry, atExit, coloredAnswer, outcome};
 ghost use Rattle.job.specs.Job.{readJob};
 ghost use Rattle.job.specs.Buffers.{buffers};
-ghost use Rattle.job.specs.Progress.{answerOf};
+ghost use Rattle.job.specs.Reader.{jobAtEntry};
+ghost use Rattle.job.specs.Progress.{readAnswer, answerOf};
 ghost use Rattle.job.specs.Color.{colorStored, colorFile, checkFile, acceptJob, paired, AsksDistances, HoldsJobs, HoldsResults};
 
 // The colouring of an outline by a strategy.
@@ -34,9 +43,9 @@ fn color_stored(
     out_points: &mut [f64],
     out_colors: &mut [u8],
 ) -> Colored
-    ensures { λ r. ⌜ outcome r (result (now («out_lengths» .exit)) (now («out_kinds» .exit)) (now («out_points» .exit)) (now («out_colors» .exit))) ≡
-        colorStored strategy seed threshold (buffers (now (lengths .entry)) (now (kinds .entry)) (now (points .entry)) (now (distances .entry)))
-        (result (now («out_lengths» .entry)) (now («out_kinds» .entry)) (now («out_points» .entry)) (now («out_colors» .entry))) ⌝ }
+    ensures { λ r. ⌜ outcome (coloredAnswer r) (atExit «out_lengths» «out_kinds» «out_points» «out_colors»)
+        ≡ colorStored strategy seed threshold (jobAtEntry lengths kinds points distances)
+        (atEntry «out_lengths» «out_kinds» «out_points» «out_colors») ⌝ }
 {
     match strategy {
         Strategy::Simple => edge_coloring_simple(
@@ -89,9 +98,8 @@ fn color_in(
     out_colors: &mut [u8],
 ) -> Colored
     requires { ⌜ HoldsJobs (buffers (now lengths) (now kinds) (now points) (now distances)) ⌝ }
-    ensures { λ r. ⌜ outcome r (result (now («out_lengths» .exit)) (now («out_kinds» .exit)) (now («out_points» .exit)) (now («out_colors» .exit))) ≡
-        colorFile (now (file .entry))
-        (result (now («out_lengths» .entry)) (now («out_kinds» .entry)) (now («out_points» .entry)) (now («out_colors» .entry))) ⌝ }
+    ensures { λ r. ⌜ outcome (coloredAnswer r) (atExit «out_lengths» «out_kinds» «out_points» «out_colors»)
+        ≡ colorFile (now (file .entry)) (atEntry «out_lengths» «out_kinds» «out_points» «out_colors») ⌝ }
 {
     match progress::scan(file) {
         Read::Job(n) => {
@@ -122,8 +130,8 @@ fn color_in(
 }
 
 // Reads a file and colours its job by its strategy: how many edges, and the coloured shape in the buffers; or the
-// first refusal, 11 where a
-// buffer is too short. A refusal leaves every buffer as it came, and places beyond the result keep theirs.
+// first refusal, 11 where a buffer is too short. A refusal leaves every buffer as it came, and places beyond the
+// result keep theirs.
 pub fn color(
     file: &[u8],
     out_lengths: &mut [u16],
@@ -131,14 +139,13 @@ pub fn color(
     out_points: &mut [f64],
     out_colors: &mut [u8],
 ) -> Colored
-    ensures { λ r. ⌜ outcome r (result (now («out_lengths» .exit)) (now («out_kinds» .exit)) (now («out_points» .exit)) (now («out_colors» .exit))) ≡
-        colorFile (now (file .entry))
-        (result (now («out_lengths» .entry)) (now («out_kinds» .entry)) (now («out_points» .entry)) (now («out_colors» .entry))) ⌝ }
+    ensures { λ r. ⌜ outcome (coloredAnswer r) (atExit «out_lengths» «out_kinds» «out_points» «out_colors»)
+        ≡ colorFile (now (file .entry)) (atEntry «out_lengths» «out_kinds» «out_points» «out_colors») ⌝ }
 {
-    let mut lengths = [0u16; 64];
-    let mut kinds = [0u8; 256];
-    let mut points = [0.0f64; 2048];
-    let mut distances = [0.0f64; 2016];
+    let mut lengths = [0u16; MAX_CONTOURS];
+    let mut kinds = [0u8; MAX_EDGES];
+    let mut points = [0.0f64; MAX_PLACES];
+    let mut distances = [0.0f64; MAX_DISTANCES];
     color_in(
         file,
         &mut lengths,
@@ -154,7 +161,7 @@ pub fn color(
 
 // How many pairs so many splines have.
 fn pair_count(splines: usize) -> usize
-    requires { ⌜ splines ≤ 64 ⌝ }
+    requires { ⌜ splines ≤ maxSplines ⌝ }
     ensures { λ r. ⌜ r ≡ splines * (splines - 1) / 2 ⌝ }
 {
     if splines == 0 {
@@ -165,12 +172,12 @@ fn pair_count(splines: usize) -> usize
 
 // What was counted, where it has one distance for each pair of splines.
 fn paired(counted: Colored, distances: usize) -> Colored
-    ensures { λ r. ⌜ r ≡ paired counted distances ⌝ }
+    ensures { λ r. ⌜ coloredAnswer r ≡ paired (coloredAnswer counted) distances ⌝ }
 {
     match counted {
         Colored::Edges(counts) => {
             let splines = counts.splines;
-            if splines > 64 {
+            if splines > MAX_SPLINES {
                 return Colored::Refused(Refusal::TooMany);
             }
             if distances != pair_count(splines) {
@@ -198,7 +205,7 @@ fn check_by_distance(
     requires { ⌜ AsksDistances (readJob (now file)) n ⌝ }
     requires { ⌜ HoldsJobs (buffers (now lengths) (now kinds) (now points) (now distances)) ⌝ }
     requires { ⌜ HoldsResults (result (now «out_lengths») (now «out_kinds») (now «out_points») (now «out_splines»)) ⌝ }
-    ensures { λ r. ⌜ r ≡ checkFile (now (file .entry)) ⌝ }
+    ensures { λ r. ⌜ coloredAnswer r ≡ checkFile (now (file .entry)) ⌝ }
 {
     reader::fill(file, lengths, kinds, points, distances);
     let contours = n.contours;
@@ -221,20 +228,20 @@ fn check_by_distance(
 
 // The answer of reading and colouring a file where every result has room: how many edges, or the first refusal.
 pub fn check(file: &[u8]) -> Colored
-    ensures { λ r. ⌜ r ≡ checkFile (now (file .entry)) ⌝ }
+    ensures { λ r. ⌜ coloredAnswer r ≡ checkFile (now (file .entry)) ⌝ }
 {
-    let mut out_lengths = [0u16; 64];
-    let mut out_kinds = [0u8; 508];
-    let mut out_points = [0.0f64; 4064];
-    let mut out_colors = [0u8; 508];
+    let mut out_lengths = [0u16; MAX_CONTOURS];
+    let mut out_kinds = [0u8; MAX_RESULT_EDGES];
+    let mut out_points = [0.0f64; MAX_RESULT_PLACES];
+    let mut out_colors = [0u8; MAX_RESULT_EDGES];
     if let Read::Job(n) = progress::scan(file) {
         let header = n.header;
         let strategy = header.strategy;
         if records::by_distance(strategy) {
-            let mut lengths = [0u16; 64];
-            let mut kinds = [0u8; 256];
-            let mut points = [0.0f64; 2048];
-            let mut distances = [0.0f64; 2016];
+            let mut lengths = [0u16; MAX_CONTOURS];
+            let mut kinds = [0u8; MAX_EDGES];
+            let mut points = [0.0f64; MAX_PLACES];
+            let mut distances = [0.0f64; MAX_DISTANCES];
             return check_by_distance(
                 file,
                 n,
@@ -261,7 +268,7 @@ pub fn check(file: &[u8]) -> Colored
 // The numbers of an accepted file's job, or the first refusal of reading and checking it. A job without distances has
 // nothing left to check.
 pub(crate) fn accept(file: &[u8]) -> Read
-    ensures { λ r. ⌜ r ≡ answerOf (acceptJob (now (file .entry))) ⌝ }
+    ensures { λ r. ⌜ readAnswer r ≡ answerOf (acceptJob (now (file .entry))) ⌝ }
 {
     match progress::scan(file) {
         Read::Job(n) => {

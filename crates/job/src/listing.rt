@@ -1,19 +1,22 @@
 // The text of an answer, written into a byte buffer. Each function gives the place after what it wrote.
 use crate::color;
-use crate::progress;
-use crate::progress::Read;
+use crate::limits::MAX_CONTOURS;
+use crate::limits::MAX_RESULT_EDGES;
+use crate::limits::MAX_RESULT_PLACES;
+use crate::limits::MAX_TEXT;
 use coloring::outline::Colored;
 use coloring::refusal::Refusal;
 ghost use mathlib.Core.Path.{_≡_};
 ghost use mathlib.Core.List.{[], _∷_};
 ghost use Prim.Native.Nat.{_+_, _≤_, _<_};
 ghost use lib.ListN.{length};
+ghost use Rattle.coloring.specs.Refusal.{refusalNumber};
 ghost use Rattle.coloring.specs.Places.{total};
 ghost use Rattle.coloring.specs.Outline.{cut, result};
-ghost use Rattle.job.specs.Job.{readJob};
+ghost use Rattle.job.specs.Limits.{maxText};
 ghost use Rattle.job.specs.Color.{HoldsResults};
-ghost use Rattle.job.specs.Listing.{digit, decimal, letter, field, line, contourLines, shapeLines, listing, refusalLine, fileText, listFile};
-ghost use Rattle.job.specs.Listing.{outcome, contourCount, Pasted, Printed};
+ghost use Rattle.job.specs.Listing.{digit, decimal, letter, field, edgeLine, contourLines, shapeLines, listing, refusalLine, fileText, listFile};
+ghost use Rattle.job.specs.Listing.{textOutcome, listedAnswer, Pasted, Printed};
 
 // The answer of a listing: how many bytes were written, or 11.
 pub enum Listed {
@@ -75,8 +78,8 @@ fn put_field(out: &mut [u8], at: usize, n: usize, byte: u8) -> usize
 }
 
 fn put_line(out: &mut [u8], at: usize, contour: usize, place: usize, kind: u8, color: u8) -> usize
-    requires { ⌜ (contour < 1000) × (place < 1000) × (at + length (line contour place kind color) ≤ length (now out)) ⌝ }
-    ensures { λ r. ⌜ Pasted (line contour place kind color) at (now (out .entry)) r (now (out .exit)) ⌝ }
+    requires { ⌜ (contour < 1000) × (place < 1000) × (at + length (edgeLine contour place kind color) ≤ length (now out)) ⌝ }
+    ensures { λ r. ⌜ Pasted (edgeLine contour place kind color) at (now (out .entry)) r (now (out .exit)) ⌝ }
 {
     let second = put_field(out, at, contour, b' ');
     let third = put_field(out, second, place, b' ');
@@ -150,21 +153,11 @@ fn write_listing(lengths: &[u16], kinds: &[u8], colors: &[u8], out: &mut [u8]) -
 
 // The text of a refusal, from the start of the buffer; how many bytes.
 fn write_refusal(refusal: Refusal, out: &mut [u8]) -> usize
-    requires { ⌜ length (refusalLine refusal) ≤ length (now out) ⌝ }
-    ensures { λ r. ⌜ Pasted (refusalLine refusal) 0 (now (out .entry)) r (now (out .exit)) ⌝ }
+    requires { ⌜ length (refusalLine (refusalNumber refusal)) ≤ length (now out) ⌝ }
+    ensures { λ r. ⌜ Pasted (refusalLine (refusalNumber refusal)) 0 (now (out .entry)) r (now (out .exit)) ⌝ }
 {
     let word = put_word(out, 0, b"refused ");
     put_field(out, word, refusal.number() as usize, b'\n')
-}
-
-// How many contours a file's job has.
-fn contour_count(file: &[u8]) -> usize
-    ensures { λ r. ⌜ r ≡ contourCount (readJob (now (file .entry))) ⌝ }
-{
-    match progress::scan(file) {
-        Read::Job(n) => n.contours,
-        Read::Refused(_) => 0,
-    }
 }
 
 // The text of a file's answer, with places for its coloured shape.
@@ -177,12 +170,12 @@ fn write_answer(
     text: &mut [u8],
 ) -> usize
     requires { ⌜ HoldsResults (result (now lengths) (now kinds) (now points) (now colors)) ⌝ }
-    requires { ⌜ 5598 ≤ length (now text) ⌝ }
+    requires { ⌜ maxText ≤ length (now text) ⌝ }
     ensures { λ r. ⌜ Pasted (fileText (now (file .entry))) 0 (now (text .entry)) r (now (text .exit)) ⌝ }
 {
     match color::color(file, lengths, kinds, points, colors) {
         Colored::Edges(counts) => {
-            let contours = contour_count(file);
+            let contours = counts.contours;
             let edges = counts.edges;
             write_listing(
                 &lengths[..contours],
@@ -196,13 +189,13 @@ fn write_answer(
 }
 
 // The text of a file's answer, at the start of a buffer that holds every text; how many bytes. What `channels` prints.
-pub fn text(file: &[u8], out: &mut [u8; 5598]) -> usize
+pub fn text(file: &[u8], out: &mut [u8; MAX_TEXT]) -> usize
     ensures { λ r. ⌜ Printed (fileText (now (file .entry))) (now (out .entry)) r (now (out .exit)) ⌝ }
 {
-    let mut lengths = [0u16; 64];
-    let mut kinds = [0u8; 508];
-    let mut points = [0.0f64; 4064];
-    let mut colors = [0u8; 508];
+    let mut lengths = [0u16; MAX_CONTOURS];
+    let mut kinds = [0u8; MAX_RESULT_EDGES];
+    let mut points = [0.0f64; MAX_RESULT_PLACES];
+    let mut colors = [0u8; MAX_RESULT_EDGES];
     write_answer(
         file,
         &mut lengths,
@@ -214,12 +207,12 @@ pub fn text(file: &[u8], out: &mut [u8; 5598]) -> usize
 }
 
 // Reads a file, colours its job and lists it: how many bytes of text, which stand at the buffer's start; or 11 where
-// they do not fit, and the
-// buffer is as it came. A file that is refused has a text too, one line. No text is longer than 5,598 bytes.
+// they do not fit, and the buffer is as it came. A file that is refused has a text too, one line. No text is longer
+// than 5,598 bytes.
 pub fn listing(file: &[u8], out: &mut [u8]) -> Listed
-    ensures { λ r. ⌜ outcome r (now (out .exit)) ≡ listFile (now (file .entry)) (now (out .entry)) ⌝ }
+    ensures { λ r. ⌜ textOutcome (listedAnswer r) (now (out .exit)) ≡ listFile (now (file .entry)) (now (out .entry)) ⌝ }
 {
-    let mut whole = [0u8; 5598];
+    let mut whole = [0u8; MAX_TEXT];
     let n = text(file, &mut whole);
     if n > out.len() {
         return Listed::Refused(Refusal::ResultTooShort);

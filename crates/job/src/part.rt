@@ -9,7 +9,8 @@ ghost use mathlib.Core.Path.{_≡_};
 ghost use lib.ListN.{length};
 ghost use mathlib.Core.Bool.{true};
 ghost use Rattle.job.specs.Job.{readJob};
-ghost use Rattle.job.specs.Color.{hasJob, accepted};
+ghost use Rattle.coloring.specs.Answers.{succeeds};
+ghost use Rattle.job.specs.Color.{accepted};
 ghost use Rattle.job.specs.Part.{sought, spanOf, placeIn, contourPlace, contourPart, Inside};
 
 // From a byte up to another.
@@ -67,7 +68,7 @@ fn span_of(q: Seek, at: usize) -> Span
 
 // Where a contour stands in a file that is read; from 0 up to 0 where it has too few.
 fn contour_span(file: &[u8], number: usize) -> Span
-    requires { ⌜ hasJob (readJob (now file)) ≡ true ⌝ }
+    requires { ⌜ succeeds (readJob (now file)) ≡ true ⌝ }
     ensures { λ r. ⌜ r ≡ placeIn (readJob (now (file .entry))) number ⌝ }
     ensures { λ r. ⌜ Inside r (length (now (file .entry))) ⌝ }
 {

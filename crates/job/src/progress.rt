@@ -11,7 +11,7 @@ ghost use mathlib.Core.Path.{_≡_};
 ghost use Rattle.job.specs.Job.{readJob};
 ghost use Prim.Native.Nat.{_<_};
 ghost use Rattle.job.specs.Records.{phaseAfter, counted};
-ghost use Rattle.job.specs.Progress.{begin, advanced, answerOf, Counts};
+ghost use Rattle.job.specs.Progress.{readAnswer, begin, advanced, answerOf, CanAdvance};
 
 // The numbers of a job: its header, and how many contours, edges and distances it has.
 pub struct Numbers {
@@ -101,7 +101,7 @@ fn counted(n: Numbers, item: Item) -> Numbers
 
 // One record further, which takes so many bytes.
 pub(crate) fn advance(p: Progress, item: Item, size: usize) -> Progress
-    requires { ⌜ Counts p size ⌝ }
+    requires { ⌜ CanAdvance p size ⌝ }
     ensures { λ r. ⌜ r ≡ advanced p item size ⌝ }
 {
     let s = p.state;
@@ -121,7 +121,7 @@ pub(crate) fn advance(p: Progress, item: Item, size: usize) -> Progress
 
 // The numbers of a file's job, or its first refusal.
 pub(crate) fn scan(file: &[u8]) -> Read
-    ensures { λ r. ⌜ r ≡ answerOf (readJob (now (file .entry))) ⌝ }
+    ensures { λ r. ⌜ readAnswer r ≡ answerOf (readJob (now (file .entry))) ⌝ }
 {
     let mut p = begin();
     loop {

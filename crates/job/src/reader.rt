@@ -9,10 +9,12 @@ use crate::records::Found;
 use coloring::refusal::Refusal;
 ghost use mathlib.Core.Path.{_≡_};
 ghost use Prim.Native.Nat.{_≤_};
+ghost use Rattle.coloring.specs.Limits.{maxEdges};
 ghost use Rattle.job.specs.Job.{readJob};
 ghost use Rattle.job.specs.Color.{acceptJob};
 ghost use Rattle.job.specs.Buffers.{buffers, roomFor, Hold};
-ghost use Rattle.job.specs.Reader.{readInto, Delivers, Fits, filled};
+ghost use Rattle.job.specs.Progress.{readAnswer};
+ghost use Rattle.job.specs.Reader.{readOutcome, jobAtEntry, jobAtExit, readInto, Fits, filled};
 
 // The job of a file that is read and has room, written into the buffers.
 pub(crate) fn fill(
@@ -24,7 +26,7 @@ pub(crate) fn fill(
 )
     requires { ⌜ Fits (readJob (now file)) (buffers (now lengths) (now kinds) (now points) (now distances)) ⌝ }
     ensures { λ _. ⌜ Hold
-        (filled (readJob (now (file .entry))) (buffers (now (lengths .entry)) (now (kinds .entry)) (now (points .entry)) (now (distances .entry))))
+        (filled (readJob (now (file .entry))) (jobAtEntry lengths kinds points distances))
         (now (lengths .exit)) (now (kinds .exit)) (now (points .exit)) (now (distances .exit)) ⌝ }
 {
     let mut p = progress::begin();
@@ -56,7 +58,7 @@ pub(crate) fn fill(
 }
 
 fn has_room(n: Numbers, lengths: usize, kinds: usize, points: usize, distances: usize) -> bool
-    requires { ⌜ n .edges ≤ 256 ⌝ }
+    requires { ⌜ n .edges ≤ maxEdges ⌝ }
     ensures { λ r. ⌜ r ≡ roomFor n lengths kinds points distances ⌝ }
 {
     if n.contours > lengths {
@@ -72,9 +74,8 @@ fn has_room(n: Numbers, lengths: usize, kinds: usize, points: usize, distances: 
 }
 
 // Reads a file: the numbers of its job, and its contours and distances into the buffers; or the number that `check`
-// gives; or 11 where a buffer
-// is too short.
-// A refusal leaves every buffer as it came, and places beyond the job keep theirs.
+// gives; or 11 where a buffer is too short. A refusal leaves every buffer as it came, and places beyond the job keep
+// theirs.
 pub fn read(
     file: &[u8],
     lengths: &mut [u16],
@@ -82,9 +83,8 @@ pub fn read(
     points: &mut [f64],
     distances: &mut [f64],
 ) -> Read
-    ensures { λ r. ⌜ Delivers
-        (readInto (acceptJob (now (file .entry))) (buffers (now (lengths .entry)) (now (kinds .entry)) (now (points .entry)) (now (distances .entry))))
-        r (now (lengths .exit)) (now (kinds .exit)) (now (points .exit)) (now (distances .exit)) ⌝ }
+    ensures { λ r. ⌜ readOutcome (readAnswer r) (jobAtExit lengths kinds points distances)
+        ≡ readInto (acceptJob (now (file .entry))) (jobAtEntry lengths kinds points distances) ⌝ }
 {
     match color::accept(file) {
         Read::Job(n) => {

@@ -1,5 +1,8 @@
 // The records of a job file, one after another: a mark of two letters, then its fields (document 01, "Trays and the
 // job file").
+use crate::limits::MAX_CONTOURS;
+use crate::limits::MAX_DISTANCES;
+use crate::limits::MAX_EDGES;
 use crate::patterns;
 use crate::patterns::Range;
 use crate::progress::Numbers;
@@ -7,10 +10,10 @@ use coloring::refusal::Refusal;
 ghost use mathlib.Core.Path.{_≡_};
 ghost use mathlib.Core.List.{[]};
 ghost use lib.ListN.{length};
-ghost use Rattle.job.specs.declared.records.Mark.the-variants.{Edge};
+ghost use Rattle.job.specs.declared.records.Mark.the-variants.{Edge, Distances};
 ghost use Rattle.job.specs.declared.records.Marked.the-variants.{Known};
-ghost use Rattle.job.specs.Records.{strategyNumber, strategyOf, byDistance, markOf, controls, bodySize, atStart, inside, among, closing};
-ghost use Rattle.job.specs.Records.{allowed, fits, readHeader, readEdge, readDistances, readEnd, readBody, readMarked, readRecord, foundOf};
+ghost use Rattle.job.specs.Records.{strategyNumber, strategyOf, byDistance, markOf, controls, headerSize, bodySize, atStart, inside, among, closing};
+ghost use Rattle.job.specs.Records.{allowed, belowMaximum, readHeader, readEdge, readDistances, readEnd, readBody, readMarked, readRecord, foundAnswer, foundOf};
 
 pub enum Strategy {
     Simple,
@@ -153,7 +156,7 @@ pub(crate) fn controls(kind: Kind) -> usize
 }
 
 // How many bytes follow a mark; of DS, the count's.
-fn body_size(mark: Mark) -> usize
+pub(crate) fn body_size(mark: Mark) -> usize
     ensures { λ r. ⌜ r ≡ bodySize mark ⌝ }
 {
     match mark {
@@ -235,13 +238,13 @@ fn allowed(phase: Phase, strategy: Strategy, mark: Mark) -> bool
 }
 
 // Whether one more such record is within the maximum.
-fn fits(n: Numbers, mark: Mark) -> bool
-    ensures { λ r. ⌜ r ≡ fits n mark ⌝ }
+fn below_maximum(n: Numbers, mark: Mark) -> bool
+    ensures { λ r. ⌜ r ≡ belowMaximum n mark ⌝ }
 {
     match mark {
         Mark::Header => true,
-        Mark::Contour => n.contours < 64,
-        Mark::Edge(_) => n.edges < 256,
+        Mark::Contour => n.contours < MAX_CONTOURS,
+        Mark::Edge(_) => n.edges < MAX_EDGES,
         Mark::Distances => true,
         Mark::End => true,
     }
@@ -261,8 +264,8 @@ fn strategy_of(number: u8) -> Strategy
 }
 
 fn read_header(body: &[u8]) -> Found
-    requires { ⌜ length (now body) ≡ 17 ⌝ }
-    ensures { λ r. ⌜ r ≡ foundOf (readHeader (now (body .entry)) []) ⌝ }
+    requires { ⌜ length (now body) ≡ headerSize ⌝ }
+    ensures { λ r. ⌜ foundAnswer r ≡ foundOf (readHeader (now (body .entry)) []) ⌝ }
 {
     let number = body[0];
     if number < 1 {
@@ -287,7 +290,7 @@ fn read_header(body: &[u8]) -> Found
 
 fn read_edge(kind: Kind, body: &[u8]) -> Found
     requires { ⌜ length (now body) ≡ bodySize (Edge kind) ⌝ }
-    ensures { λ r. ⌜ r ≡ foundOf (readEdge kind (now (body .entry)) []) ⌝ }
+    ensures { λ r. ⌜ foundAnswer r ≡ foundOf (readEdge kind (now (body .entry)) []) ⌝ }
 {
     if patterns::words_within(Range::Coordinate, 2 * controls(kind), body) {
         return Found::Item(Item::Edge(kind), 2 + body.len());
@@ -296,11 +299,11 @@ fn read_edge(kind: Kind, body: &[u8]) -> Found
 }
 
 fn read_distances(body: &[u8], rest: &[u8]) -> Found
-    requires { ⌜ length (now body) ≡ 2 ⌝ }
-    ensures { λ r. ⌜ r ≡ foundOf (readDistances (now (body .entry)) (now (rest .entry))) ⌝ }
+    requires { ⌜ length (now body) ≡ bodySize Distances ⌝ }
+    ensures { λ r. ⌜ foundAnswer r ≡ foundOf (readDistances (now (body .entry)) (now (rest .entry))) ⌝ }
 {
     let count = patterns::number(body) as usize;
-    if 2016 < count {
+    if MAX_DISTANCES < count {
         return Found::Fails(Refusal::TooMany);
     }
     if rest.len() < 8 * count {
@@ -313,7 +316,7 @@ fn read_distances(body: &[u8], rest: &[u8]) -> Found
 }
 
 fn read_end(rest: &[u8]) -> Found
-    ensures { λ r. ⌜ r ≡ foundOf (readEnd (now (rest .entry))) ⌝ }
+    ensures { λ r. ⌜ foundAnswer r ≡ foundOf (readEnd (now (rest .entry))) ⌝ }
 {
     if rest.len() == 0 {
         return Found::End;
@@ -323,7 +326,7 @@ fn read_end(rest: &[u8]) -> Found
 
 fn read_body(mark: Mark, body: &[u8], rest: &[u8]) -> Found
     requires { ⌜ length (now body) ≡ bodySize mark ⌝ }
-    ensures { λ r. ⌜ r ≡ foundOf (readBody mark (now (body .entry)) (now (rest .entry))) ⌝ }
+    ensures { λ r. ⌜ foundAnswer r ≡ foundOf (readBody mark (now (body .entry)) (now (rest .entry))) ⌝ }
 {
     match mark {
         Mark::Header => read_header(body),
@@ -336,7 +339,7 @@ fn read_body(mark: Mark, body: &[u8], rest: &[u8]) -> Found
 
 // The record of a known mark, from the bytes after it.
 fn read_marked(s: State, mark: Mark, bytes: &[u8]) -> Found
-    ensures { λ r. ⌜ r ≡ foundOf (readMarked s (Known mark) (now (bytes .entry))) ⌝ }
+    ensures { λ r. ⌜ foundAnswer r ≡ foundOf (readMarked s (Known mark) (now (bytes .entry))) ⌝ }
 {
     let phase = s.phase;
     let numbers = s.numbers;
@@ -345,7 +348,7 @@ fn read_marked(s: State, mark: Mark, bytes: &[u8]) -> Found
     if !allowed(phase, strategy, mark) {
         return Found::Fails(Refusal::MisplacedMark);
     }
-    if !fits(numbers, mark) {
+    if !below_maximum(numbers, mark) {
         return Found::Fails(Refusal::TooMany);
     }
     let size = body_size(mark);
@@ -357,7 +360,7 @@ fn read_marked(s: State, mark: Mark, bytes: &[u8]) -> Found
 
 // The first record of some bytes.
 pub(crate) fn read_record(s: State, bytes: &[u8]) -> Found
-    ensures { λ r. ⌜ r ≡ foundOf (readRecord s (now (bytes .entry))) ⌝ }
+    ensures { λ r. ⌜ foundAnswer r ≡ foundOf (readRecord s (now (bytes .entry))) ⌝ }
 {
     if bytes.len() < 2 {
         return Found::Fails(Refusal::Truncated);

@@ -1,6 +1,6 @@
--- What an entry does with its buffers: a checked outline's agree, and the count decides whether the result resultFits.
+-- What an entry does with its buffers: a checked outline's agree, and the count decides whether the result fits.
 use mathlib.Core.Path.{_≡_, refl, sym, ap, _∙_}
-use mathlib.Core.Bool.{Bool, true, false, _&&_, cond}
+use mathlib.Core.Bool.{Bool, true, false, _&&_}
 use mathlib.Core.List.{List, [], _∷_, _++_, map, flatten}
 use Prim.Native.Nat.{ℕ, suc, _*_, _≤_}
 use lib.Dec.{leb, eqb}
@@ -9,15 +9,11 @@ use lib.ListN.{length, take, drop, length-take, length-drop, length-map}
 use lib.Seq.{take-at}
 use borrow.Author.Tests.{leb-true, eqb-true}
 use Rattle.geometry.specs.declared.edge_segment.EdgeSegment.{EdgeSegment}
-use Rattle.coloring.specs.declared.refusal.Refusal.{Refusal}
-use Rattle.coloring.specs.declared.refusal.Refusal.the-variants.{ResultTooShort}
-use Rattle.coloring.specs.declared.refusal.Checked.{Checked}
-use Rattle.coloring.specs.declared.refusal.Checked.the-variants.{Passed, Failed}
+use Rattle.coloring.specs.Answers.{gives, allPass, firstRefusal, passed-both}
+use Rattle.coloring.specs.DeliverLaws.{deliver-fits}
 use Rattle.coloring.specs.Bools.{and-left, and-right}
 use Rattle.coloring.specs.Lists.{over}
-use Rattle.coloring.specs.Refusal.{required}
 use Rattle.coloring.specs.declared.outline.Counts.{Counts}
-use Rattle.coloring.specs.declared.outline.Colored.the-variants.{Edges, Refused}
 use Rattle.coloring.specs.Places.{total}
 use Rattle.coloring.specs.Corners.{Cornered, edgesIn, flagsIn, cornered}
 use Rattle.coloring.specs.Layout.{layout, resultEdges}
@@ -29,11 +25,11 @@ use Rattle.coloring.proofs.layout.SplitLaws.{total-laid}
 
 -- ---- an outline that passed
 
-pub passed-agrees : (o : Outline) (threshold : Float) → check o threshold ≡ Passed → Agrees o
+pub passed-agrees : (o : Outline) (threshold : Float) → firstRefusal (check o threshold) ≡ allPass → Agrees o
 unfolding check
 passed-agrees o threshold e =
-    let few = required (leb (length (o .lengths)) 64 && leb (total (o .lengths)) 256) _ _ e in
-    let same = required (eqb (length (o .kinds)) (total (o .lengths)) && eqb (length (o .points)) (8 * total (o .lengths))) _ _ (few .1) in
+    let few = passed-both 4 (leb (length (o .lengths)) 64 && leb (total (o .lengths)) 256) _ e in
+    let same = passed-both 8 (eqb (length (o .kinds)) (total (o .lengths)) && eqb (length (o .points)) (8 * total (o .lengths))) _ (few .1) in
     let edges = eqb-true (length (o .kinds)) (total (o .lengths)) (and-left _ _ (same .0)) in
     record {
       contours-few = leb-true (length (o .lengths)) 64 (and-left _ _ (few .0));
@@ -88,19 +84,6 @@ room-fits contours edges old e =
       leb-true (8 * edges) (length (old .points)) (and-right (first && second) third three),
       leb-true edges (length (old .colors)) (and-right (first && second && third) fourth e),
     )
-
-module _ (counts : Counts) (written old : Result) where
-  pub deliver-fits : resultFits written old ≡ true → deliver Passed counts written old ≡ delivered counts written old
-  unfolding deliver
-  deliver-fits e = ap (λ b. cond b (delivered counts written old) (outcome (Refused ResultTooShort) old)) e
-
-  pub deliver-failed : {checked : Checked} (refusal : Refusal) → checked ≡ Failed refusal → outcome (Refused refusal) old ≡ deliver checked counts written old
-  unfolding deliver
-  deliver-failed refusal e = rw e
-
-  pub deliver-short : resultFits written old ≡ false → deliver Passed counts written old ≡ outcome (Refused ResultTooShort) old
-  unfolding deliver
-  deliver-short e = ap (λ b. cond b (delivered counts written old) (outcome (Refused ResultTooShort) old)) e
 
 -- ---- the result of contours that were counted
 
@@ -169,8 +152,8 @@ module _ (lengths : List ℕ) (xs : List EdgeSegment) (flags : List Bool) (count
         → resultFits (painted middle values laid) (result lengths₀ kinds₀ points₀ colors₀) ≡ true
         → middle' ≡ middle → bytes ≡ flatten (paintContours middle' values (cut (take (counts .contours) outLengths) (take (counts .edges) outFlags)))
         → colors ≡ bytes ++ drop (counts .edges) colors₀
-        → outcome (Edges counts) (result outLengths outKinds outPoints colors)
-        ≡ deliver Passed (countsOf laid) (painted middle values laid) (result lengths₀ kinds₀ points₀ colors₀)
+        → outcome (gives counts) (result outLengths outKinds outPoints colors)
+        ≡ deliver [] (countsOf laid) (painted middle values laid) (result lengths₀ kinds₀ points₀ colors₀)
     unfolding delivered painted encode over
     painted-delivered middle values colors₀ fit middle-is bytes-are colors-are =
         let bytes = paintContours middle values (flagsIn laid) in

@@ -13,7 +13,7 @@ use lib.Dec.{leb, ltb, eqb}
 use borrow.Author.Tests.{leb-true, ltb-true, eqb-true, eqb-false, not-true, le-leb, lt-leb, lt-ltb, le-ltb, eq-eqb, ne-eqb}
 use Rattle.coloring.specs.Recolor.{row, vertexPossibleColors, firstPossibleColor, Walk, recolored, stopped, Waiting, walk, walkFuel, walkFrom, walkStart, recolor, Offerable}
 use Rattle.coloring.specs.SplineTable.{Table, OfferAnswer, kept, declined, refused, Offered, outcome, settled, walkedOn, enter, sound, tryAddEdge, checkOffer, offer}
-use Rattle.coloring.specs.Checks.{inOrder}
+use Rattle.coloring.specs.Answers.{inOrder}
 use Rattle.coloring.specs.Sequence.{Pair}
 use Rattle.coloring.specs.Bools.{and-left, and-right, split}
 use Rattle.coloring.proofs.recolor.FreeColorLaws.{others}

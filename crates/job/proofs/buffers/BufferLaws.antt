@@ -13,7 +13,7 @@ use Rattle.job.specs.declared.records.Kind.{Kind}
 use Rattle.job.specs.declared.records.Kind.the-variants.{Line, Quadratic, Cubic}
 use Rattle.job.specs.Patterns.{words, floats}
 use Rattle.job.specs.Records.{controls}
-use Rattle.job.specs.Buffers.{placesFrom}
+use Rattle.job.specs.Buffers.{pointsRead}
 
 module _ {A : Type 0} where
   -- one element more
@@ -71,8 +71,8 @@ module _ {A : Type 0} where
       (sym (append-assoc xs part (drop (length xs + length part) old)))
 
 -- the control points of an edge over eight places of +0 are the edge as it is stored
-pub places-from : (kind : Kind) (body : List ℕ) → over (floats (words (2 * controls kind) body)) (replicate 8 f0) ≡ placesFrom kind body
-unfolding over floats words placesFrom toStored
+pub places-from : (kind : Kind) (body : List ℕ) → over (floats (words (2 * controls kind) body)) (replicate 8 f0) ≡ pointsRead kind body
+unfolding over floats words pointsRead toStored
 places-from Line body = refl
 places-from Quadratic body = refl
 places-from Cubic body = refl

@@ -11,7 +11,7 @@ use Rattle.coloring.specs.Sizes.{sizes}
 use Rattle.job.specs.Records.{kindOf}
 use Rattle.job.specs.Job.{withEdge}
 use Rattle.job.specs.Progress.{edgeCount}
-use Rattle.job.specs.Buffers.{kindsOf, placesOf, kindNumber}
+use Rattle.job.specs.Buffers.{kindsStored, pointsStored, kindNumber}
 
 -- ---- lists
 
@@ -50,11 +50,12 @@ kind-number (segment.Line p0 p1) = refl
 kind-number (segment.Quadratic p0 p1 p2) = refl
 kind-number (segment.Cubic p0 p1 p2 p3) = refl
 
-pub kinds-edge : (edges : List EdgeSegment) (e : EdgeSegment) → kindsOf (edges ++ (e ∷ [])) ≡ kindsOf edges ++ (toStored e .kind ∷ [])
+pub kinds-edge : (edges : List EdgeSegment) (e : EdgeSegment) → kindsStored (edges ++ (e ∷ [])) ≡ kindsStored edges ++ (toStored e .kind ∷ [])
 kinds-edge edges e = map-snoc _ edges e
 
-pub places-edge : (edges : List EdgeSegment) (e : EdgeSegment) → placesOf (edges ++ (e ∷ [])) ≡ placesOf edges ++ toStored e .points
-places-edge edges e = ap flatten (map-snoc (λ (x : EdgeSegment). toStored x .points) edges e) ∙ concat-snoc (map (λ (x : EdgeSegment). toStored x .points) edges) (toStored e .points)
+pub places-edge : (edges : List EdgeSegment) (e : EdgeSegment) → pointsStored (edges ++ (e ∷ [])) ≡ pointsStored edges ++ toStored e .points
+places-edge edges e = ap flatten (map-snoc (λ (x : EdgeSegment). toStored x .points) edges e)
+    ∙ concat-snoc (map (λ (x : EdgeSegment). toStored x .points) edges) (toStored e .points)
 
-pub kinds-length : (edges : List EdgeSegment) → length (kindsOf edges) ≡ length edges
+pub kinds-length : (edges : List EdgeSegment) → length (kindsStored edges) ≡ length edges
 kinds-length edges = length-map edges (λ (e : EdgeSegment). toStored e .kind)

@@ -13,16 +13,10 @@ use borrow.Author.Tests.{le-leb, eq-eqb}
 use Rattle.geometry.specs.EdgeSegment.{toStored, fromStored}
 use Rattle.geometry.specs.declared.edge_segment.EdgeSegment.{EdgeSegment}
 use Rattle.geometry.specs.declared.edge_segment.EdgeSegment.the-variants as segment
-use Rattle.coloring.specs.declared.refusal.Checked.{Checked}
-use Rattle.coloring.specs.declared.refusal.Checked.the-variants.{Passed, Failed}
-use Rattle.coloring.specs.declared.refusal.Refusal.the-variants.{TooMany, LengthMismatch, BadDistance, ResultTooShort}
-use Rattle.coloring.specs.Refusal.{refusalNumber, require}
 use Rattle.coloring.specs.PairOrder.{distancesValid}
-use Rattle.coloring.specs.Limits.{maxSplines}
-use Rattle.coloring.specs.declared.refusal.Refusal.{Refusal}
+use Rattle.coloring.specs.Limits.{maxContours, maxEdges, maxSplines, maxDistances}
 use Rattle.coloring.specs.Lists.{all, over}
 use Rattle.coloring.specs.declared.outline.Counts.{Counts}
-use Rattle.coloring.specs.declared.outline.Colored.{Colored}
 use Rattle.coloring.specs.declared.settings.Strategy.the-variants.{Simple, InkTrap}
 use Rattle.coloring.specs.declared.settings.Marking.{Marking}
 use Rattle.coloring.specs.declared.settings.Marking.the-variants.{Colors, Numbers, Distances}
@@ -30,20 +24,21 @@ use Rattle.coloring.specs.Corners.{searchCorners}
 use Rattle.coloring.specs.Values.{splineValues, middleValue, checkMarking}
 use Rattle.coloring.specs.Splines.{splineTotal}
 use Rattle.coloring.specs.Outline as outline
-use Rattle.coloring.specs.declared.outline.Colored.the-variants as color
 use Rattle.coloring.specs.Outline.{Outline, Result, Outcome, outcome, edgeStored, contours, knownKind, coordinatesFit, check, deliver}
 use Rattle.coloring.specs.Shape.{painted, countsOf, deliverFound}
 use Rattle.coloring.specs.Sizes.{sizes, cut-again, flatten-length, points-length}
 use Rattle.coloring.specs.EdgeColoring.{edgeColoring, collectSplines}
+use Rattle.coloring.specs.DeliverLaws.{found-passed}
+use Rattle.coloring.specs.Answers.{gives, refusal, allPass, unless, firstRefusal}
 use Rattle.job.specs.declared.progress.Numbers.{Numbers as JobNumbers}
-use Rattle.job.specs.declared.progress.Read.the-variants as read
 use Rattle.job.specs.declared.records.Strategy as strategies
 use Rattle.job.specs.declared.records.Strategy.the-variants as by
-use Rattle.job.specs.Job.{thresholdOf, Job, reads, readJob}
+use Rattle.job.specs.Job.{thresholdOf, Job, readJob}
 use Rattle.job.specs.Progress.{edgeCount, numbersOf, answerOf}
-use Rattle.job.specs.Buffers.{Buffers, buffers, kindsOf, placesOf, stored, overEach, roomFor, hasRoom, Hold}
+use Rattle.job.specs.Buffers.{Buffers, buffers, kindsStored, pointsStored, storedJob, overEach, roomFor, hasRoom, Hold}
 use Rattle.job.specs.Reader.{Fits, filled}
-use Rattle.job.specs.Color.{byStrategy, laidIn, checkJob, coloredEdges, edgeColors, colored, colorJob, colorReading, colorFile, outlineOf, colorStored, HoldsJobs}
+use Rattle.job.specs.Color.{byStrategy, laidIn, checkJob, coloredEdges, edgeColors, colored, colorJob}
+use Rattle.job.specs.Color.{colorReading, colorFile, outlineOf, colorStored, HoldsJobs}
 use Rattle.job.proofs.records.ReadingLaws.{edgeFits}
 use Rattle.job.proofs.progress.ProgressLaws.{Sound, job-sound, contours-few, edges-few}
 use Rattle.job.proofs.reader.DeliverLaws.{answer-job, answer-refused}
@@ -51,15 +46,15 @@ use Rattle.job.proofs.buffers.StoredLaws.{kinds-length}
 
 -- ---- the buffers hold the contours
 
-edges-again : (edges : List EdgeSegment) → outline.edgesOf (kindsOf edges) (placesOf edges) ≡ edges
+edges-again : (edges : List EdgeSegment) → outline.edgesOf (kindsStored edges) (pointsStored edges) ≡ edges
 unfolding outline.edgesOf edgeStored toStored fromStored flatten
 edges-again [] = refl
 edges-again (segment.Line p0 p1 ∷ edges) = ap (λ (r : List EdgeSegment). segment.Line p0 p1 ∷ r) (edges-again edges)
 edges-again (segment.Quadratic p0 p1 p2 ∷ edges) = ap (λ (r : List EdgeSegment). segment.Quadratic p0 p1 p2 ∷ r) (edges-again edges)
 edges-again (segment.Cubic p0 p1 p2 p3 ∷ edges) = ap (λ (r : List EdgeSegment). segment.Cubic p0 p1 p2 p3 ∷ r) (edges-again edges)
 
-contours-again : (job : Job) → contours (outlineOf (stored job)) ≡ job .contours
-unfolding contours stored
+contours-again : (job : Job) → contours (outlineOf (storedJob job)) ≡ job .contours
+unfolding contours storedJob
 contours-again job = rw (edges-again (flatten (job .contours))) (cut-again (job .contours))
 
 -- bytes replaced all at once, or contour by contour
@@ -70,7 +65,7 @@ map-flatten f (xs ∷ xss) = map-append f xs (flatten xss) ∙ rw (map-flatten f
 
 -- ---- and pass the checks
 
-kinds-known : (edges : List EdgeSegment) → all knownKind (kindsOf edges) ≡ true
+kinds-known : (edges : List EdgeSegment) → all knownKind (kindsStored edges) ≡ true
 unfolding all toStored
 kinds-known [] = refl
 kinds-known (segment.Line p0 p1 ∷ edges) = kinds-known edges
@@ -81,7 +76,7 @@ and-next : (a b c : Bool) → (a && b) ≡ true → (b ≡ true → c ≡ true) 
 and-next true b c h then = then h
 and-next false b c h then = h
 
-coordinates-pass : (edges : List EdgeSegment) → all edgeFits edges ≡ true → coordinatesFit (kindsOf edges) (placesOf edges) ≡ true
+coordinates-pass : (edges : List EdgeSegment) → all edgeFits edges ≡ true → coordinatesFit (kindsStored edges) (pointsStored edges) ≡ true
 unfolding coordinatesFit all toStored flatten
 coordinates-pass [] h = refl
 coordinates-pass (segment.Line p0 p1 ∷ edges) h = and-next (edgeFits (segment.Line p0 p1)) _ _ h (λ k. coordinates-pass edges k)
@@ -92,9 +87,9 @@ coordinates-pass (segment.Cubic p0 p1 p2 p3 ∷ edges) h = and-next (edgeFits (s
 abbrev pub numbered : Job → Result
 numbered job = painted (middleValue Numbers) (splineValues Numbers [] (laidIn job)) (laidIn job)
 
-module _ (job : Job) (so : Sound job) (contours-fit : length (job .contours) ≤ 64) (edges-fit : edgeCount (job .contours) ≤ 256) where
-  pub passes : check (outlineOf (stored job)) (thresholdOf (job .header)) ≡ Passed
-  unfolding check stored
+module _ (job : Job) (so : Sound job) (contours-fit : length (job .contours) ≤ maxContours) (edges-fit : edgeCount (job .contours) ≤ maxEdges) where
+  pub passes : firstRefusal (check (outlineOf (storedJob job)) (thresholdOf (job .header))) ≡ allPass
+  unfolding check storedJob firstRefusal
   passes =
       let edges = flatten (job .contours) in
       let sum = sym (flatten-length (job .contours)) in
@@ -117,33 +112,35 @@ module _ (job : Job) (so : Sound job) (contours-fit : length (job .contours) ≤
   module _ (old : Result) where
     -- by a marking, and with distances or without
     abbrev marked : Marking → List Float → Outcome
-    marked marking distances = deliverFound Passed marking distances (map (searchCorners (thresholdOf (job .header))) (job .contours)) old
+    marked marking distances = deliverFound [] marking distances (map (searchCorners (thresholdOf (job .header))) (job .contours)) old
 
     abbrev colored-by : Marking → List Float → Outcome
-    colored-by marking distances = edgeColoring (record { marking = marking; threshold = thresholdOf (job .header) }) (outlineOf (stored job)) distances old
+    colored-by marking distances = edgeColoring (record { marking = marking; threshold = thresholdOf (job .header) }) (outlineOf (storedJob job)) distances old
+
+    by-marking : (marking : Marking) (distances : List Float) → length distances ≤ maxDistances → colored-by marking distances ≡ marked marking distances
+    unfolding edgeColoring firstRefusal
+    by-marking marking distances few =
+        let checks = unless 4 (leb (length distances) maxDistances) ∷ check (outlineOf (storedJob job)) (thresholdOf (job .header)) in
+        let all : firstRefusal checks ≡ allPass = rw (le-leb (length distances) maxDistances few) passes in
+        rw (contours-again job) (found-passed marking distances (map (searchCorners (thresholdOf (job .header))) (job .contours)) old checks all)
 
     without : (marking : Marking) → colored-by marking [] ≡ marked marking []
-    unfolding edgeColoring
-    without marking = rw (passes, contours-again job)
-
-    with : (marking : Marking) → colored-by marking (job .distances) ≡ marked marking (job .distances)
-    unfolding edgeColoring
-    with marking = rw (le-leb (length (job .distances)) 2016 (so .distances-few), passes, contours-again job)
+    without marking = by-marking marking [] (omega arith)
 
     -- collecting its splines counts the edges and splines of its result
-    pub collected : collectSplines (outlineOf (stored job)) (thresholdOf (job .header)) old
-        ≡ deliver (require (leb (splineTotal (laidIn job)) maxSplines) TooMany Passed) (countsOf (laidIn job)) (numbered job) old
+    pub collected : collectSplines (outlineOf (storedJob job)) (thresholdOf (job .header)) old
+        ≡ deliver (unless 4 (leb (splineTotal (laidIn job)) maxSplines) ∷ []) (countsOf (laidIn job)) (numbered job) old
     unfolding laidIn
     collected = without Numbers
 
-    stored-is : stored job .distances ≡ job .distances
-    unfolding stored
+    stored-is : storedJob job .distances ≡ job .distances
+    unfolding storedJob
     stored-is = refl
 
-    stored-colored : colorStored (job .header .strategy) (job .header .seed) (thresholdOf (job .header)) (stored job) old ≡ colorJob job old
+    stored-colored : colorStored (job .header .strategy) (job .header .seed) (thresholdOf (job .header)) (storedJob job) old ≡ colorJob job old
     unfolding colorStored colorJob checkJob colored edgeColors coloredEdges laidIn painted splineValues
     stored-colored =
-        rw (stored-is, without (Colors Simple seed), without (Colors InkTrap seed), with (Distances seed)) (go (job .header .strategy))
+        rw (stored-is, without (Colors Simple seed), without (Colors InkTrap seed), by-marking (Distances seed) (job .distances) (so .distances-few)) (go (job .header .strategy))
       where
         seed : ℕ
         seed = job .header .seed
@@ -166,7 +163,7 @@ unfolding over
 within xs ys e = omega (arith, e, length-append xs (drop (length xs) ys))
 
 -- a job that was read has room
-pub job-room : (file : List ℕ) (job : Job) (old : Buffers) → readJob file ≡ reads job → HoldsJobs old → hasRoom (numbersOf job) old ≡ true
+pub job-room : (file : List ℕ) (job : Job) (old : Buffers) → readJob file ≡ gives job → HoldsJobs old → hasRoom (numbersOf job) old ≡ true
 unfolding roomFor
 job-room file job old e h =
     let few = contours-few file job e in
@@ -182,24 +179,23 @@ job-room file job old e h =
 -- what the buffers hold after reading
 pub record Holding (file : List ℕ) (n : JobNumbers) (old : Buffers) (lengths kinds : List ℕ) (points distances : List Float) : Type 0 where
   pub job : Job
-  pub is-read : readJob file ≡ reads job
+  pub is-read : readJob file ≡ gives job
   pub numbers : n ≡ numbersOf job
-  pub holds : Hold (overEach (stored job) old) lengths kinds points distances
+  pub holds : Hold (overEach (storedJob job) old) lengths kinds points distances
 
-module _ (file : List ℕ) (n : JobNumbers) (old : Buffers) (told : read.Job n ≡ answerOf (readJob file)) where
+module _ (file : List ℕ) (n : JobNumbers) (old : Buffers) (numbers-are : gives n ≡ answerOf (readJob file)) where
   pub fits-jobs : HoldsJobs old → Fits (readJob file) old
-  fits-jobs room = let a = answer-job (readJob file) n told in rw (a .is-read) (job-room file (a .job) old (a .is-read) room)
+  fits-jobs room = let a = answer-job (readJob file) n numbers-are in rw (a .is-read) (job-room file (a .job) old (a .is-read) room)
 
   pub holding-of : (lengths kinds : List ℕ) (points distances : List Float) → Hold (filled (readJob file) old) lengths kinds points distances
       → Holding file n old lengths kinds points distances
   holding-of lengths kinds points distances h =
-      let a = answer-job (readJob file) n told in
+      let a = answer-job (readJob file) n numbers-are in
       record { job = a .job; is-read = a .is-read; numbers = a .numbers; holds = rw (a .is-read) at h }
 
-pub color-refused : (file : List ℕ) (refusal : Refusal) (out : Result) → read.Refused refusal ≡ answerOf (readJob file)
-    → outcome (color.Refused refusal) out ≡ colorFile file out
+pub color-refused : (file : List ℕ) (number : ℕ) (out : Result) → refusal number ≡ answerOf (readJob file) → outcome (refusal number) out ≡ colorFile file out
 unfolding colorFile colorReading
-color-refused file refusal out told = rw (answer-refused (readJob file) refusal told)
+color-refused file number out numbers-are = rw (answer-refused (readJob file) number numbers-are)
 
 module _ {file : List ℕ} {n : JobNumbers} {old : Buffers} {lengths kinds : List ℕ} {points distances : List Float}
     (h : Holding file n old lengths kinds points distances) where
@@ -207,8 +203,8 @@ module _ {file : List ℕ} {n : JobNumbers} {old : Buffers} {lengths kinds : Lis
   abbrev held : Buffers
   held = buffers (take (n .contours) lengths) (take (n .edges) kinds) (take (8 * n .edges) points) (take (n .distances) distances)
 
-  held-is : held ≡ stored (h .job)
-  unfolding overEach stored
+  held-is : held ≡ storedJob (h .job)
+  unfolding overEach storedJob
   held-is =
       let job = h .job in
       let edges = flatten (job .contours) in
@@ -219,8 +215,8 @@ module _ {file : List ℕ} {n : JobNumbers} {old : Buffers} {lengths kinds : Lis
         h .holds .points-are,
         h .holds .distances-are,
         take-over (length (job .contours)) (sizes (job .contours)) (old .lengths) (length-map (job .contours) (λ (c : List EdgeSegment). length c)),
-        take-over (length edges) (kindsOf edges) (old .kinds) (kinds-length edges),
-        take-over (8 * length edges) (placesOf edges) (old .points) (points-length edges),
+        take-over (length edges) (kindsStored edges) (old .kinds) (kinds-length edges),
+        take-over (8 * length edges) (pointsStored edges) (old .points) (points-length edges),
         take-over (length (job .distances)) (job .distances) (old .distances) refl,
       )
 
@@ -228,7 +224,7 @@ module _ {file : List ℕ} {n : JobNumbers} {old : Buffers} {lengths kinds : Lis
   abbrev pub held-outline : Outline
   held-outline = outlineOf held
 
-  pub held-is-outline : held-outline ≡ outlineOf (stored (h .job))
+  pub held-is-outline : held-outline ≡ outlineOf (storedJob (h .job))
   held-is-outline = ap outlineOf held-is
 
   pub held-colored : (threshold : Float) (out : Result) → threshold ≡ thresholdOf (n .header)
@@ -241,22 +237,24 @@ module _ {file : List ℕ} {n : JobNumbers} {old : Buffers} {lengths kinds : Lis
       (stored-colored job so (contours-few file job (h .is-read)) (edges-few file job (h .is-read)) out)
 
   -- and they lie within the buffers
-  pub edges-most : n .edges ≤ 256
+  pub edges-most : n .edges ≤ maxEdges
   edges-most = rw (h .numbers) (edges-few file (h .job) (h .is-read))
 
   pub contours-within : n .contours ≤ length lengths
-  unfolding overEach stored
+  unfolding overEach storedJob
   contours-within = rw (h .numbers, h .holds .lengths-are) (within (sizes (h .job .contours)) (old .lengths)
       (length-map (h .job .contours) (λ (c : List EdgeSegment). length c)))
 
   pub kinds-within : n .edges ≤ length kinds
-  unfolding overEach stored
-  kinds-within = rw (h .numbers, h .holds .kinds-are) (within (kindsOf (flatten (h .job .contours))) (old .kinds) (kinds-length (flatten (h .job .contours))))
+  unfolding overEach storedJob
+  kinds-within = rw (h .numbers, h .holds .kinds-are)
+      (within (kindsStored (flatten (h .job .contours))) (old .kinds) (kinds-length (flatten (h .job .contours))))
 
   pub places-within : 8 * n .edges ≤ length points
-  unfolding overEach stored
-  places-within = rw (h .numbers, h .holds .points-are) (within (placesOf (flatten (h .job .contours))) (old .points) (points-length (flatten (h .job .contours))))
+  unfolding overEach storedJob
+  places-within = rw (h .numbers, h .holds .points-are)
+      (within (pointsStored (flatten (h .job .contours))) (old .points) (points-length (flatten (h .job .contours))))
 
   pub distances-within : n .distances ≤ length distances
-  unfolding overEach stored
+  unfolding overEach storedJob
   distances-within = rw (h .numbers, h .holds .distances-are) (within (h .job .distances) (old .distances) refl)

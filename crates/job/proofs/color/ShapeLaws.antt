@@ -23,9 +23,11 @@ use Rattle.coloring.specs.Values.{shapeColors, splineColor, splineValues, middl
 use Rattle.coloring.specs.Sizes.{sizes, flatten-length, flags-length, Flagged, search-flagged, laid-sizes, edges-most, Sized, encoded-sized, painted-sizes}
 use Rattle.coloring.specs.PaintLaws.{contours-map}
 use Rattle.coloring.specs.Shape.{painted}
+use Rattle.coloring.specs.Limits.{maxContours, maxResultEdges}
+use Rattle.coloring.specs.Answers.{gives}
 use Rattle.job.specs.declared.records.Strategy as strategies
 use Rattle.job.specs.declared.records.Strategy.the-variants as by
-use Rattle.job.specs.Job.{thresholdOf, Job, reads, readJob}
+use Rattle.job.specs.Job.{thresholdOf, Job, readJob}
 use Rattle.job.specs.Progress.{edgeCount}
 use Rattle.job.specs.Color.{byStrategy, laidIn, coloredEdges, edgeColors, colored}
 use Rattle.job.proofs.progress.ProgressLaws.{contours-few, edges-few}
@@ -54,9 +56,8 @@ colors-each color (xs ∷ xss) (suc i) = colors-each color xss i
 -- ---- the coloured shape of a job that was read
 
 pub record ShapeOf (job : Job) : Type 0 where
-  pub contours-are : length (coloredEdges job) ≡ length (job .contours)
-  pub contours-fit : length (coloredEdges job) ≤ 64
-  pub edges-fit : length (flatten (coloredEdges job)) ≤ 508
+  pub contours-fit : length (coloredEdges job) ≤ maxContours
+  pub edges-fit : length (flatten (coloredEdges job)) ≤ maxResultEdges
   pub marked : sizes (edgeColors job) ≡ sizes (coloredEdges job)
   pub are-colors : EachColors (edgeColors job)
   pub sized : Sized (colored job) (length (coloredEdges job)) (length (flatten (coloredEdges job)))
@@ -70,10 +71,12 @@ module _ (job : Job) where
   found-flagged = search-flagged (thresholdOf (job .header)) (job .contours)
 
   -- what the splines get are colours, and the middle run of a teardrop gets one
-  painted-colors : (marking : Marking) (colors : List EdgeColor) → middleValue marking ≡ bitsOf White → splineValues marking (job .distances) (laidIn job) ≡ map bitsOf colors
+  painted-colors : (marking : Marking) (colors : List EdgeColor) → middleValue marking ≡ bitsOf White
+      → splineValues marking (job .distances) (laidIn job) ≡ map bitsOf colors
       → EachColors (paintContours (middleValue marking) (splineValues marking (job .distances) (laidIn job)) (flagsIn (laidIn job)))
   painted-colors marking colors middle values =
-      rw (middle, values, ← contours-map bitsOf White colors (flagsIn (laidIn job))) (colors-each (λ (c : EdgeColor). c) (paintContours White colors (flagsIn (laidIn job))))
+      rw (middle, values, ← contours-map bitsOf White colors (flagsIn (laidIn job)))
+      (colors-each (λ (c : EdgeColor). c) (paintContours White colors (flagsIn (laidIn job))))
 
   colors-by : (strategy : Strategy)
       → let marking = Colors strategy (job .header .seed) in
@@ -119,19 +122,20 @@ module _ (job : Job) where
   unfolding coloredEdges laidIn
   contours-kept = length-map (map layout found) _ ∙ length-map found layout ∙ length-map (job .contours) (searchCorners (thresholdOf (job .header)))
 
-  module _ (file : List ℕ) (e : readJob file ≡ reads job) where
-    out-few : length (flatten (coloredEdges job)) ≤ 508
+  module _ (file : List ℕ) (e : readJob file ≡ gives job) where
+    out-few : length (flatten (coloredEdges job)) ≤ maxResultEdges
     unfolding coloredEdges laidIn
     out-few =
-        let edges : total (sizes (flagsIn found)) ≡ edgeCount (job .contours) = ap total (flags-in (thresholdOf (job .header)) (job .contours)) ∙ sym (flatten-length (job .contours)) in
-        let contours : length (flagsIn found) ≡ length (job .contours) = length-map found _ ∙ length-map (job .contours) (searchCorners (thresholdOf (job .header))) in
+        let edges : total (sizes (flagsIn found)) ≡ edgeCount (job .contours) =
+        ap total (flags-in (thresholdOf (job .header)) (job .contours)) ∙ sym (flatten-length (job .contours)) in
+        let contours : length (flagsIn found) ≡ length (job .contours) =
+        length-map found _ ∙ length-map (job .contours) (searchCorners (thresholdOf (job .header))) in
         let most = edges-most (flagsIn found) (omega (arith, contours, contours-few file job e)) (omega (arith, edges, edges-few file job e)) in
         omega (arith, flatten-length (edgesIn (map layout found)), ap total (laid-sizes found found-flagged), most)
 
     pub shape-of : ShapeOf job
     unfolding colored painted coloredEdges
     shape-of = record {
-      contours-are = contours-kept;
       contours-fit = omega (arith, contours-kept, contours-few file job e);
       edges-fit = out-few;
       marked = bytes-each;

@@ -2,18 +2,18 @@
 use mathlib.Core.Path.{_≡_, refl, ap, _∙_}
 use mathlib.Core.Bool.{Bool, true, false}
 use mathlib.Core.List.{List, [], _∷_, _++_, append-assoc, flatten}
-use Prim.Native.Nat.{ℕ, suc, _+_, _*_, _/_, _%_, _<_, _≤_}
+use Prim.Native.Nat.{ℕ, zero, suc, _+_, _*_, _/_, _%_, _<_, _≤_}
 use native.Mathlib.Omega.{arith}
 use lib.ListN.{length, take, drop, getD, length-append, length-drop, take-append-drop}
 use native.Mathlib.Numerals.{add-one}
 use lib.Seq.{drop-cons, drop-drop}
 use lib.Dec.{leb, ltb}
 use borrow.Author.Tests.{lt-ltb, le-ltb, leb-true, leb-false}
-use Rattle.coloring.specs.Refusal.{refusalNumber}
-use Rattle.coloring.specs.declared.refusal.Refusal.{Refusal}
 use Rattle.coloring.specs.Places.{total}
 use Rattle.coloring.specs.Outline.{cut}
-use Rattle.job.specs.Listing.{digit, decimal, decimalWithin, letter, space, newline, edgesWord, refusedWord, field, line, contourLines}
+use Rattle.coloring.specs.Limits.{maxContours, maxResultEdges}
+use Rattle.job.specs.Limits.{maxText}
+use Rattle.job.specs.Listing.{digit, decimal, decimalWithin, letter, space, newline, edgesWord, refusedWord, field, edgeLine, contourLines}
 use Rattle.job.specs.Listing.{shapeLines, countLine, listing, refusalLine}
 
 -- ---- decimals
@@ -67,16 +67,16 @@ three-digits n h = go (leb 100 n) refl
     go false e = omega (arith, two-digits n (leb-false 100 n e))
 
 -- a line: a contour of two digits, a place of three, a letter, a colour of one digit, three spaces and the line's end
-pub line-length : (contour place kind color : ℕ) → length (line contour place kind color) ≡ length (decimal contour) + length (decimal place) + length
+pub line-length : (contour place kind color : ℕ) → length (edgeLine contour place kind color) ≡ length (decimal contour) + length (decimal place) + length
     (decimal color) + 5
-unfolding line
+unfolding edgeLine
 line-length contour place kind color =
     length-append (decimal contour) _ ∙ rw (
       length-append (decimal place) (space ∷ letter kind ∷ space ∷ (decimal color ++ (newline ∷ []))),
       length-append (decimal color) (newline ∷ []),
     ) (omega arith)
 
-line-few : (contour place kind color : ℕ) → contour < 100 → place < 1000 → color < 10 → length (line contour place kind color) ≤ 11
+line-few : (contour place kind color : ℕ) → contour < 100 → place < 1000 → color < 10 → length (edgeLine contour place kind color) ≤ 11
 line-few contour place kind color h k l = omega (arith, line-length contour place kind color, two-digits contour h, three-digits place k, one-digit color l)
 
 abbrev pub AreColors : List ℕ → Type 0
@@ -90,7 +90,7 @@ contour-few contour place (kind ∷ kinds) [] h k l = omega arith
 contour-few contour place (kind ∷ kinds) (color ∷ colors) h k l =
     omega (
       arith,
-      length-append (line contour place kind color) (contourLines contour (suc place) kinds colors),
+      length-append (edgeLine contour place kind color) (contourLines contour (suc place) kinds colors),
       line-few contour place kind color h (omega arith) (omega (arith, l 0)),
       contour-few contour (suc place) kinds colors h (omega arith) (λ i. l (suc i)),
     )
@@ -115,34 +115,52 @@ shape-few contour (here ∷ kinds) (marked ∷ colors) h k l =
     )
 
 -- the longest text: 508 lines of 11 bytes, and the count's line of 10
-pub listing-few : (kinds colors : List (List ℕ)) → length kinds ≤ 64 → length (flatten kinds) ≤ 508 → EachColors colors → length (listing kinds colors) ≤ 5598
+pub listing-few : (kinds colors : List (List ℕ)) → length kinds ≤ maxContours → length (flatten kinds) ≤ maxResultEdges → EachColors colors
+    → length (listing kinds colors) ≤ maxText
 unfolding listing
 listing-few kinds colors h k l =
     let n = length (flatten kinds) in
-    omega (arith, length-append (shapeLines 0 kinds colors) (countLine n), shape-few 0 kinds colors (omega arith) (omega arith) l, count-length n, three-digits n (omega arith))
+    omega (
+      arith,
+      length-append (shapeLines 0 kinds colors) (countLine n),
+      shape-few 0 kinds colors (omega arith) (omega arith) l,
+      count-length n,
+      three-digits n (omega arith),
+    )
   where
     count-length : (n : ℕ) → length (countLine n) ≡ length (decimal n) + 7
     count-length n = unfold countLine in length-append edgesWord (decimal n ++ (newline ∷ [])) ∙ rw (length-append (decimal n) (newline ∷ [])) (omega arith)
 
-pub refusal-few : (refusal : Refusal) → refusalNumber refusal < 100 → length (refusalLine refusal) ≤ 11
-unfolding refusalLine
-refusal-few refusal h =
-    rw (length-append refusedWord (decimal (refusalNumber refusal) ++ (newline ∷ [])), length-append (decimal (refusalNumber refusal)) (newline ∷ []))
-    (omega (arith, two-digits (refusalNumber refusal) h))
+-- no number has more than twenty digits
+digits-few : (d n : ℕ) → length (decimalWithin d n) ≤ d
+unfolding decimalWithin
+digits-few zero n = omega arith
+digits-few (suc d) n = go (ltb n 10) (digits-few d (n / 10))
+  where
+    go : (b : Bool) → length (decimalWithin d (n / 10)) ≤ d
+        → length {A = ℕ} (elim b [ true ↦ digit n ∷ [] | false ↦ decimalWithin d (n / 10) ++ (digit (n % 10) ∷ []) ]) ≤ suc d
+    go true h = omega arith
+    go false h = omega (arith, length-append (decimalWithin d (n / 10)) (digit (n % 10) ∷ []))
+
+pub refusal-few : (number : ℕ) → length (refusalLine number) ≤ 29
+unfolding refusalLine decimal
+refusal-few number =
+    rw (length-append refusedWord (decimal number ++ (newline ∷ [])), length-append (decimal number) (newline ∷ []))
+    (omega (arith, digits-few 20 number))
 
 pub field-length : (n byte : ℕ) → length (field n byte) ≡ length (decimal n) + 1
 field-length n byte = length-append (decimal n) (byte ∷ [])
 
 -- a line is three fields, with the letter and a space before the last
 pub line-fields : (contour place kind color : ℕ)
-    → ((((field contour space ++ field place space) ++ (letter kind ∷ [])) ++ (space ∷ [])) ++ field color newline) ≡ line contour place kind color
-unfolding line
+    → ((((field contour space ++ field place space) ++ (letter kind ∷ [])) ++ (space ∷ [])) ++ field color newline) ≡ edgeLine contour place kind color
+unfolding edgeLine
 line-fields contour place kind color = simp append-assoc
 
 -- ---- line by line
 
 pub contour-step : (contour i : ℕ) (kinds colors : List ℕ) → i < length kinds → length colors ≡ length kinds
-    → contourLines contour i (drop i kinds) (drop i colors) ≡ line contour i (getD kinds i 0) (getD colors i 0) ++ contourLines contour (i + 1)
+    → contourLines contour i (drop i kinds) (drop i colors) ≡ edgeLine contour i (getD kinds i 0) (getD colors i 0) ++ contourLines contour (i + 1)
     (drop (i + 1) kinds) (drop (i + 1) colors)
 unfolding contourLines
 contour-step contour i kinds colors h l = rw (drop-cons kinds i 0 h, drop-cons colors i 0 (omega arith), add-one i)
@@ -179,9 +197,9 @@ module _ (lengths kinds colors : List ℕ) (e : total lengths ≡ length kinds) 
   pub listing-length : length (listing (cut lengths kinds) (cut lengths colors)) ≡ length lines + 6 + length (field (length kinds) newline)
   listing-length = omega (arith, ap length listing-parts, length-append (lines ++ edgesWord) (field (length kinds) newline), length-append lines edgesWord)
 
-pub refusal-parts : (refusal : Refusal) → refusedWord ++ field (refusalNumber refusal) newline ≡ refusalLine refusal
+pub refusal-parts : (number : ℕ) → refusedWord ++ field number newline ≡ refusalLine number
 unfolding refusalLine
-refusal-parts refusal = refl
+refusal-parts number = refl
 
-pub refusal-length : (refusal : Refusal) → length (refusalLine refusal) ≡ 8 + length (field (refusalNumber refusal) newline)
-refusal-length refusal = omega (arith, ap length (refusal-parts refusal), length-append refusedWord (field (refusalNumber refusal) newline))
+pub refusal-length : (number : ℕ) → length (refusalLine number) ≡ 8 + length (field number newline)
+refusal-length number = omega (arith, ap length (refusal-parts number), length-append refusedWord (field number newline))

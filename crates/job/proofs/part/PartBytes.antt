@@ -8,11 +8,12 @@ use lib.ListN.{length, take, drop, getD, take-append-drop}
 use lib.Seq.{drop-cons, take-at, drop-at}
 use borrow.Author.Tests.{lt-ltb}
 use Rattle.geometry.specs.declared.edge_segment.EdgeSegment.{EdgeSegment}
+use Rattle.coloring.specs.Answers.{gives, succeeds}
 use Rattle.job.specs.declared.records.Header as fields
 use Rattle.job.specs.declared.records.Mark.the-variants.{End}
 use Rattle.job.specs.Records.{Record, header, distances, byDistance, marked}
-use Rattle.job.specs.Job.{Job, reads, readJob, contourRecords, outlineRecords, recordsOf, recordBytes, fileOf}
-use Rattle.job.specs.Color.{acceptJob, hasJob}
+use Rattle.job.specs.Job.{Job, readJob, contourRecords, outlineRecords, recordsOf, recordBytes, fileOf}
+use Rattle.job.specs.Color.{acceptJob}
 use Rattle.job.specs.Part.{spanIn, contourPart}
 use Rattle.job.proofs.patterns.PatternLaws.{AreBytes}
 use Rattle.job.proofs.progress.SoFarLaws.{bytes-append}
@@ -52,7 +53,8 @@ between job number h = record { later = rest ++ end; split = all }
     outline : header (job .header) ∷ flatten (map contourRecords (job .contours)) ≡ h₀ ++ (own ++ rest)
     outline =
         ap (λ (x : List (List EdgeSegment)). header (job .header) ∷ flatten (map contourRecords x)) (sym contours-are)
-        ∙ ap (λ (x : List Record). header (job .header) ∷ x) (concat-both (take number (job .contours)) (getD (job .contours) number [] ∷ drop (suc number) (job .contours)))
+        ∙ ap (λ (x : List Record). header (job .header) ∷ x)
+        (concat-both (take number (job .contours)) (getD (job .contours) number [] ∷ drop (suc number) (job .contours)))
 
     all : (header (job .header) ∷ flatten (map contourRecords (job .contours))) ++ end ≡ h₀ ++ (own ++ (rest ++ end))
     all = ap (λ (x : List Record). x ++ end) outline ∙ append-assoc h₀ (own ++ rest) end ∙ ap (λ (x : List Record). h₀ ++ x) (append-assoc own rest end)
@@ -75,11 +77,11 @@ cut-at job number h =
 part-cut : (a b c : List ℕ) → take (length a + length b - length a) (drop (length a) (a ++ (b ++ c))) ≡ b
 part-cut a b c = let e : length a + length b - length a ≡ length b = omega arith in rw (drop-at a (b ++ c) (length a) refl, e) (take-at b c (length b) refl)
 
-pub part-is : (file : List ℕ) (job : Job) (number : ℕ) → AreBytes file → acceptJob file ≡ reads job → number < length (job .contours)
+pub part-is : (file : List ℕ) (job : Job) (number : ℕ) → AreBytes file → acceptJob file ≡ gives job → number < length (job .contours)
     → contourPart file number ≡ recordBytes (contourRecords (getD (job .contours) number []))
 unfolding contourPart spanIn
 part-is file job number are e h =
-    let is-read : readJob file ≡ reads job = accepted-same file (ap hasJob e) ∙ e in
+    let is-read : readJob file ≡ gives job = accepted-same file (ap succeeds e) ∙ e in
     let all = file-of-job file job are is-read ∙ cut-at job number h in
     let before = recordBytes (outlineRecords (job .header) (take number (job .contours))) in
     let own = recordBytes (contourRecords (getD (job .contours) number [])) in

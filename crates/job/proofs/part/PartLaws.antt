@@ -11,7 +11,7 @@ use lib.ListN.{length, take, drop, getD, length-append, List·getD-append}
 use lib.Seq.{take-all, take-suc, take-append-le}
 use borrow.Author.Tests.{lt-ltb, le-ltb}
 use Rattle.geometry.specs.declared.edge_segment.EdgeSegment.{EdgeSegment}
-use Rattle.coloring.specs.declared.refusal.Refusal.{Refusal}
+use Rattle.coloring.specs.Answers.{gives, refusal, succeeds}
 use Rattle.job.specs.declared.records.Header as fields
 use Rattle.job.specs.declared.records.Item.{Item}
 use Rattle.job.specs.declared.records.Item.the-variants.{Header, Contour, Edge, Distances}
@@ -25,9 +25,9 @@ use Rattle.job.specs.declared.part.Seek.{Seek}
 use Rattle.job.specs.declared.part.Seek.the-variants.{Passing, Open, Done}
 use Rattle.job.specs.Records.{Record, header, contour, edge, distances, ends, fails, atStart, among, inside, closing, allowed, recordMark}
 use Rattle.job.specs.Records.{itemOf, phaseAfter, readRecord}
-use Rattle.job.specs.Job.{Job, withEdge, enter, Reading, reads, refuses, readJob, contourRecords, outlineRecords, recordBytes}
+use Rattle.job.specs.Job.{Job, withEdge, withRecord, Reading, readJob, contourRecords, outlineRecords, recordBytes}
 use Rattle.job.specs.Progress.{begin, advanced}
-use Rattle.job.specs.Color.{acceptJob, hasJob, accepted}
+use Rattle.job.specs.Color.{acceptJob, accepted}
 use Rattle.job.specs.Part.{nowhere, spanIn, placeIn, sought, spanOf, contourPlace, contourPart, Inside}
 use Rattle.job.proofs.records.ReadingLaws.{Read-as}
 use Rattle.job.proofs.progress.SoFarLaws.{soFar, bytes-append}
@@ -97,7 +97,8 @@ span-same job other number h t g =
     ∙ ap (spanFrom (other .header) (take number (other .contours))) g
     ∙ sym (span-is other number)
 
-concat-last : (contours : List (List EdgeSegment)) (c : List EdgeSegment) → flatten (map contourRecords (contours ++ (c ∷ []))) ≡ flatten (map contourRecords contours) ++ contourRecords c
+concat-last : (contours : List (List EdgeSegment)) (c : List EdgeSegment)
+    → flatten (map contourRecords (contours ++ (c ∷ []))) ≡ flatten (map contourRecords contours) ++ contourRecords c
 unfolding flatten
 concat-last [] c = append-nil (contourRecords c)
 concat-last (d ∷ contours) c = rw (concat-last contours c) (sym (append-assoc (contourRecords d) (flatten (map contourRecords contours)) (contourRecords c)))
@@ -106,8 +107,10 @@ outline-last : (h : fields.Header) (contours : List (List EdgeSegment)) (n : ℕ
     → outlineRecords h contours ≡ outlineRecords h (take n contours) ++ contourRecords (getD contours n [])
 unfolding outlineRecords
 outline-last h contours n e =
-    let split : take n contours ++ (getD contours n [] ∷ []) ≡ contours = sym (take-suc contours n [] (omega arith)) ∙ take-all (suc n) contours (omega arith) in
-    ap (λ (x : List (List EdgeSegment)). header h ∷ flatten (map contourRecords x)) (sym split) ∙ ap (λ (x : List Record). header h ∷ x) (concat-last (take n contours) (getD contours n []))
+    let split : take n contours ++ (getD contours n [] ∷ []) ≡ contours =
+    sym (take-suc contours n [] (omega arith)) ∙ take-all (suc n) contours (omega arith) in
+    ap (λ (x : List (List EdgeSegment)). header h ∷ flatten (map contourRecords x)) (sym split)
+    ∙ ap (λ (x : List Record). header h ∷ x) (concat-last (take n contours) (getD contours n []))
 
 -- from the start of the last contour up to the end of the outline
 span-last : (job : Job) (number at : ℕ) → suc number ≡ length (job .contours) → at ≡ length (recordBytes (outlineRecords (job .header) (job .contours)))
@@ -124,52 +127,52 @@ span-last job number at e placed =
 
 -- ---- what was found so far
 
-abbrev Found : ℕ → Job → Phase → Seek → Type 0
-Found number job phase (Passing left) = length (job .contours) + left ≡ number
-Found number job phase (Open from) = (suc number ≡ length (job .contours)) × (inside phase ≡ true) × (from ≡ startIn job number)
-Found number job phase (Done span) = (number < length (job .contours)) × (span ≡ spanIn job number)
+abbrev FoundSoFar : ℕ → Job → Phase → Seek → Type 0
+FoundSoFar number job phase (Passing left) = length (job .contours) + left ≡ number
+FoundSoFar number job phase (Open from) = (suc number ≡ length (job .contours)) × (inside phase ≡ true) × (from ≡ startIn job number)
+FoundSoFar number job phase (Done span) = (number < length (job .contours)) × (span ≡ spanIn job number)
     × ((number + 2 ≤ length (job .contours)) ⊎ (closing phase ≡ true))
 
 module _ (job : Job) (number : ℕ) where
   abbrev more : Job
-  more = enter job contour
+  more = withRecord job contour
 
   more-length : length (more .contours) ≡ suc (length (job .contours))
-  unfolding enter
+  unfolding withRecord
   more-length = length-append (job .contours) ([] ∷ []) ∙ omega arith
 
   start-more : number ≤ length (job .contours) → startIn more number ≡ startIn job number
-  unfolding enter
+  unfolding withRecord
   start-more h = rw (take-append-le number (job .contours) ([] ∷ []) h)
 
   span-more : number < length (job .contours) → spanIn more number ≡ spanIn job number
-  unfolding enter
+  unfolding withRecord
   span-more h = span-same more job number refl (take-append-le number (job .contours) ([] ∷ []) (omega arith))
       (List·getD-append (job .contours) ([] ∷ []) [] number h)
 
   module _ (ds : List Float) where
-    closed-length : length (enter job (distances ds) .contours) ≡ length (job .contours)
-    unfolding enter
+    closed-length : length (withRecord job (distances ds) .contours) ≡ length (job .contours)
+    unfolding withRecord
     closed-length = refl
 
-    span-closed : spanIn (enter job (distances ds)) number ≡ spanIn job number
-    unfolding enter
-    span-closed = span-same (enter job (distances ds)) job number refl refl refl
+    span-closed : spanIn (withRecord job (distances ds)) number ≡ spanIn job number
+    unfolding withRecord
+    span-closed = span-same (withRecord job (distances ds)) job number refl refl refl
 
   module _ (e : EdgeSegment) where
     abbrev with : Job
-    with = enter job (edge e)
+    with = withRecord job (edge e)
 
     with-length : length (with .contours) ≡ length (job .contours)
-    unfolding enter
+    unfolding withRecord
     with-length = with-edge-length (job .contours) e
 
     start-with : number < length (job .contours) → startIn with number ≡ startIn job number
-    unfolding enter
+    unfolding withRecord
     start-with h = rw (with-edge-take (job .contours) e number h)
 
     span-with : number + 2 ≤ length (job .contours) → spanIn with number ≡ spanIn job number
-    unfolding enter
+    unfolding withRecord
     span-with h = span-same with job number refl (with-edge-take (job .contours) e number (omega arith)) (with-edge-get (job .contours) e number h)
 
 among-so-far : (phase : Phase) (job : Job) → among phase ≡ true → soFar phase job ≡ outlineRecords (job .header) (job .contours)
@@ -193,15 +196,15 @@ module _ (number : ℕ) (job : Job) (phase : Phase) (by : Strategy) (at : ℕ) (
   all-before : length (job .contours) ≤ number → startIn job number ≡ length (recordBytes (outlineRecords (job .header) (job .contours)))
   all-before h = rw (take-all number (job .contours) h)
 
-  found-next : (q : Seek) (r : Record) → allowed phase by (recordMark r) ≡ true → closing phase ≡ false → Found number job phase q
-      → Found number (enter job r) (phaseAfter phase (itemOf r)) (sought q at (itemOf r))
+  found-next : (q : Seek) (r : Record) → allowed phase by (recordMark r) ≡ true → closing phase ≡ false → FoundSoFar number job phase q
+      → FoundSoFar number (withRecord job r) (phaseAfter phase (itemOf r)) (sought q at (itemOf r))
   unfolding sought
-  found-next (Passing left) (header h) may still f = unfold enter in f
+  found-next (Passing left) (header h) may still f = unfold withRecord in f
   found-next (Passing zero) contour may still f =
       (omega (arith, more-length job number), refl, placed-outline may ∙ sym (start-more job number (omega arith) ∙ all-before (omega arith)))
   found-next (Passing (suc left)) contour may still f = omega (arith, more-length job number)
   found-next (Passing left) (edge e) may still f = omega (arith, with-length job number e)
-  found-next (Passing left) (distances ds) may still f = unfold enter in f
+  found-next (Passing left) (distances ds) may still f = unfold withRecord in f
   found-next (Open from) (header h) may still f = absurd (omega (arith, ap length (none may)))
   found-next (Open from) contour may still f = (
     omega (arith, more-length job number),
@@ -224,12 +227,12 @@ module _ (number : ℕ) (job : Job) (phase : Phase) (by : Strategy) (at : ℕ) (
   )
   found-next (Done span) (edge e) may still f = go (f .2)
     where
-      go : (number + 2 ≤ length (job .contours)) ⊎ (closing phase ≡ true) → Found number (enter job (edge e)) phase (Done span)
+      go : (number + 2 ≤ length (job .contours)) ⊎ (closing phase ≡ true) → FoundSoFar number (withRecord job (edge e)) phase (Done span)
       go (inl k) = (omega (arith, with-length job number e), f .1 ∙ sym (span-with job number e k), inl (omega (arith, with-length job number e)))
       go (inr k) = let z : _≡_ {A = ℕ} 0 1 = cc in absurd (omega arith)
   found-next (Done span) (distances ds) may still f = (omega (arith, closed-length job number ds), f .1 ∙ sym (span-closed job number ds), inr refl)
 
-  found-end : (q : Seek) → Found number job phase q → spanOf q at ≡ placeIn (reads job) number
+  found-end : (q : Seek) → FoundSoFar number job phase q → spanOf q at ≡ placeIn (gives job) number
   found-end (Passing left) f = rw (le-ltb number (length (job .contours)) (omega arith))
   found-end (Open from) f =
       rw (lt-ltb number (length (job .contours)) (omega arith))
@@ -240,7 +243,7 @@ module _ (number : ℕ) (job : Job) (phase : Phase) (by : Strategy) (at : ℕ) (
 
 pub record Seeking (file : List ℕ) (number : ℕ) (p : Progress) (q : Seek) : Type 0 where
   pub at : Reached file p
-  pub found : Found number (at .job) (p .state .phase) q
+  pub found : FoundSoFar number (at .job) (p .state .phase) q
   pub before : Before q (p .at)
 
 pub seeking-begin : (file : List ℕ) (number : ℕ) → Seeking file number begin (Passing number)
@@ -257,7 +260,7 @@ module _ (file : List ℕ) (number : ℕ) (p : Progress) (q : Seek) (here : Seek
       rw (← read .is-item, ← read .is-size)
       (record {
         at = reached-next file p at r (read .rest) (read .is-next);
-        found = subst (λ (j : Job). Found number j (phaseAfter (p .state .phase) (itemOf r)) (sought q (p .at) (itemOf r)))
+        found = subst (λ (j : Job). FoundSoFar number j (phaseAfter (p .state .phase) (itemOf r)) (sought q (p .at) (itemOf r)))
             (sym (next-job file p at r (read .rest) (read .is-next))) found;
         before = before-next q (p .at) _ (itemOf r) (omega (arith, further file p at r (read .rest) (read .is-next))) (here .before);
       })
@@ -271,10 +274,10 @@ module _ (file : List ℕ) (number : ℕ) (p : Progress) (q : Seek) (here : Seek
   seeking-inside = before-inside q (p .at) (length file) (here .at .within) (here .before)
 
 -- a file that is read meets no fault
-pub seeking-fault : (file : List ℕ) (p : Progress) → Reached file p → hasJob (readJob file) ≡ true → (refusal : Refusal)
-    → readRecord (p .state) (drop (p .at) file) ≡ fails refusal → ⊥
-seeking-fault file p at has refusal e =
-    let no : hasJob (refuses refusal) ≡ true = ap hasJob (reached-fault file p at refusal e) ∙ has in
+pub seeking-fault : (file : List ℕ) (p : Progress) → Reached file p → succeeds (readJob file) ≡ true → (number : ℕ)
+    → readRecord (p .state) (drop (p .at) file) ≡ fails number → ⊥
+seeking-fault file p at has number e =
+    let no : succeeds {A = Job} (refusal number) ≡ true = ap succeeds (reached-fault file p at number e) ∙ has in
     let z : _≡_ {A = ℕ} 0 1 = cc in
     omega arith
 
@@ -284,9 +287,9 @@ pub place-refused : (file : List ℕ) (number : ℕ) → accepted file ≡ false
 unfolding contourPlace
 place-refused file number h = go (acceptJob file) h
   where
-    go : (reading : Reading) → hasJob reading ≡ false → placeIn reading number ≡ nowhere
-    go (reads job) h = cc
-    go (refuses refusal) h = refl
+    go : (reading : Reading) → succeeds reading ≡ false → placeIn reading number ≡ nowhere
+    go (gives job) h = cc
+    go (refusal reason) h = refl
 
 pub part-refused : (file : List ℕ) (number : ℕ) → accepted file ≡ false → contourPart file number ≡ []
 unfolding contourPart

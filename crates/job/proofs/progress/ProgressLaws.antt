@@ -12,11 +12,13 @@ use lib.Ieee.{ofBits}
 use borrow.Author.Tests.{ltb-true}
 use Rattle.math.specs.Scalar.{f1}
 use Rattle.geometry.specs.declared.edge_segment.EdgeSegment.{EdgeSegment}
-use Rattle.coloring.specs.declared.refusal.Refusal.{Refusal}
 use Rattle.coloring.specs.Bools.{and-left}
 use Rattle.coloring.specs.Lists.{all}
 use Rattle.coloring.specs.PairOrder.{distancesValid}
 use Rattle.coloring.specs.Outline.{between}
+use Rattle.coloring.specs.Limits.{maxContours, maxEdges, maxDistances}
+use Rattle.coloring.specs.Answers.{gives, refusal}
+use Rattle.job.specs.Limits.{maxFile}
 use Rattle.job.specs.declared.records.Phase.{Phase}
 use Rattle.job.specs.declared.records.Phase.the-variants.{Start, Outside, Inside, Closing}
 use Rattle.job.specs.declared.records.State.{State}
@@ -24,10 +26,11 @@ use Rattle.job.specs.declared.records.Item.{Item}
 use Rattle.job.specs.declared.progress.Progress.{Progress}
 use Rattle.job.specs.declared.progress.Numbers.{Numbers}
 use Rattle.job.specs.Records.{Record, header, contour, edge, distances, Step, next, ends, fails, atStart, kindOf, inside, among, closing}
-use Rattle.job.specs.Records.{byDistance, recordMark, coordinates, bytesOf, fits, start, recordSize, itemOf, phaseAfter, counted, readRecord}
+use Rattle.job.specs.Records.{byDistance, recordMark, coordinates, bytesOf, belowMaximum, start, recordSize, itemOf, phaseAfter, counted, readRecord}
 use Rattle.job.specs.Records.{after, _then_, recordsFrom}
-use Rattle.job.specs.Job.{Holdable, doubles, recordsOf, recordBytes, fileOf, thresholdOf, Job, noJob, withEdge, enter, reads, refuses, jobFrom, readJob}
-use Rattle.job.specs.Progress.{edgeCount, begin, advanced, numbersOf, Counts}
+use Rattle.job.specs.Job.{Holdable, doubles, recordsOf, recordBytes, fileOf, thresholdOf, Job}
+use Rattle.job.specs.Job.{noJob, withEdge, withRecord, jobFrom, readJob}
+use Rattle.job.specs.Progress.{edgeCount, begin, advanced, numbersOf, CanAdvance}
 use Rattle.job.proofs.progress.ReadyLaws.{Ready}
 use Rattle.job.proofs.progress.SoFarLaws.{bytes-more, soFar, so-far-next, so-far-end, asked-next, nothing-next, floats-doubles, edge-doubles}
 use Rattle.job.proofs.patterns.PatternLaws.{AreBytes}
@@ -44,7 +47,8 @@ with-edge-length [] e = refl
 with-edge-length (c ∷ []) e = refl
 with-edge-length (c ∷ d ∷ contours) e = ap suc (with-edge-length (d ∷ contours) e)
 
-pub with-edge-concat : (contours : List (List EdgeSegment)) (e : EdgeSegment) → 0 < length contours → flatten (withEdge contours e) ≡ flatten contours ++ (e ∷ [])
+pub with-edge-concat : (contours : List (List EdgeSegment)) (e : EdgeSegment) → 0 < length contours
+    → flatten (withEdge contours e) ≡ flatten contours ++ (e ∷ [])
 unfolding withEdge flatten
 with-edge-concat [] e h = absurd (omega arith)
 with-edge-concat (c ∷ []) e h = append-nil (c ++ (e ∷ [])) ∙ ap (λ (x : List EdgeSegment). x ++ (e ∷ [])) (sym (append-nil c))
@@ -58,8 +62,8 @@ more-concat (c ∷ contours) = ap (λ (x : List EdgeSegment). c ++ x) (more-conc
 
 -- ---- the counts of a job
 
-numbers-next : (job : Job) (r : Record) → Ready job r → counted (numbersOf job) (itemOf r) ≡ numbersOf (enter job r)
-unfolding enter flatten
+numbers-next : (job : Job) (r : Record) → Ready job r → counted (numbersOf job) (itemOf r) ≡ numbersOf (withRecord job r)
+unfolding withRecord flatten
 numbers-next job (header h) ready = refl
 numbers-next job contour ready = rw (length-append (job .contours) ([] ∷ []), more-concat (job .contours))
 numbers-next job (edge e) ready =
@@ -71,7 +75,7 @@ numbers-next job (distances ds) ready = refl
 pub record Sound (job : Job) : Type 0 where
   pub threshold-fits : between (Ieee.neg f1) (thresholdOf (job .header)) f1 ≡ true
   pub coordinates-fit : all edgeFits (flatten (job .contours)) ≡ true
-  pub distances-few : length (job .distances) ≤ 2016
+  pub distances-few : length (job .distances) ≤ maxDistances
   pub distances-valid : distancesValid (job .distances) ≡ true
 
 sound-begin : Sound noJob
@@ -87,8 +91,8 @@ all-snoc test (y ∷ xs) x h k = go (test y) h (λ e. all-snoc test xs x e k)
     go true h rest = rest h
     go false h rest = cc
 
-sound-next : (job : Job) (r : Record) (bytes : List ℕ) → Ready job r → Held r bytes → InRange r → Sound job → Sound (enter job r)
-unfolding enter
+sound-next : (job : Job) (r : Record) (bytes : List ℕ) → Ready job r → Held r bytes → InRange r → Sound job → Sound (withRecord job r)
+unfolding withRecord
 sound-next job (header h) bytes is-ready held fits so =
     record { threshold-fits = fits; coordinates-fit = so .coordinates-fit; distances-few = so .distances-few; distances-valid = so .distances-valid }
 sound-next job contour bytes is-ready held fits so =
@@ -110,8 +114,8 @@ sound-next job (distances ds) bytes is-ready held fits so =
 
 -- ---- a job that a file can hold
 
-holdable-next : (job : Job) (r : Record) (bytes : List ℕ) → Ready job r → Held r bytes → AreBytes bytes → Holdable job → Holdable (enter job r)
-unfolding enter
+holdable-next : (job : Job) (r : Record) (bytes : List ℕ) → Ready job r → Held r bytes → AreBytes bytes → Holdable job → Holdable (withRecord job r)
+unfolding withRecord
 holdable-next job (header h) bytes is-ready held are so =
     record { seed = held are .0; threshold = held are .1; coordinates-are = so .coordinates-are; distances-are = so .distances-are }
 holdable-next job contour bytes is-ready held are so =
@@ -140,7 +144,7 @@ abbrev pub besides : Phase → ℕ
 besides Start = 0
 besides Outside = 19
 besides Inside = 19
-besides Closing = 19 + (4 + 8 * 2016)
+besides Closing = 19 + (4 + 8 * maxDistances)
 
 pub record Reached (file : List ℕ) (p : Progress) : Type 0 where
   pub job : Job
@@ -150,8 +154,8 @@ pub record Reached (file : List ℕ) (p : Progress) : Type 0 where
   pub opened : inside (p .state .phase) ≡ true → 0 < length (job .contours)
   pub none-yet : closing (p .state .phase) ≡ false → job .distances ≡ []
   pub sized : p .at ≤ besides (p .state .phase) + 2 * length (job .contours) + 66 * edgeCount (job .contours)
-  pub contours-fit : length (job .contours) ≤ 64
-  pub edges-fit : edgeCount (job .contours) ≤ 256
+  pub contours-fit : length (job .contours) ≤ maxContours
+  pub edges-fit : edgeCount (job .contours) ≤ maxEdges
   pub sound : Sound job
   pub nothing-yet : atStart (p .state .phase) ≡ true → job .contours ≡ []
   pub asked : closing (p .state .phase) ≡ true → byDistance (job .header .strategy) ≡ true
@@ -189,8 +193,8 @@ ready job s contour may opened = tt
 ready job s (edge e) may opened = opened may
 ready job s (distances ds) may opened = tt
 
-opened-after : (job : Job) (s : State) (r : Record) → Ready job r → inside (phaseAfter (s .phase) (itemOf r)) ≡ true → 0 < length (enter job r .contours)
-unfolding enter
+opened-after : (job : Job) (s : State) (r : Record) → Ready job r → inside (phaseAfter (s .phase) (itemOf r)) ≡ true → 0 < length (withRecord job r .contours)
+unfolding withRecord
 opened-after job s (header x) is-ready h = let z : _≡_ {A = ℕ} 0 1 = cc in absurd (omega arith)
 opened-after job s contour is-ready h = rw (length-append (job .contours) ([] ∷ [])) (omega arith)
 opened-after job s (edge e) is-ready h = rw (with-edge-length (job .contours) e) is-ready
@@ -222,30 +226,31 @@ not-closing s (edge e) h = in-contour (s .phase) h
 not-closing s (distances ds) h = among-contours (s .phase) (and-left (among (s .phase)) (byDistance (s .numbers .header .strategy)) h)
 
 none-after : (job : Job) (s : State) (r : Record) → Allowed s (recordMark r) → (closing (s .phase) ≡ false → job .distances ≡ [])
-    → closing (phaseAfter (s .phase) (itemOf r)) ≡ false → enter job r .distances ≡ []
-unfolding enter
+    → closing (phaseAfter (s .phase) (itemOf r)) ≡ false → withRecord job r .distances ≡ []
+unfolding withRecord
 none-after job s (header x) may none h = none (not-closing s (header x) may)
 none-after job s contour may none h = none (not-closing s contour may)
 none-after job s (edge e) may none h = none h
 none-after job s (distances ds) may none h = cc
 
-contours-after : (job : Job) (s : State) (r : Record) → s .numbers .contours ≡ length (job .contours) → fits (s .numbers) (recordMark r) ≡ true
-    → length (job .contours) ≤ 64 → length (enter job r .contours) ≤ 64
-unfolding enter
+contours-after : (job : Job) (s : State) (r : Record) → s .numbers .contours ≡ length (job .contours) → belowMaximum (s .numbers) (recordMark r) ≡ true
+    → length (job .contours) ≤ maxContours → length (withRecord job r .contours) ≤ maxContours
+unfolding withRecord
 contours-after job s (header x) e h few = few
 contours-after job s contour e h few = rw (length-append (job .contours) ([] ∷ [])) (omega (arith, ltb-true (s .numbers .contours) 64 h))
 contours-after job s (edge x) e h few = rw (with-edge-length (job .contours) x) few
 contours-after job s (distances ds) e h few = few
 
-edges-after : (job : Job) (s : State) (r : Record) → Ready job r → s .numbers .edges ≡ edgeCount (job .contours) → fits (s .numbers) (recordMark r) ≡ true → edgeCount (job .contours) ≤ 256 → edgeCount (enter job r .contours) ≤ 256
-unfolding enter flatten
+edges-after : (job : Job) (s : State) (r : Record) → Ready job r → s .numbers .edges ≡ edgeCount (job .contours)
+    → belowMaximum (s .numbers) (recordMark r) ≡ true → edgeCount (job .contours) ≤ maxEdges → edgeCount (withRecord job r .contours) ≤ maxEdges
+unfolding withRecord flatten
 edges-after job s (header x) is-ready e h few = few
 edges-after job s contour is-ready e h few = rw (more-concat (job .contours)) few
 edges-after job s (edge x) is-ready e h few =
     rw (with-edge-concat (job .contours) x is-ready, length-append (flatten (job .contours)) (x ∷ [])) (omega (arith, ltb-true (s .numbers .edges) 256 h))
 edges-after job s (distances ds) is-ready e h few = few
 
-record-few : (bytes : List ℕ) (r : Record) → Held r bytes → recordSize r ≤ 4 + 8 * 2016
+record-few : (bytes : List ℕ) (r : Record) → Held r bytes → recordSize r ≤ 4 + 8 * maxDistances
 record-few bytes (header h) k = omega (arith, size-is (header h))
 record-few bytes contour k = omega (arith, size-is contour)
 record-few bytes (edge e) k = omega (arith, size-is (edge e), controls-few (kindOf e))
@@ -257,10 +262,10 @@ among-besides Outside h = refl
 among-besides Inside h = refl
 among-besides Closing h = cc
 
-size-after : (job : Job) (s : State) (at : ℕ) (r : Record) → Ready job r → Allowed s (recordMark r) → recordSize r ≤ 4 + 8 * 2016
+size-after : (job : Job) (s : State) (at : ℕ) (r : Record) → Ready job r → Allowed s (recordMark r) → recordSize r ≤ 4 + 8 * maxDistances
     → at ≤ besides (s .phase) + 2 * length (job .contours) + 66 * edgeCount (job .contours)
-    → at + recordSize r ≤ besides (phaseAfter (s .phase) (itemOf r)) + 2 * length (enter job r .contours) + 66 * edgeCount (enter job r .contours)
-unfolding enter flatten
+    → at + recordSize r ≤ besides (phaseAfter (s .phase) (itemOf r)) + 2 * length (withRecord job r .contours) + 66 * edgeCount (withRecord job r .contours)
+unfolding withRecord flatten
 size-after job s at (header x) is-ready may few h = omega (arith, size-is (header x), start (s .phase) may)
   where
     start : (phase : Phase) → atStart phase ≡ true → besides phase ≡ 0
@@ -271,8 +276,10 @@ size-after job s at (header x) is-ready may few h = omega (arith, size-is (heade
 size-after job s at contour is-ready may few h = rw (length-append (job .contours) ([] ∷ []), more-concat (job .contours))
     (omega (arith, size-is contour, among-besides (s .phase) may))
 size-after job s at (edge e) is-ready may few h =
-    rw (with-edge-length (job .contours) e, with-edge-concat (job .contours) e is-ready, length-append (flatten (job .contours)) (e ∷ [])) (omega (arith, size-is (edge e), controls-few (kindOf e)))
-size-after job s at (distances ds) is-ready may few h = omega (arith, among-besides (s .phase) (and-left (among (s .phase)) (byDistance (s .numbers .header .strategy)) may))
+    rw (with-edge-length (job .contours) e, with-edge-concat (job .contours) e is-ready, length-append (flatten (job .contours)) (e ∷ []))
+    (omega (arith, size-is (edge e), controls-few (kindOf e)))
+size-after job s at (distances ds) is-ready may few h =
+    omega (arith, among-besides (s .phase) (and-left (among (s .phase)) (byDistance (s .numbers .header .strategy)) may))
 
 -- a record, read at such a place
 module _ (file : List ℕ) (p : Progress) (at : Reached file p) (r : Record) (rest : List ℕ) (e : readRecord (p .state) (drop (p .at) file) ≡ next r rest) where
@@ -291,7 +298,7 @@ module _ (file : List ℕ) (p : Progress) (at : Reached file p) (r : Record) (re
   fits-in : p .at + recordSize r ≤ length file
   fits-in = omega (arith, record-taken .whole, length-drop (p .at) file, at .within)
 
-  pub counts : length file < 2 ^ 64 → Counts p (recordSize r)
+  pub counts : length file < 2 ^ 64 → CanAdvance p (recordSize r)
   counts h = record {
     place = omega (arith, fits-in);
     contours = omega (arith, contours-are, at .contours-fit);
@@ -301,11 +308,11 @@ module _ (file : List ℕ) (p : Progress) (at : Reached file p) (r : Record) (re
   pub further : p .at < p .at + recordSize r
   further = omega (arith, size-some r)
 
-  pub ahead : jobFrom (enter (at .job) r) (recordsFrom (after (p .state) (itemOf r)) (drop (p .at + recordSize r) file)) ≡ readJob file
+  pub ahead : jobFrom (withRecord (at .job) r) (recordsFrom (after (p .state) (itemOf r)) (drop (p .at + recordSize r) file)) ≡ readJob file
   unfolding jobFrom
   ahead =
       let beyond : rest ≡ drop (p .at + recordSize r) file = record-taken .beyond ∙ drop-drop (recordSize r) (p .at) file in
-      subst (λ (x : List ℕ). jobFrom (enter (at .job) r) (recordsFrom (after (p .state) (itemOf r)) x) ≡ readJob file) beyond
+      subst (λ (x : List ℕ). jobFrom (withRecord (at .job) r) (recordsFrom (after (p .state) (itemOf r)) x) ≡ readJob file) beyond
       (sym (ap (jobFrom (at .job)) (records-next (p .state) (drop (p .at) file) r rest e)) ∙ at .rest)
 
   -- the place after it
@@ -321,7 +328,7 @@ module _ (file : List ℕ) (p : Progress) (at : Reached file p) (r : Record) (re
   strategy-is : p .state .numbers .header .strategy ≡ at .job .header .strategy
   strategy-is = ap (λ (n : Numbers). n .header .strategy) (at .numbers-are)
 
-  further-records : soFar (phaseAfter (p .state .phase) (itemOf r)) (enter (at .job) r) ≡ soFar (p .state .phase) (at .job) ++ (r ∷ [])
+  further-records : soFar (phaseAfter (p .state .phase) (itemOf r)) (withRecord (at .job) r) ≡ soFar (p .state .phase) (at .job) ++ (r ∷ [])
   further-records = so-far-next (at .job) (p .state .phase) _ r (record-taken .may) is-ready (at .nothing-yet)
 
   -- what is taken off is the bytes of the record
@@ -330,7 +337,7 @@ module _ (file : List ℕ) (p : Progress) (at : Reached file p) (r : Record) (re
 
   pub reached-next : Reached file onward
   reached-next = record {
-    job = enter (at .job) r;
+    job = withRecord (at .job) r;
     numbers-are = ap (λ (n : Numbers). counted n (itemOf r)) (at .numbers-are) ∙ numbers-next (at .job) r is-ready;
     within = fits-in;
     rest = ahead;
@@ -348,14 +355,14 @@ module _ (file : List ℕ) (p : Progress) (at : Reached file p) (r : Record) (re
     holdable = λ are. holdable-next (at .job) r (drop (p .at) file) is-ready (record-taken .held) (are-dropped (p .at) file are) (at .holdable are);
   }
 
-  pub next-job : reached-next .job ≡ enter (at .job) r
+  pub next-job : reached-next .job ≡ withRecord (at .job) r
   unfolding reached-next
   next-job = refl
 
 -- the same from what the code finds
 module _ (file : List ℕ) (p : Progress) (at : Reached file p) {item : Item} {size : ℕ}
     (read : Read-as (readRecord (p .state) (drop (p .at) file)) item size) where
-  pub counts-on : length file < 2 ^ 64 → Counts p size
+  pub counts-on : length file < 2 ^ 64 → CanAdvance p size
   counts-on h = rw (← read .is-size) (counts file p at (read .r) (read .rest) (read .is-next) h)
 
   pub reached-on : Reached file (advanced p item size)
@@ -370,14 +377,14 @@ module _ (file : List ℕ) (p : Progress) (at : Reached file p) {item : Item} {s
   )
 
 -- the end of the file, and a fault
-pub reached-end : (file : List ℕ) (p : Progress) (at : Reached file p) → readRecord (p .state) (drop (p .at) file) ≡ ends → reads (at .job) ≡ readJob file
+pub reached-end : (file : List ℕ) (p : Progress) (at : Reached file p) → readRecord (p .state) (drop (p .at) file) ≡ ends → gives (at .job) ≡ readJob file
 unfolding jobFrom
 reached-end file p at e = sym (ap (jobFrom (at .job)) (records-end (p .state) (drop (p .at) file) e)) ∙ at .rest
 
-pub reached-fault : (file : List ℕ) (p : Progress) (at : Reached file p) (refusal : Refusal) → readRecord (p .state) (drop (p .at) file) ≡ fails refusal
-    → refuses refusal ≡ readJob file
+pub reached-fault : (file : List ℕ) (p : Progress) (at : Reached file p) (number : ℕ) → readRecord (p .state) (drop (p .at) file) ≡ fails number
+    → refusal number ≡ readJob file
 unfolding jobFrom
-reached-fault file p at refusal e = sym (ap (jobFrom (at .job)) (records-fault (p .state) (drop (p .at) file) refusal e)) ∙ at .rest
+reached-fault file p at number e = sym (ap (jobFrom (at .job)) (records-fault (p .state) (drop (p .at) file) number e)) ∙ at .rest
 
 -- ---- a file that is read is read to its end
 
@@ -388,17 +395,17 @@ pub record Ends-at (file : List ℕ) (job : Job) : Type 0 where
   pub is-job : at .job ≡ job
 
 -- the end is here, or after the record that is read here
-ends-here : (file : List ℕ) (job : Job) (p : Progress) → Reached file p → readJob file ≡ reads job
+ends-here : (file : List ℕ) (job : Job) (p : Progress) → Reached file p → readJob file ≡ gives job
     → ((r : Record) (rest : List ℕ) → readRecord (p .state) (drop (p .at) file) ≡ next r rest → Ends-at file job)
     → (step : Step) → readRecord (p .state) (drop (p .at) file) ≡ step → Ends-at file job
 ends-here file job p at e later (next r rest) f = later r rest f
 ends-here file job p at e later ends f = record { p = p; at = at; at-end = f; is-job = let same = reached-end file p at f ∙ e in cc }
-ends-here file job p at e later (fails refusal) f =
-    let never = reached-fault file p at refusal f ∙ e in
+ends-here file job p at e later (fails number) f =
+    let never = reached-fault file p at number f ∙ e in
     let z : _≡_ {A = ℕ} 0 1 = cc in
     absurd (omega arith)
 
-ends-within : (n : ℕ) (file : List ℕ) (job : Job) (p : Progress) → Reached file p → length file - p .at ≤ n → readJob file ≡ reads job → Ends-at file job
+ends-within : (n : ℕ) (file : List ℕ) (job : Job) (p : Progress) → Reached file p → length file - p .at ≤ n → readJob file ≡ gives job → Ends-at file job
 ends-within zero file job p at h e =
     ends-here file job p at e
     (λ r rest f. absurd (omega (arith, further file p at r rest f, reached-next file p at r rest f .within)))
@@ -409,21 +416,21 @@ ends-within (suc n) file job p at h e =
     (omega (arith, further file p at r rest f, reached-next file p at r rest f .within)) e)
     (readRecord (p .state) (drop (p .at) file)) refl
 
-ends-at : (file : List ℕ) (job : Job) → readJob file ≡ reads job → Ends-at file job
+ends-at : (file : List ℕ) (job : Job) → readJob file ≡ gives job → Ends-at file job
 ends-at file job e = ends-within (length file) file job begin (reached-begin file) (omega arith) e
 
 -- a job that is read keeps to the maxima
-pub contours-few : (file : List ℕ) (job : Job) → readJob file ≡ reads job → length (job .contours) ≤ 64
-contours-few file job e = let end = ends-at file job e in subst (λ (j : Job). length (j .contours) ≤ 64) (end .is-job) (end .at .contours-fit)
+pub contours-few : (file : List ℕ) (job : Job) → readJob file ≡ gives job → length (job .contours) ≤ maxContours
+contours-few file job e = let end = ends-at file job e in subst (λ (j : Job). length (j .contours) ≤ maxContours) (end .is-job) (end .at .contours-fit)
 
-pub edges-few : (file : List ℕ) (job : Job) → readJob file ≡ reads job → edgeCount (job .contours) ≤ 256
-edges-few file job e = let end = ends-at file job e in subst (λ (j : Job). edgeCount (j .contours) ≤ 256) (end .is-job) (end .at .edges-fit)
+pub edges-few : (file : List ℕ) (job : Job) → readJob file ≡ gives job → edgeCount (job .contours) ≤ maxEdges
+edges-few file job e = let end = ends-at file job e in subst (λ (j : Job). edgeCount (j .contours) ≤ maxEdges) (end .is-job) (end .at .edges-fit)
 
-pub job-sound : (file : List ℕ) (job : Job) → readJob file ≡ reads job → Sound job
+pub job-sound : (file : List ℕ) (job : Job) → readJob file ≡ gives job → Sound job
 job-sound file job e = let end = ends-at file job e in subst Sound (end .is-job) (end .at .sound)
 
--- and has at most 19 + 64 · 2 + 256 · 66 + 4 + 2,016 · 8 + 2 bytes
-pub bytes-few : (file : List ℕ) (job : Job) → readJob file ≡ reads job → length file ≤ 33177
+-- and is not too long
+pub bytes-few : (file : List ℕ) (job : Job) → readJob file ≡ gives job → length file ≤ maxFile
 bytes-few file job e =
     let end = ends-at file job e in
     let p = end .p in
@@ -445,10 +452,10 @@ bytes-few file job e =
 
 -- ---- a file that is read is the file of its job, which it can hold
 
-pub job-holdable : (file : List ℕ) (job : Job) → AreBytes file → readJob file ≡ reads job → Holdable job
+pub job-holdable : (file : List ℕ) (job : Job) → AreBytes file → readJob file ≡ gives job → Holdable job
 job-holdable file job are e = let end = ends-at file job e in subst Holdable (end .is-job) (end .at .holdable are)
 
-pub file-of-job : (file : List ℕ) (job : Job) → AreBytes file → readJob file ≡ reads job → file ≡ fileOf job
+pub file-of-job : (file : List ℕ) (job : Job) → AreBytes file → readJob file ≡ gives job → file ≡ fileOf job
 unfolding fileOf
 file-of-job file job are e =
     let end = ends-at file job e in

@@ -24,12 +24,13 @@ use Rattle.job.specs.declared.records.Phase.the-variants.{Start, Outside
 use Rattle.job.specs.Patterns.{words, floats}
 use Rattle.job.specs.Records.{Record, header, contour, edge, distances, atStart, among, closing, byDistance, allowed, recordMark, itemOf}
 use Rattle.job.specs.Records.{phaseAfter, controls, coordinates, edgeOf, bytesOf}
-use Rattle.job.specs.Job.{Job, withEdge, enter, contourRecords, outlineRecords, recordsOf, recordBytes, doubles}
+use Rattle.job.specs.Job.{Job, withEdge, withRecord, contourRecords, outlineRecords, recordsOf, recordBytes, doubles}
 use Rattle.job.proofs.progress.ReadyLaws.{Ready}
 
 -- ---- the records of some contours
 
-contours-more : (contours : List (List EdgeSegment)) → flatten (map contourRecords (contours ++ ([] ∷ []))) ≡ flatten (map contourRecords contours) ++ (contour ∷ [])
+contours-more : (contours : List (List EdgeSegment))
+    → flatten (map contourRecords (contours ++ ([] ∷ []))) ≡ flatten (map contourRecords contours) ++ (contour ∷ [])
 unfolding flatten
 contours-more [] = refl
 contours-more (c ∷ contours) = rw (contours-more contours) (sym (append-assoc (contourRecords c) (flatten (map contourRecords contours)) (contour ∷ [])))
@@ -74,8 +75,8 @@ unfolding outlineRecords
 outline-header h contours e = rw e
 
 pub so-far-next : (job : Job) (phase : Phase) (by : Strategy) (r : Record) → allowed phase by (recordMark r) ≡ true → Ready job r
-    → (atStart phase ≡ true → job .contours ≡ []) → soFar (phaseAfter phase (itemOf r)) (enter job r) ≡ soFar phase job ++ (r ∷ [])
-unfolding enter
+    → (atStart phase ≡ true → job .contours ≡ []) → soFar (phaseAfter phase (itemOf r)) (withRecord job r) ≡ soFar phase job ++ (r ∷ [])
+unfolding withRecord
 so-far-next job Start by (header h) may ready none = outline-header h (job .contours) (none refl)
 so-far-next job Outside by (header h) may ready none = cc
 so-far-next job Inside by (header h) may ready none = cc
@@ -104,8 +105,8 @@ so-far-end job Closing may asked = rw (asked refl)
 -- the strategy asks for distances where they were read
 pub asked-next : (job : Job) (phase : Phase) (by : Strategy) (r : Record) → by ≡ job .header .strategy → allowed phase by (recordMark r) ≡ true
     → (closing phase ≡ true → byDistance (job .header .strategy) ≡ true) → closing (phaseAfter phase (itemOf r)) ≡ true
-    → byDistance (enter job r .header .strategy) ≡ true
-unfolding enter
+    → byDistance (withRecord job r .header .strategy) ≡ true
+unfolding withRecord
 asked-next job phase by (header h) e may asked c = cc
 asked-next job phase by contour e may asked c = cc
 asked-next job phase by (edge x) e may asked c = asked c

@@ -10,19 +10,21 @@ use lib.Ieee.{Float}
 use borrow.Author.Tests.{leb-true}
 use Rattle.geometry.specs.declared.edge_segment.EdgeSegment.{EdgeSegment}
 use Rattle.geometry.specs.EdgeSegment.{toStored}
-use Rattle.coloring.specs.declared.refusal.Refusal.{Refusal}
 use Rattle.coloring.specs.Lists.{over}
 use Rattle.coloring.specs.Sizes.{sizes, places-length, points-length}
+use Rattle.coloring.specs.Limits.{maxEdges}
+use Rattle.coloring.specs.Answers.{gives, refusal}
 use Rattle.job.specs.declared.records.State.{State}
 use Rattle.job.specs.declared.records.Item.{Item}
 use Rattle.job.specs.declared.progress.Progress.{Progress}
 use Rattle.job.specs.Patterns.{words, floats}
 use Rattle.job.specs.Records.{Record, header, contour, edge, distances, Step, next, ends, fails, controls, kindOf, edgeOf, itemOf, closing}
 use Rattle.job.specs.Records.{recordMark, recordSize, readRecord, after, Records, complete, fault, _then_, recordsFrom}
-use Rattle.job.specs.Job.{Job, withEdge, enter, Reading, reads, refuses, jobFrom, readJob}
+use Rattle.job.specs.Job.{Job, withEdge, withRecord, Reading, jobFrom, readJob}
 use Rattle.job.specs.Progress.{edgeCount, numbersOf, begin, advanced}
 use Rattle.job.specs.Reader.{Fits, filled}
-use Rattle.job.specs.Buffers.{Buffers, buffers, kindsOf, placesOf, kindNumber, placesFrom, stored, overEach, written, roomFor, hasRoom, Hold, Room}
+use Rattle.job.specs.Buffers.{Buffers, buffers, kindsStored, pointsStored, kindNumber, pointsRead, storedJob}
+use Rattle.job.specs.Buffers.{overEach, written, roomFor, hasRoom, Hold, RecordFits}
 use Rattle.job.proofs.records.RecordLaws.{Allowed, size-is}
 use Rattle.job.proofs.records.ReadingLaws.{Taken, taken, Read-as, records-end, records-fault}
 use Rattle.job.proofs.progress.ReadyLaws.{Ready}
@@ -34,31 +36,32 @@ use Rattle.job.proofs.buffers.StoredLaws.{map-snoc, lengths-edge, last-
 
 -- ---- a job so far is a part of the whole
 
-enter-grows : (job : Job) (r : Record) → (length (job .contours) ≤ length (enter job r .contours)) × (edgeCount (job .contours) ≤ edgeCount (enter job r .contours))
-unfolding enter withEdge flatten
-enter-grows job (header h) = (omega arith, omega arith)
-enter-grows job contour = (omega (arith, length-append (job .contours) ([] ∷ [])), omega (arith, ap length (more-concat (job .contours))))
-enter-grows job (edge e) = (omega (arith, with-edge-length (job .contours) e), more (job .contours))
+with-record-grows : (job : Job) (r : Record)
+    → (length (job .contours) ≤ length (withRecord job r .contours)) × (edgeCount (job .contours) ≤ edgeCount (withRecord job r .contours))
+unfolding withRecord withEdge flatten
+with-record-grows job (header h) = (omega arith, omega arith)
+with-record-grows job contour = (omega (arith, length-append (job .contours) ([] ∷ [])), omega (arith, ap length (more-concat (job .contours))))
+with-record-grows job (edge e) = (omega (arith, with-edge-length (job .contours) e), more (job .contours))
   where
     more : (contours : List (List EdgeSegment)) → edgeCount contours ≤ edgeCount (withEdge contours e)
     more [] = omega arith
     more (c ∷ contours) = omega (arith, ap length (with-edge-concat (c ∷ contours) e (omega arith)), length-append (flatten (c ∷ contours)) (e ∷ []))
-enter-grows job (distances ds) = (omega arith, omega arith)
+with-record-grows job (distances ds) = (omega arith, omega arith)
 
-grows : (job whole : Job) (records : Records) → jobFrom job records ≡ reads whole
+grows : (job whole : Job) (records : Records) → jobFrom job records ≡ gives whole
     → (length (job .contours) ≤ length (whole .contours)) × (edgeCount (job .contours) ≤ edgeCount (whole .contours))
 unfolding jobFrom
 grows job whole complete e =
     let same : job ≡ whole = cc in
     (omega (arith, ap (λ (j : Job). length (j .contours)) same), omega (arith, ap (λ (j : Job). edgeCount (j .contours)) same))
-grows job whole (fault refusal) e = let z : _≡_ {A = ℕ} 0 1 = cc in absurd (omega arith)
+grows job whole (fault number) e = let z : _≡_ {A = ℕ} 0 1 = cc in absurd (omega arith)
 grows job whole (r then rest) e =
-    let one = enter-grows job r in
-    let all = grows (enter job r) whole rest e in
+    let one = with-record-grows job r in
+    let all = grows (withRecord job r) whole rest e in
     (omega arith, omega arith)
 
 -- nothing comes after the distances
-closing-final : (s : State) (bytes : List ℕ) (job whole : Job) → closing (s .phase) ≡ true → jobFrom job (recordsFrom s bytes) ≡ reads whole → job ≡ whole
+closing-final : (s : State) (bytes : List ℕ) (job whole : Job) → closing (s .phase) ≡ true → jobFrom job (recordsFrom s bytes) ≡ gives whole → job ≡ whole
 unfolding jobFrom
 closing-final s bytes job whole h e = go (readRecord s bytes) refl
   where
@@ -67,7 +70,7 @@ closing-final s bytes job whole h e = go (readRecord s bytes) refl
         let no = not-closing s r (taken s bytes r rest f .may) in
         let z : _≡_ {A = ℕ} 0 1 = cc in absurd (omega arith)
     go ends f = let done = sym (ap (jobFrom job) (records-end s bytes f)) ∙ e in cc
-    go (fails refusal) f = let stopped = sym (ap (jobFrom job) (records-fault s bytes refusal f)) ∙ e in cc
+    go (fails number) f = let stopped = sym (ap (jobFrom job) (records-fault s bytes number f)) ∙ e in cc
 
 -- ---- room
 
@@ -107,8 +110,8 @@ roomy job old h =
     }
 
 fitting : (job : Job) (old : Buffers) (contours edges : ℕ) → length (job .contours) ≤ contours → edgeCount (job .contours) ≤ edges
-    → Roomy contours edges (length (job .distances)) old → Fitting (stored job) old
-unfolding stored
+    → Roomy contours edges (length (job .distances)) old → Fitting (storedJob job) old
+unfolding storedJob
 fitting job old contours edges h k room = record {
   lengths-fit = omega (arith, length-map (job .contours) (λ (c : List EdgeSegment). length c), room .contours-fit);
   kinds-fit = omega (arith, kinds-length (flatten (job .contours)), room .edges-fit);
@@ -134,9 +137,9 @@ module _ (job : Job) (old : Buffers) (s : State) (bytes : List ℕ)
   count : length (sizes contours) ≡ length contours
   count = length-map contours (λ (c : List EdgeSegment). length c)
 
-  written-contour : Fitting (stored (enter job contour)) old → written (itemOf contour) (s .numbers) bytes (overEach (stored job) old) ≡ overEach
-      (stored (enter job contour)) old
-  unfolding written overEach stored enter
+  written-contour : Fitting (storedJob (withRecord job contour)) old → written (itemOf contour) (s .numbers) bytes (overEach (storedJob job) old) ≡ overEach
+      (storedJob (withRecord job contour)) old
+  unfolding written overEach storedJob withRecord
   written-contour fit =
       let more : sizes (contours ++ ([] ∷ [])) ≡ sizes contours ++ (0 ∷ []) = map-snoc (λ (c : List EdgeSegment). length c) contours [] in
       let at : s .numbers .contours ≡ length (sizes contours) = contours-at ∙ sym count in
@@ -148,81 +151,84 @@ module _ (job : Job) (old : Buffers) (s : State) (bytes : List ℕ)
       (rw (more-concat contours))
       refl
 
-  written-edge : (e : EdgeSegment) → 0 < length contours → Fitting (stored (enter job (edge e))) old
+  written-edge : (e : EdgeSegment) → 0 < length contours → Fitting (storedJob (withRecord job (edge e))) old
       → e ≡ edgeOf (kindOf e) (floats (words (2 * controls (kindOf e)) (take (16 * controls (kindOf e)) (drop 2 bytes))))
-      → written (itemOf (edge e)) (s .numbers) bytes (overEach (stored job) old) ≡ overEach (stored (enter job (edge e))) old
-  unfolding written overEach stored enter placesFrom
+      → written (itemOf (edge e)) (s .numbers) bytes (overEach (storedJob job) old) ≡ overEach (storedJob (withRecord job (edge e))) old
+  unfolding written overEach storedJob withRecord pointsRead
   written-edge e opened fit held =
       let all : flatten (withEdge contours e) ≡ edges ++ (e ∷ []) = with-edge-concat contours e opened in
       let last : s .numbers .contours - 1 ≡ length contours - 1 = omega arith in
       let inside : length contours - 1 < length (sizes contours) = omega (arith, count) in
       let fewer : length (sizes contours) ≤ length (old .lengths) = omega
       (arith, count, fit .lengths-fit, length-map (withEdge contours e) (λ (c : List EdgeSegment). length c), with-edge-length contours e) in
-      let at : s .numbers .edges ≡ length (kindsOf edges) = edges-at ∙ sym (kinds-length edges) in
-      let kinds : kindsOf (flatten (withEdge contours e)) ≡ kindsOf edges ++ (kindNumber (kindOf e) ∷ []) = ap kindsOf all ∙ kinds-edge edges e ∙ ap (λ (n : ℕ). kindsOf edges ++ (n ∷ [])) (kind-number e) in
-      let points : placesOf (flatten (withEdge contours e)) ≡ placesOf edges ++ toStored e .points = ap placesOf all ∙ places-edge edges e in
+      let at : s .numbers .edges ≡ length (kindsStored edges) = edges-at ∙ sym (kinds-length edges) in
+      let kinds : kindsStored (flatten (withEdge contours e)) ≡ kindsStored edges ++ (kindNumber (kindOf e) ∷ []) =
+      ap kindsStored all ∙ kinds-edge edges e ∙ ap (λ (n : ℕ). kindsStored edges ++ (n ∷ [])) (kind-number e) in
+      let points : pointsStored (flatten (withEdge contours e)) ≡ pointsStored edges ++ toStored e .points = ap pointsStored all ∙ places-edge edges e in
       same
       (rw (last, over-getD (sizes contours) (old .lengths) (length contours - 1) 0 inside)
       (over-set (sizes contours) (old .lengths) (length contours - 1) _ inside fewer)
       ∙ ap (λ (x : List ℕ). over x (old .lengths)) (sym (lengths-edge contours e opened)))
-      (ap (λ (n : ℕ). set (over (kindsOf edges) (old .kinds)) n (kindNumber (kindOf e))) at
-      ∙ over-more (kindsOf edges) (old .kinds) (kindNumber (kindOf e))
-      (omega (arith, fit .kinds-fit, ap length kinds, length-append (kindsOf edges) (kindNumber (kindOf e) ∷ [])))
+      (ap (λ (n : ℕ). set (over (kindsStored edges) (old .kinds)) n (kindNumber (kindOf e))) at
+      ∙ over-more (kindsStored edges) (old .kinds) (kindNumber (kindOf e))
+      (omega (arith, fit .kinds-fit, ap length kinds, length-append (kindsStored edges) (kindNumber (kindOf e) ∷ [])))
       ∙ ap (λ (x : List ℕ). over x (old .kinds)) (sym kinds))
-      (ap (λ (x : EdgeSegment). take (8 * s .numbers .edges) (over (placesOf edges) (old .points))
-      ++ (toStored x .points ++ drop 8 (drop (8 * s .numbers .edges) (over (placesOf edges) (old .points))))) (sym held)
-      ∙ over-part (placesOf edges) (toStored e .points) (old .points) (8 * s .numbers .edges) 8 (omega (arith, edges-at, points-length edges))
+      (ap (λ (x : EdgeSegment). take (8 * s .numbers .edges) (over (pointsStored edges) (old .points))
+      ++ (toStored x .points ++ drop 8 (drop (8 * s .numbers .edges) (over (pointsStored edges) (old .points))))) (sym held)
+      ∙ over-part (pointsStored edges) (toStored e .points) (old .points) (8 * s .numbers .edges) 8 (omega (arith, edges-at, points-length edges))
       (sym (places-length e))
       ∙ ap (λ (x : List Float). over x (old .points)) (sym points))
       refl
 
   written-distances : (ds : List Float) → job .distances ≡ [] → ds ≡ floats (words (length ds) (drop 4 bytes))
-      → written (itemOf (distances ds)) (s .numbers) bytes (overEach (stored job) old) ≡ overEach (stored (enter job (distances ds))) old
-  unfolding written overEach stored enter over
+      → written (itemOf (distances ds)) (s .numbers) bytes (overEach (storedJob job) old) ≡ overEach (storedJob (withRecord job (distances ds))) old
+  unfolding written overEach storedJob withRecord over
   written-distances ds none held = same refl refl refl (rw none (ap (λ (x : List Float). x ++ drop (length x) (old .distances)) (sym held)))
 
   written-next : (r : Record) (rest : List ℕ) → Taken s bytes r rest → Ready job r → (closing (s .phase) ≡ false → job .distances ≡ [])
-      → Fitting (stored (enter job r)) old
-      → written (itemOf r) (s .numbers) bytes (overEach (stored job) old) ≡ overEach (stored (enter job r)) old
-  written-next (header h) rest t ready none fit = unfold written overEach stored enter in refl
+      → Fitting (storedJob (withRecord job r)) old
+      → written (itemOf r) (s .numbers) bytes (overEach (storedJob job) old) ≡ overEach (storedJob (withRecord job r)) old
+  written-next (header h) rest t ready none fit = unfold written overEach storedJob withRecord in refl
   written-next contour rest t ready none fit = written-contour fit
   written-next (edge e) rest t ready none fit = written-edge e ready fit (t .held)
   written-next (distances ds) rest t ready none fit = written-distances ds (none (not-closing s (distances ds) (t .may))) (t .held .1)
 
   -- there is room for the record
-  room-contour : Fitting (stored (enter job contour)) old → Room (itemOf contour) (s .numbers) bytes (overEach (stored job) old)
-  unfolding overEach stored enter
+  room-contour : Fitting (storedJob (withRecord job contour)) old → RecordFits (itemOf contour) (s .numbers) bytes (overEach (storedJob job) old)
+  unfolding overEach storedJob withRecord
   room-contour fit =
       let more : length (sizes (contours ++ ([] ∷ []))) ≡ length contours + 1 = length-map (contours ++ ([] ∷ [])) (λ (c : List EdgeSegment). length c)
       ∙ length-append contours ([] ∷ []) in
       rw (over-length (sizes contours) (old .lengths) (omega (arith, count, more, fit .lengths-fit))) (omega (arith, more, fit .lengths-fit))
 
-  room-edge : (e : EdgeSegment) → 0 < length contours → edgeCount contours ≤ 256 → 2 + 16 * controls (kindOf e) ≤ length bytes
-      → Fitting (stored (enter job (edge e))) old
-      → Room (itemOf (edge e)) (s .numbers) bytes (overEach (stored job) old)
-  unfolding overEach stored enter
+  room-edge : (e : EdgeSegment) → 0 < length contours → edgeCount contours ≤ maxEdges → 2 + 16 * controls (kindOf e) ≤ length bytes
+      → Fitting (storedJob (withRecord job (edge e))) old
+      → RecordFits (itemOf (edge e)) (s .numbers) bytes (overEach (storedJob job) old)
+  unfolding overEach storedJob withRecord
   room-edge e opened few whole fit =
       let all : edgeCount (withEdge contours e) ≡ edgeCount contours + 1 = ap length (with-edge-concat contours e opened) ∙ length-append edges (e ∷ []) in
-      let lengths-in : length (sizes contours) ≤ length (old .lengths) = omega (arith, count, fit .lengths-fit, length-map (withEdge contours e) (λ (c : List EdgeSegment). length c), with-edge-length contours e) in
+      let lengths-in : length (sizes contours) ≤ length (old .lengths) =
+      omega (arith, count, fit .lengths-fit, length-map (withEdge contours e) (λ (c : List EdgeSegment). length c), with-edge-length contours e) in
       let kinds-in : edgeCount contours + 1 ≤ length (old .kinds) = omega (arith, fit .kinds-fit, kinds-length (flatten (withEdge contours e)), all) in
-      let points-in : 8 * (edgeCount contours + 1) ≤ length (old .points) = omega (arith, fit .points-fit, points-length (flatten (withEdge contours e)), all) in
+      let points-in : 8 * (edgeCount contours + 1) ≤ length (old .points) =
+      omega (arith, fit .points-fit, points-length (flatten (withEdge contours e)), all) in
       let last : s .numbers .contours - 1 ≡ length contours - 1 = omega arith in (
         omega arith,
         omega (arith, over-length (sizes contours) (old .lengths) lengths-in, count),
         rw (last, over-getD (sizes contours) (old .lengths) (length contours - 1) 0 (omega (arith, count))) (omega (arith, last-few contours opened)),
-        omega (arith, over-length (kindsOf edges) (old .kinds) (omega (arith, kinds-length edges))),
-        omega (arith, over-length (placesOf edges) (old .points) (omega (arith, points-length edges))),
+        omega (arith, over-length (kindsStored edges) (old .kinds) (omega (arith, kinds-length edges))),
+        omega (arith, over-length (pointsStored edges) (old .points) (omega (arith, points-length edges))),
         whole,
       )
 
-  room-distances : (ds : List Float) → job .distances ≡ [] → 4 + 8 * length ds ≤ length bytes → Fitting (stored (enter job (distances ds))) old
-      → Room (itemOf (distances ds)) (s .numbers) bytes (overEach (stored job) old)
-  unfolding overEach stored enter over
+  room-distances : (ds : List Float) → job .distances ≡ [] → 4 + 8 * length ds ≤ length bytes → Fitting (storedJob (withRecord job (distances ds))) old
+      → RecordFits (itemOf (distances ds)) (s .numbers) bytes (overEach (storedJob job) old)
+  unfolding overEach storedJob withRecord over
   room-distances ds none whole fit = (rw none (fit .distances-fit), whole)
 
   room-next : (r : Record) (rest : List ℕ) → Taken s bytes r rest → Ready job r → (closing (s .phase) ≡ false → job .distances ≡ [])
-      → edgeCount contours ≤ 256 → Fitting (stored (enter job r)) old
-      → Room (itemOf r) (s .numbers) bytes (overEach (stored job) old)
+      → edgeCount contours ≤ maxEdges → Fitting (storedJob (withRecord job r)) old
+      → RecordFits (itemOf r) (s .numbers) bytes (overEach (storedJob job) old)
   room-next (header h) rest t ready none few fit = tt
   room-next contour rest t ready none few fit = room-contour fit
   room-next (edge e) rest t ready none few fit = room-edge e ready few (omega (arith, t .whole, size-is (edge e))) fit
@@ -232,27 +238,27 @@ module _ (job : Job) (old : Buffers) (s : State) (bytes : List ℕ)
 -- the distances of the job so far are those of the whole, or none
 distances-so-far : (job whole : Job) (s : State) (bytes rest : List ℕ) (r : Record) → Allowed s (recordMark r)
     → (closing (s .phase) ≡ false → job .distances ≡ [])
-    → jobFrom (enter job r) (recordsFrom (after s (itemOf r)) rest) ≡ reads whole → length (enter job r .distances) ≤ length (whole .distances)
-unfolding enter
+    → jobFrom (withRecord job r) (recordsFrom (after s (itemOf r)) rest) ≡ gives whole → length (withRecord job r .distances) ≤ length (whole .distances)
+unfolding withRecord
 distances-so-far job whole s bytes rest (header h) may none e = omega (arith, ap length (none (not-closing s (header h) may)))
 distances-so-far job whole s bytes rest contour may none e = omega (arith, ap length (none (not-closing s contour may)))
 distances-so-far job whole s bytes rest (edge x) may none e = omega (arith, ap length (none (not-closing s (edge x) may)))
 distances-so-far job whole s bytes rest (distances ds) may none e =
-    omega (arith, ap (λ (j : Job). length (j .distances)) (closing-final (after s (itemOf (distances ds))) rest (enter job (distances ds)) whole refl e))
+    omega (arith, ap (λ (j : Job). length (j .distances)) (closing-final (after s (itemOf (distances ds))) rest (withRecord job (distances ds)) whole refl e))
 
 -- ---- in the file
 
 module _ (file : List ℕ) (p : Progress) (at : Reached file p) (r : Record) (rest : List ℕ) (e : readRecord (p .state) (drop (p .at) file) ≡ next r rest)
-    (old : Buffers) (whole : Job) (f : readJob file ≡ reads whole) (room : hasRoom (numbersOf whole) old ≡ true) where
-  still : jobFrom (enter (at .job) r) (recordsFrom (after (p .state) (itemOf r)) (drop (p .at + recordSize r) file)) ≡ reads whole
+    (old : Buffers) (whole : Job) (f : readJob file ≡ gives whole) (room : hasRoom (numbersOf whole) old ≡ true) where
+  still : jobFrom (withRecord (at .job) r) (recordsFrom (after (p .state) (itemOf r)) (drop (p .at + recordSize r) file)) ≡ gives whole
   still = ahead file p at r rest e ∙ f
 
-  fitting-next : Fitting (stored (enter (at .job) r)) old
+  fitting-next : Fitting (storedJob (withRecord (at .job) r)) old
   fitting-next =
       let t = record-taken file p at r rest e in
-      let most = grows (enter (at .job) r) whole (recordsFrom (after (p .state) (itemOf r)) (drop (p .at + recordSize r) file)) still in
+      let most = grows (withRecord (at .job) r) whole (recordsFrom (after (p .state) (itemOf r)) (drop (p .at + recordSize r) file)) still in
       let space = roomy whole old room in
-      fitting (enter (at .job) r) old (length (whole .contours)) (edgeCount (whole .contours)) (most .0) (most .1)
+      fitting (withRecord (at .job) r) old (length (whole .contours)) (edgeCount (whole .contours)) (most .0) (most .1)
       (record {
         contours-fit = space .contours-fit;
         edges-fit = space .edges-fit;
@@ -265,12 +271,13 @@ module _ (file : List ℕ) (p : Progress) (at : Reached file p) (r : Record) (re
         );
       })
 
-  room-here : Room (itemOf r) (p .state .numbers) (drop (p .at) file) (overEach (stored (at .job)) old)
+  room-here : RecordFits (itemOf r) (p .state .numbers) (drop (p .at) file) (overEach (storedJob (at .job)) old)
   room-here =
       room-next (at .job) old (p .state) (drop (p .at) file) (contours-are file p at r rest e) (edges-are file p at r rest e) r rest
       (record-taken file p at r rest e) (is-ready file p at r rest e) (at .none-yet) (at .edges-fit) fitting-next
 
-  written-here : written (itemOf r) (p .state .numbers) (drop (p .at) file) (overEach (stored (at .job)) old) ≡ overEach (stored (enter (at .job) r)) old
+  written-here : written (itemOf r) (p .state .numbers) (drop (p .at) file) (overEach (storedJob (at .job)) old)
+      ≡ overEach (storedJob (withRecord (at .job) r)) old
   written-here =
       written-next (at .job) old (p .state) (drop (p .at) file) (contours-are file p at r rest e) (edges-are file p at r rest e) r rest
       (record-taken file p at r rest e) (is-ready file p at r rest e) (at .none-yet) fitting-next
@@ -279,14 +286,14 @@ module _ (file : List ℕ) (p : Progress) (at : Reached file p) (r : Record) (re
 
 pub record Filling (file : List ℕ) (old : Buffers) (p : Progress) (lengths kinds : List ℕ) (points distances : List Float) : Type 0 where
   pub at : Reached file p
-  pub holds : Hold (overEach (stored (at .job)) old) lengths kinds points distances
+  pub holds : Hold (overEach (storedJob (at .job)) old) lengths kinds points distances
   pub lengths-kept : length lengths ≡ length (old .lengths)
   pub kinds-kept : length kinds ≡ length (old .kinds)
   pub points-kept : length points ≡ length (old .points)
   pub distances-kept : length distances ≡ length (old .distances)
 
 pub filling-begin : (file : List ℕ) (old : Buffers) → Filling file old begin (old .lengths) (old .kinds) (old .points) (old .distances)
-unfolding overEach stored over flatten
+unfolding overEach storedJob over flatten
 filling-begin file old = record {
   at = reached-begin file;
   holds = rw (begin-job file) (record { lengths-are = refl; kinds-are = refl; points-are = refl; distances-are = refl });
@@ -302,12 +309,12 @@ held-as b h = same (h .lengths-are) (h .kinds-are) (h .points-are) (h .distances
 
 record Whole (reading : Reading) (old : Buffers) : Type 0 where
   job : Job
-  is : reading ≡ reads job
+  is : reading ≡ gives job
   room : hasRoom (numbersOf job) old ≡ true
 
 whole-of : (reading : Reading) (old : Buffers) → Fits reading old → Whole reading old
-whole-of (refuses refusal) old h = absurd h
-whole-of (reads job) old h = record { job = job; is = refl; room = h }
+whole-of (refusal number) old h = absurd h
+whole-of (gives job) old h = record { job = job; is = refl; room = h }
 
 module _ (file : List ℕ) (old : Buffers) (fits : Fits (readJob file) old) (p : Progress) (lengths kinds : List ℕ) (points ds : List Float)
     (filling : Filling file old p lengths kinds points ds) where
@@ -318,9 +325,9 @@ module _ (file : List ℕ) (old : Buffers) (fits : Fits (readJob file) old) (p :
   whole = whole-of (readJob file) old fits
 
   module _ (item : Item) (size : ℕ) (read : Read-as (readRecord (p .state) (drop (p .at) file)) item size) where
-    pub filling-room : Room item (p .state .numbers) (drop (p .at) file) before
+    pub filling-room : RecordFits item (p .state .numbers) (drop (p .at) file) before
     filling-room =
-        rw (held-as (overEach (stored (filling .at .job)) old) (filling .holds), ← read .is-item)
+        rw (held-as (overEach (storedJob (filling .at .job)) old) (filling .holds), ← read .is-item)
         (room-here file p (filling .at) (read .r) (read .rest) (read .is-next) old (whole .job) (whole .is) (whole .room))
 
     pub filling-next : (lengths' kinds' : List ℕ) (points' ds' : List Float)
@@ -330,11 +337,11 @@ module _ (file : List ℕ) (old : Buffers) (fits : Fits (readJob file) old) (p :
     filling-next lengths' kinds' points' ds' h l k q d =
         let job = filling .at .job in
         let next = reached-next file p (filling .at) (read .r) (read .rest) (read .is-next) in
-        let after : written item (p .state .numbers) (drop (p .at) file) before ≡ overEach (stored (next .job)) old =
-        ap (written item (p .state .numbers) (drop (p .at) file)) (held-as (overEach (stored job) old) (filling .holds))
-        ∙ ap (λ (i : Item). written i (p .state .numbers) (drop (p .at) file) (overEach (stored job) old)) (sym (read .is-item))
+        let after : written item (p .state .numbers) (drop (p .at) file) before ≡ overEach (storedJob (next .job)) old =
+        ap (written item (p .state .numbers) (drop (p .at) file)) (held-as (overEach (storedJob job) old) (filling .holds))
+        ∙ ap (λ (i : Item). written i (p .state .numbers) (drop (p .at) file) (overEach (storedJob job) old)) (sym (read .is-item))
         ∙ written-here file p (filling .at) (read .r) (read .rest) (read .is-next) old (whole .job) (whole .is) (whole .room)
-        ∙ ap (λ (j : Job). overEach (stored j) old) (sym (next-job file p (filling .at) (read .r) (read .rest) (read .is-next))) in
+        ∙ ap (λ (j : Job). overEach (storedJob j) old) (sym (next-job file p (filling .at) (read .r) (read .rest) (read .is-next))) in
         rw (← read .is-item, ← read .is-size)
         (record {
           at = next;
@@ -348,5 +355,5 @@ module _ (file : List ℕ) (old : Buffers) (fits : Fits (readJob file) old) (p :
   pub filling-end : readRecord (p .state) (drop (p .at) file) ≡ ends → Hold (filled (readJob file) old) lengths kinds points ds
   filling-end e = subst (λ (r : Reading). Hold (filled r old) lengths kinds points ds) (reached-end file p (filling .at) e) (filling .holds)
 
-  pub filling-fault : (refusal : Refusal) → readRecord (p .state) (drop (p .at) file) ≡ fails refusal → ⊥
-  filling-fault refusal e = subst (λ (r : Reading). Fits r old) (sym (reached-fault file p (filling .at) refusal e)) fits
+  pub filling-fault : (number : ℕ) → readRecord (p .state) (drop (p .at) file) ≡ fails number → ⊥
+  filling-fault number e = subst (λ (r : Reading). Fits r old) (sym (reached-fault file p (filling .at) number e)) fits

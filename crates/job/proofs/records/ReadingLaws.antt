@@ -13,12 +13,11 @@ use borrow.Author.Tests.{leb-true}
 use Rattle.math.specs.Scalar.{f1}
 use Rattle.geometry.specs.EdgeSegment.{toStored}
 use Rattle.geometry.specs.declared.edge_segment.EdgeSegment.{EdgeSegment}
-use Rattle.coloring.specs.declared.refusal.Refusal.{Refusal}
-use Rattle.coloring.specs.declared.refusal.Refusal.the-variants.{Truncated, MisplacedMark, TooMany, UnknownKind, BadThreshold, BadCoordinate, BadDistance}
 use Rattle.coloring.specs.Lists.{all}
 use Rattle.coloring.specs.Bools.{and-left, and-right}
 use Rattle.coloring.specs.PairOrder.{validDistance, distancesValid}
 use Rattle.coloring.specs.Outline.{between, inRange, usedPlaces, max-coordinate}
+use Rattle.coloring.specs.Limits.{maxDistances}
 use Rattle.job.specs.declared.records.Kind.{Kind}
 use Rattle.job.specs.declared.records.Kind.the-variants.{Line, Quadratic, Cubic}
 use Rattle.job.specs.declared.records.Mark.{Mark}
@@ -28,10 +27,9 @@ use Rattle.job.specs.declared.records.Marked.the-variants.{Known, Unknow
 use Rattle.job.specs.declared.records.Header as fields
 use Rattle.job.specs.declared.records.State.{State}
 use Rattle.job.specs.declared.records.Item.{Item}
-use Rattle.job.specs.declared.records.Found.the-variants as found
 use Rattle.job.specs.Patterns.{number, words, floats, isThreshold, isCoordinate, isDistance}
 use Rattle.job.specs.Records.{strategyOf, recordMark, marked, bytesOf, Record, header, contour, edge, distances, Step, next, ends, fails}
-use Rattle.job.specs.Records.{require, knownStrategy, controls, bodySize, allowed, fits, kindOf, edgeOf, recordSize, itemOf, foundOf, markOf}
+use Rattle.job.specs.Records.{stepIf, knownStrategy, controls, bodySize, allowed, belowMaximum, kindOf, edgeOf, recordSize, itemOf, finds, finished, faulty, foundOf, markOf}
 use Rattle.job.specs.Records.{readHeader, readEdge, readDistances, readEnd, readBody, readMarked, readRecord, after, Records, complete, fault}
 use Rattle.job.specs.Records.{_then_, recordsWithin, recordsFrom}
 use Rattle.job.specs.Job.{thresholdOf}
@@ -47,7 +45,7 @@ abbrev pub Held : Record → List ℕ → Type 0
 Held (header h) bytes = AreBytes bytes → (h .seed < 2 ^ 64) × (h .threshold < 2 ^ 64)
 Held contour bytes = Unit
 Held (edge e) bytes = e ≡ edgeOf (kindOf e) (floats (words (2 * controls (kindOf e)) (take (16 * controls (kindOf e)) (drop 2 bytes))))
-Held (distances ds) bytes = (length ds ≤ 2016) × (ds ≡ floats (words (length ds) (drop 4 bytes)))
+Held (distances ds) bytes = (length ds ≤ maxDistances) × (ds ≡ floats (words (length ds) (drop 4 bytes)))
 
 -- an edge's coordinates lie within their range
 abbrev pub edgeFits : EdgeSegment → Bool
@@ -62,7 +60,7 @@ InRange (distances ds) = distancesValid ds ≡ true
 
 pub record Taken (s : State) (bytes : List ℕ) (r : Record) (rest : List ℕ) : Type 0 where
   pub may : Allowed s (recordMark r)
-  pub room : fits (s .numbers) (recordMark r) ≡ true
+  pub room : belowMaximum (s .numbers) (recordMark r) ≡ true
   pub whole : recordSize r ≤ length bytes
   pub beyond : rest ≡ drop (recordSize r) bytes
   pub held : Held r bytes
@@ -72,13 +70,13 @@ pub record Taken (s : State) (bytes : List ℕ) (r : Record) (rest : List ℕ) :
 abbrev OfStep : State → List ℕ → Step → Type 0
 OfStep s bytes (next r rest) = Taken s bytes r rest
 OfStep s bytes ends = (bytes ≡ marked End []) × Allowed s End
-OfStep s bytes (fails refusal) = Unit
+OfStep s bytes (fails number) = Unit
 
 -- a test passes, or there is nothing to show
-required : (s : State) (bytes : List ℕ) (b : Bool) (refusal : Refusal) (step : Step) → (b ≡ true → OfStep s bytes step)
-    → OfStep s bytes (require b refusal step)
-required s bytes true refusal step f = f refl
-required s bytes false refusal step f = tt
+required : (s : State) (bytes : List ℕ) (b : Bool) (number : ℕ) (step : Step) → (b ≡ true → OfStep s bytes step)
+    → OfStep s bytes (stepIf b number step)
+required s bytes true number step f = f refl
+required s bytes false number step f = tt
 
 -- ---- what the tests of patterns mean of a record's floats
 
@@ -123,7 +121,7 @@ module _ (s : State) (a b : ℕ) (bytes : List ℕ) where
   after-letters : AreBytes all-bytes → AreBytes bytes
   after-letters h i = h (suc (suc i))
 
-  header-taken : Lettered a b Header → Allowed s Header → fits (s .numbers) Header ≡ true → 17 ≤ length bytes
+  header-taken : Lettered a b Header → Allowed s Header → belowMaximum (s .numbers) Header ≡ true → 17 ≤ length bytes
       → OfStep s all-bytes (readHeader (take 17 bytes) (drop 17 bytes))
   unfolding readHeader
   header-taken l may room whole =
@@ -131,8 +129,8 @@ module _ (s : State) (a b : ℕ) (bytes : List ℕ) where
       let threshold = number (take 8 (drop 9 body)) in
       let h : fields.Header = record { strategy = strategyOf (getD body 0 0); seed = number (take 8 (drop 1 body)); threshold = threshold } in
       let found = next (header h) (drop 17 bytes) in
-      required s all-bytes (knownStrategy (getD body 0 0)) UnknownKind (require (isThreshold threshold) BadThreshold found)
-      (λ known. required s all-bytes (isThreshold threshold) BadThreshold found
+      required s all-bytes (knownStrategy (getD body 0 0)) 5 (stepIf (isThreshold threshold) 6 found)
+      (λ known. required s all-bytes (isThreshold threshold) 6 found
       (λ within. record {
         may = may;
         room = room;
@@ -143,7 +141,8 @@ module _ (s : State) (a b : ℕ) (bytes : List ℕ) where
         in-range = threshold-fits h within;
       }))
 
-  edge-taken : (kind : Kind) → Lettered a b (Edge kind) → Allowed s (Edge kind) → fits (s .numbers) (Edge kind) ≡ true → 16 * controls kind ≤ length bytes
+  edge-taken : (kind : Kind) → Lettered a b (Edge kind) → Allowed s (Edge kind) → belowMaximum (s .numbers) (Edge kind) ≡ true
+      → 16 * controls kind ≤ length bytes
       → OfStep s all-bytes (readEdge kind (take (16 * controls kind) bytes) (drop (16 * controls kind) bytes))
   unfolding readEdge
   edge-taken kind l may room whole =
@@ -152,7 +151,7 @@ module _ (s : State) (a b : ℕ) (bytes : List ℕ) where
       let e = edgeOf kind (floats ps) in
       let same : kindOf e ≡ kind = kind-of-edge kind (floats ps) in
       let takes : recordSize (edge e) ≡ 2 + 16 * controls kind = omega (arith, size-is (edge e), ap controls same) in
-      required s all-bytes (all isCoordinate ps) BadCoordinate (next (edge e) (drop (16 * controls kind) bytes))
+      required s all-bytes (all isCoordinate ps) 7 (next (edge e) (drop (16 * controls kind) bytes))
       (λ within. record {
         may = may;
         room = room;
@@ -172,21 +171,22 @@ module _ (s : State) (a b : ℕ) (bytes : List ℕ) where
       let found = next (distances (floats patterns)) (drop (8 * count) rest) in
       let size : length (floats patterns) ≡ count = floats-length count rest in
       let takes : recordSize (distances (floats patterns)) ≡ 4 + 8 * count = omega (arith, size-is (distances (floats patterns)), size) in
-      required s all-bytes (leb count 2016) TooMany (require (leb (8 * count) (length rest)) Truncated (require (all isDistance patterns) BadDistance found))
-      (λ few. required s all-bytes (leb (8 * count) (length rest)) Truncated (require (all isDistance patterns) BadDistance found)
-      (λ there. required s all-bytes (all isDistance patterns) BadDistance found
+      required s all-bytes (leb count maxDistances) 4
+      (stepIf (leb (8 * count) (length rest)) 1 (stepIf (all isDistance patterns) 9 found))
+      (λ few. required s all-bytes (leb (8 * count) (length rest)) 1 (stepIf (all isDistance patterns) 9 found)
+      (λ there. required s all-bytes (all isDistance patterns) 9 found
       (λ within. record {
         may = may;
         room = refl;
         whole = omega (arith, takes, leb-true (8 * count) (length rest) there, length-drop 2 bytes);
         beyond = rw takes (drop-drop (8 * count) 4 all-bytes);
-        held = (omega (arith, size, leb-true count 2016 few), rw size);
+        held = (omega (arith, size, leb-true count maxDistances few), rw size);
         is-bytes = λ are. marked-bytes a b bytes _ (distances (floats patterns)) l
             (distances-bytes bytes (after-letters are) whole (leb-true (8 * count) (length rest) there) within);
         in-range = distances-fit patterns within;
       })))
 
-  body-taken : (mark : Mark) → Lettered a b mark → Allowed s mark → fits (s .numbers) mark ≡ true → bodySize mark ≤ length bytes
+  body-taken : (mark : Mark) → Lettered a b mark → Allowed s mark → belowMaximum (s .numbers) mark ≡ true → bodySize mark ≤ length bytes
       → OfStep s all-bytes (readBody mark (take (bodySize mark) bytes) (drop (bodySize mark) bytes))
   unfolding readBody
   body-taken Header l may room whole = header-taken l may room whole
@@ -208,10 +208,10 @@ module _ (s : State) (a b : ℕ) (bytes : List ℕ) where
   marked-taken Unknown is = tt
   marked-taken (Known mark) is =
       let body = readBody mark (take (bodySize mark) bytes) (drop (bodySize mark) bytes) in
-      let sized = require (leb (bodySize mark) (length bytes)) Truncated body in
-      required s all-bytes (allowed (s .phase) (s .numbers .header .strategy) mark) MisplacedMark (require (fits (s .numbers) mark) TooMany sized)
-      (λ may. required s all-bytes (fits (s .numbers) mark) TooMany sized
-      (λ room. required s all-bytes (leb (bodySize mark) (length bytes)) Truncated body
+      let sized = stepIf (leb (bodySize mark) (length bytes)) 1 body in
+      required s all-bytes (allowed (s .phase) (s .numbers .header .strategy) mark) 3 (stepIf (belowMaximum (s .numbers) mark) 4 sized)
+      (λ may. required s all-bytes (belowMaximum (s .numbers) mark) 4 sized
+      (λ room. required s all-bytes (leb (bodySize mark) (length bytes)) 1 body
       (λ whole. body-taken mark (letters-of a b mark is) may room (leb-true (bodySize mark) (length bytes) whole))))
 
 of-step : (s : State) (bytes : List ℕ) → OfStep s bytes (readRecord s bytes)
@@ -250,17 +250,17 @@ enough (suc n) (suc m) s bytes h k = go (readRecord s bytes) (of-step s bytes) (
     go : (step : Step) → OfStep s bytes step
         → ((s' : State) (rest : List ℕ) → length rest ≤ n → length rest ≤ m → recordsWithin n s' rest ≡ recordsWithin m s' rest)
         → _≡_ {A = Records}
-        (elim step [ next r rest ↦ r then recordsWithin n (after s (itemOf r)) rest | ends ↦ complete | fails refusal ↦ fault refusal ])
-        (elim step [ next r rest ↦ r then recordsWithin m (after s (itemOf r)) rest | ends ↦ complete | fails refusal ↦ fault refusal ])
+        (elim step [ next r rest ↦ r then recordsWithin n (after s (itemOf r)) rest | ends ↦ complete | fails number ↦ fault number ])
+        (elim step [ next r rest ↦ r then recordsWithin m (after s (itemOf r)) rest | ends ↦ complete | fails number ↦ fault number ])
     go (next r rest) t same = ap (λ (x : Records). r then x) (same (after s (itemOf r)) rest (omega (arith, shorter t)) (omega (arith, shorter t)))
     go ends t same = refl
-    go (fails refusal) t same = refl
+    go (fails number) t same = refl
 
 -- what reading the first record makes of the rest
 abbrev proceed : State → Step → Records
 proceed s (next r rest) = r then recordsFrom (after s (itemOf r)) rest
 proceed s ends = complete
-proceed s (fails refusal) = fault refusal
+proceed s (fails number) = fault number
 
 records-step : (s : State) (bytes : List ℕ) → recordsFrom s bytes ≡ proceed s (readRecord s bytes)
 unfolding recordsFrom readRecord
@@ -268,11 +268,11 @@ records-step s [] = refl
 records-step s (b ∷ bytes) = go (readRecord s (b ∷ bytes)) (of-step s (b ∷ bytes))
   where
     go : (step : Step) → OfStep s (b ∷ bytes) step
-        → elim step [ next r rest ↦ r then recordsWithin (length bytes) (after s (itemOf r)) rest | ends ↦ complete | fails refusal ↦ fault refusal ]
+        → elim step [ next r rest ↦ r then recordsWithin (length bytes) (after s (itemOf r)) rest | ends ↦ complete | fails number ↦ fault number ]
         ≡ proceed s step
     go (next r rest) t = ap (λ (x : Records). r then x) (enough (length bytes) (length rest) (after s (itemOf r)) rest (omega (arith, shorter t)) (omega arith))
     go ends t = refl
-    go (fails refusal) t = refl
+    go (fails number) t = refl
 
 pub records-next : (s : State) (bytes : List ℕ) (r : Record) (rest : List ℕ) → readRecord s bytes ≡ next r rest
     → recordsFrom s bytes ≡ r then recordsFrom (after s (itemOf r)) rest
@@ -281,8 +281,8 @@ records-next s bytes r rest e = records-step s bytes ∙ ap (proceed s) e
 pub records-end : (s : State) (bytes : List ℕ) → readRecord s bytes ≡ ends → recordsFrom s bytes ≡ complete
 records-end s bytes e = records-step s bytes ∙ ap (proceed s) e
 
-pub records-fault : (s : State) (bytes : List ℕ) (refusal : Refusal) → readRecord s bytes ≡ fails refusal → recordsFrom s bytes ≡ fault refusal
-records-fault s bytes refusal e = records-step s bytes ∙ ap (proceed s) e
+pub records-fault : (s : State) (bytes : List ℕ) (number : ℕ) → readRecord s bytes ≡ fails number → recordsFrom s bytes ≡ fault number
+records-fault s bytes number e = records-step s bytes ∙ ap (proceed s) e
 
 -- ---- from what the code finds to what the definition reads
 
@@ -293,17 +293,17 @@ pub record Read-as (step : Step) (item : Item) (size : ℕ) : Type 0 where
   pub is-item : itemOf r ≡ item
   pub is-size : recordSize r ≡ size
 
-pub found-item : (step : Step) (item : Item) (size : ℕ) → found.Item item size ≡ foundOf step → Read-as step item size
+pub found-item : (step : Step) (item : Item) (size : ℕ) → finds item size ≡ foundOf step → Read-as step item size
 found-item (next r rest) item size e = record { r = r; rest = rest; is-next = refl; is-item = cc; is-size = cc }
 found-item ends item size e = let z : _≡_ {A = ℕ} 0 1 = cc in absurd (omega arith)
-found-item (fails refusal) item size e = let z : _≡_ {A = ℕ} 0 1 = cc in absurd (omega arith)
+found-item (fails number) item size e = let z : _≡_ {A = ℕ} 0 1 = cc in absurd (omega arith)
 
-pub found-end : (step : Step) → found.End ≡ foundOf step → step ≡ ends
+pub found-end : (step : Step) → finished ≡ foundOf step → step ≡ ends
 found-end (next r rest) e = cc
 found-end ends e = refl
-found-end (fails refusal) e = cc
+found-end (fails number) e = cc
 
-pub found-fails : (step : Step) (refusal : Refusal) → found.Fails refusal ≡ foundOf step → step ≡ fails refusal
-found-fails (next r rest) refusal e = cc
-found-fails ends refusal e = cc
-found-fails (fails other) refusal e = cc
+pub found-fails : (step : Step) (number : ℕ) → faulty number ≡ foundOf step → step ≡ fails number
+found-fails (next r rest) number e = cc
+found-fails ends number e = cc
+found-fails (fails other) number e = cc

@@ -1,7 +1,5 @@
 -- `capi::job_file::merelsplum_job_listing` meets its contract, by those of its callees.
-use mathlib.Core.Path.{ap, _∙_}
-use Rattle.job.specs.Listing.{Outcome}
-use Rattle.capi.specs.JobFile.{listedCode}
+use Rattle.capi.proofs.Handing.{hands-out-text}
 use borrow.Author.Needs.{needs}
 use Rattle.capi.proofs.job_file.merelsplum_job_listing.Statement.{statement}
 use Rattle.capi.proofs.job_file.merelsplum_job_listing.Tie as tie
@@ -17,8 +15,7 @@ same-length c = search needs
 
 returns : tie.Need-returns
 returns c =
-    let listed = c .before .before .before .listing .ensures in
-    (c .listed-code .ensures ∙ ap (λ (o : Outcome). listedCode (o .answer)) listed, ap (λ (o : Outcome). o .buffer) listed)
+    hands-out-text (c .listed-code .ensures) (c .before .before .before .listing .ensures)
 
 pub merelsplum-job-listing-spec : {M : Type 1} → statement M
 merelsplum-job-listing-spec =

@@ -1,7 +1,5 @@
 -- `capi::job_file::merelsplum_job_read` meets its contract, by those of its callees.
-use mathlib.Core.Path.{ap, _∙_}
-use Rattle.job.specs.declared.progress.Read.{Read}
-use Rattle.capi.specs.JobFile.{readCode, numbersAfter}
+use Rattle.capi.proofs.Handing.{hands-out-job}
 use borrow.Author.Needs.{needs}
 use Rattle.capi.proofs.job_file.merelsplum_job_read.Statement.{statement}
 use Rattle.capi.proofs.job_file.merelsplum_job_read.Tie as tie
@@ -31,13 +29,8 @@ returns : tie.Need-returns
 returns c =
     let numbers = c .before in
     let read = numbers .before .before .before .before .before .before .before .before .before .before in
-    let is = read .read .ensures .answers in
     let start = read .before .before .before .before .before .before .before .before .before .before in
-    record {
-      answers = c .read-code .ensures ∙ ap readCode is;
-      holds = read .read .ensures .holds;
-      numbers-are = numbers .write-numbers .ensures ∙ ap (λ (r : Read). numbersAfter r (start .args .numbers .now)) is;
-    }
+    hands-out-job (start .args .numbers .now) (c .read-code .ensures) (numbers .write-numbers .ensures) (read .read .ensures)
 
 pub merelsplum-job-read-spec : {M : Type 1} → statement M
 merelsplum-job-read-spec =

@@ -2,16 +2,21 @@
 use borrow.Author.Needs.{needs}
 use mathlib.Core.Path.{_≡_, sym, ap, _∙_}
 use mathlib.Core.Bool.{Bool, true, false}
-use mathlib.Core.List.{List, _++_}
-use Prim.Native.Nat.{ℕ, _≤_}
+use mathlib.Core.List.{List, [], _∷_, _++_, map}
+use Prim.Native.Nat.{ℕ, _≤_, _<_}
 use native.Mathlib.Omega.{arith}
 use lib.Dec.{leb}
+use lib.Ieee.{Float}
 use lib.ListN.{length, take, drop, replicate, length-append}
 use lib.Seq.{length-take-le, take-at}
 use borrow.Author.Tests.{le-leb, lt-leb}
-use Rattle.coloring.specs.declared.refusal.Checked.the-variants.{Passed}
-use Rattle.coloring.specs.Outline.{Outline, outline, check, deliver, Agrees}
+use Rattle.coloring.specs.declared.settings.Settings.{Settings}
+use Rattle.coloring.specs.Answers.{allPass, refusal, Check, unless, checkedAnswer, firstRefusal}
+use Rattle.coloring.specs.Corners.{Cornered, searchCorners}
+use Rattle.coloring.specs.Outline.{Outline, outline, Result, result, outcome, contours, check, Agrees}
+use Rattle.coloring.specs.Shape.{deliverFound}
 use Rattle.coloring.specs.EdgeColoring.{edgeColoring}
+use Rattle.coloring.specs.DeliverLaws.{found-passed, found-failed}
 use Rattle.coloring.proofs.shape.DeliverLaws.{passed-agrees}
 use Rattle.coloring.proofs.edge_coloring.edge_coloring.Statement.{statement}
 use Rattle.coloring.proofs.edge_coloring.edge_coloring.Tie as tie
@@ -24,6 +29,37 @@ begun c =
     let known = c .before .before .before in
     known .before .before .before .before .before
 
+-- the outcome by the checks
+module _ (settings : Settings) (o : Outline) (distances : List Float) where
+  abbrev checks : List Check
+  checks = unless 4 (leb (length distances) 2016) ∷ check o (settings .threshold)
+
+  abbrev found : List Cornered
+  found = map (searchCorners (settings .threshold)) (contours o)
+
+  too-many : 2016 < length distances → firstRefusal checks ≡ refusal 4
+  unfolding firstRefusal
+  too-many h = rw (lt-leb (length distances) 2016 h)
+
+  not-many : length distances ≤ 2016 → firstRefusal checks ≡ firstRefusal (check o (settings .threshold))
+  unfolding firstRefusal
+  not-many h = rw (le-leb (length distances) 2016 h)
+
+  refused : (old : Result) {number : ℕ} → firstRefusal checks ≡ refusal number → outcome (refusal number) old ≡ edgeColoring settings o distances old
+  unfolding edgeColoring
+  refused old e = found-failed (settings .marking) distances found old checks e
+
+  goes-on : (old : Result) {flagged : List Cornered} → firstRefusal checks ≡ allPass → flagged ≡ found
+      → deliverFound [] (settings .marking) distances flagged old ≡ edgeColoring settings o distances old
+  unfolding edgeColoring
+  goes-on old e found-are = rw found-are (sym (found-passed (settings .marking) distances found old checks e))
+
+abbrev old : tie.Start → Result
+old s = result (s .args .out-lengths .now) (s .args .out-kinds .now) (s .args .out-points .now) (s .args .out-colors .now)
+
+abbrev given : tie.Start → Outline
+given s = outline (s .args .lengths .now) (s .args .kinds .now) (s .args .points .now)
+
 -- the checks are passed
 module _ (c : tie.After-enum-told) where
   abbrev passing : tie.After-check
@@ -32,17 +68,14 @@ module _ (c : tie.After-enum-told) where
   abbrev start : tie.Start
   start = begun (passing .before .before)
 
-  abbrev given : Outline
-  given = outline (start .args .lengths .now) (start .args .kinds .now) (start .args .points .now)
+  passed : firstRefusal (check (given start) (start .args .settings .threshold)) ≡ allPass
+  passed = sym (passing .check .ensures) ∙ ap checkedAnswer (c .enum-told .given .1)
 
-  passed : check given (start .args .settings .threshold) ≡ Passed
-  passed = sym (passing .check .ensures) ∙ c .enum-told .given .1
-
-  agrees : Agrees given
+  agrees : Agrees (given start)
   agrees = passed-agrees _ _ passed
 
-  few-distances : leb (length (start .args .distances .now)) 2016 ≡ true
-  few-distances = le-leb (length (start .args .distances .now)) 2016 (passing .before .if1 .left)
+  all-passed : firstRefusal (checks (start .args .settings) (given start) (start .args .distances .now)) ≡ allPass
+  all-passed = not-many (start .args .settings) (given start) (start .args .distances .now) (passing .before .if1 .left) ∙ passed
 
 -- the corners are searched
 module _ (c : tie.After-find-corners) where
@@ -69,8 +102,9 @@ module _ (c : tie.After-find-corners) where
   front = take-at flags (drop n none) n size
 
 returns : tie.Need-returns
-unfolding edgeColoring deliver
-returns c = rw (lt-leb (length (begun (c .before) .args .distances .now)) 2016 (c .if1 .taken))
+returns c =
+    let s = begun (c .before) in
+    refused (s .args .settings) (given s) (s .args .distances .now) (old s) (too-many (s .args .settings) (given s) (s .args .distances .now) (c .if1 .taken))
 
 check-requires : tie.Need-check-requires
 check-requires c κs = search needs
@@ -79,11 +113,12 @@ enum-known-checked : tie.Need-enum-known-checked
 enum-known-checked c = search needs
 
 returns-2 : tie.Need-returns-2
-unfolding edgeColoring deliver
 returns-2 c =
     let checked = c .before .before .before in
-    let failed = sym (checked .check .ensures) ∙ c .before .checked .given .1 in
-    rw (le-leb (length (begun (checked .before .before) .args .distances .now)) 2016 (checked .before .if1 .left), failed)
+    let s = begun (checked .before .before) in
+    let failed = sym (checked .check .ensures) ∙ ap checkedAnswer (c .before .checked .given .1) in
+    refused (s .args .settings) (given s) (s .args .distances .now) (old s)
+    (not-many (s .args .settings) (given s) (s .args .distances .now) (checked .before .if1 .left) ∙ failed)
 
 enum-told : tie.Need-enum-told
 enum-told c = search needs
@@ -133,13 +168,14 @@ same-length-4 : tie.Need-same-length-4
 same-length-4 c = search needs
 
 returns-3 : tie.Need-returns-3
-unfolding edgeColoring
 returns-3 c =
     let points = c .before .before .before .before in
     let colored = points .before .before .before .before in
     let lent = colored .before .before .before .before .before in
     let searched = lent .before .before in
-    rw (few-distances (told searched), passed (told searched), ← searched .find-corners .ensures) (rw (front searched) at (colored .color-shape .ensures))
+    let s = s searched in
+    (rw (front searched) at (colored .color-shape .ensures))
+    ∙ goes-on (s .args .settings) (given s) (s .args .distances .now) (old s) (all-passed (told searched)) (searched .find-corners .ensures)
 
 pub edge-coloring-spec : {M : Type 1} → statement M
 edge-coloring-spec =

@@ -6,6 +6,7 @@ use native.Mathlib.Omega.{arith}
 use lib.Dec.{leb, eqb}
 use lib.ListN.{length}
 use borrow.Author.Tests.{le-leb, lt-leb, eq-eqb, ne-eqb, not-true, not-false}
+use Rattle.coloring.specs.Answers.{firstRefusal}
 use Rattle.coloring.specs.Lists.{all}
 use Rattle.coloring.specs.Places.{total}
 use Rattle.coloring.specs.Outline.{check, knownKind, coordinatesFit}
@@ -21,20 +22,20 @@ module _ (c : tie.Else2) where
   few = rw (le-leb (length (start .args .lengths .now)) 64 (c .before .before .if1 .left), ← c .before .total .ensures, le-leb (c .before .total .result) 256 (c .if2 .left))
 
 returns : tie.Need-returns
-unfolding check
+unfolding check firstRefusal
 returns c = rw (lt-leb _ 64 (c .if1 .taken))
 
 total-requires : tie.Need-total-requires
 total-requires c κs = search needs
 
 returns-2 : tie.Need-returns-2
-unfolding check
+unfolding check firstRefusal
 returns-2 c =
     let start = c .before .before .before .before .before .before in
     rw (le-leb (length (start .args .lengths .now)) 64 (c .before .before .if1 .left), ← c .before .total .ensures, lt-leb (c .before .total .result) 256 (c .if2 .taken))
 
 returns-3 : tie.Need-returns-3
-unfolding check
+unfolding check firstRefusal
 returns-3 c =
     let counted = c .before .before .total in
     rw (few (c .before), ← counted .ensures, ne-eqb (length (start (c .before) .args .kinds .now)) (counted .result) (c .if3 .taken))
@@ -43,7 +44,7 @@ mul-if4 : tie.Need-mul-if4
 mul-if4 c = search needs
 
 returns-4 : tie.Need-returns-4
-unfolding check
+unfolding check firstRefusal
 returns-4 c =
     let counted = c .before .before .before .total in
     let a = start (c .before .before) .args in
@@ -64,7 +65,7 @@ kinds-known-requires : tie.Need-kinds-known-requires
 kinds-known-requires c κs = search needs
 
 returns-5 : tie.Need-returns-5
-unfolding check
+unfolding check firstRefusal
 returns-5 c = rw (few (within (c .before .before)), agree (c .before .before), ← c .before .kinds-known .ensures, not-true (c .before .kinds-known .result) (c .if5 .taken))
 
 module _ (c : tie.Else5) where
@@ -78,7 +79,7 @@ coordinates-fit-requires : tie.Need-coordinates-fit-requires
 coordinates-fit-requires c κs = (omega arith, known c)
 
 returns-6 : tie.Need-returns-6
-unfolding check
+unfolding check firstRefusal
 returns-6 c =
     let known-kinds = c .before .before in
     let agreeing = agreeing known-kinds in
@@ -93,14 +94,14 @@ between-requires : tie.Need-between-requires
 between-requires c κs = search needs
 
 returns-7 : tie.Need-returns-7
-unfolding check
+unfolding check firstRefusal
 returns-7 c =
     let known-kinds = c .before .before .before .before in
     let agreeing = agreeing known-kinds in
     rw (few (within agreeing), agree agreeing, known known-kinds, fit (c .before .before), ← c .before .between .ensures, not-true (c .before .between .result) (c .if7 .taken))
 
 returns-8 : tie.Need-returns-8
-unfolding check
+unfolding check firstRefusal
 returns-8 c =
     let known-kinds = c .before .before .before .before in
     let agreeing = agreeing known-kinds in

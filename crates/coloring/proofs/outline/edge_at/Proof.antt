@@ -3,6 +3,7 @@ use mathlib.Core.Path.{_≡_, sym, ap, _∙_}
 use Prim.Native.Nat.{_+_, _*_, _-_}
 use native.Mathlib.Omega.{arith}
 use lib.ListN.{getD, take, drop}
+use Rattle.geometry.specs.EdgeSegment.{decodedAnswer}
 use Rattle.coloring.specs.Outline.{anyEdge, decoded, edgeStored, edgesOf}
 use Rattle.coloring.proofs.outline.EdgeLaws.{edges-at}
 use borrow.Author.Needs.{needs}
@@ -56,7 +57,7 @@ module _ (c : tie.After-from-stored) where
   abbrev start : tie.Start
   start = c .before .before .before .before .before .before .before .before
 
-  stands : decoded (c .from-stored .result) ≡ getD (edgesOf (start .args .kinds .now) (start .args .points .now)) (start .args .i) anyEdge
+  stands : decoded (decodedAnswer (c .from-stored .result)) ≡ getD (edgesOf (start .args .kinds .now) (start .args .points .now)) (start .args .i) anyEdge
   unfolding edgeStored
   stands =
       let i = start .args .i in
@@ -66,10 +67,10 @@ module _ (c : tie.After-from-stored) where
       ap decoded (c .from-stored .ensures) ∙ ap (edgeStored (getD (start .args .kinds .now) i 0)) places ∙ sym (edges-at _ _ i anyEdge (start .pre .0))
 
 returns : tie.Need-returns
-returns c = sym (ap decoded (c .before .e .given .1)) ∙ stands (c .before .before .before)
+returns c = sym (ap (λ r. decoded (decodedAnswer r)) (c .before .e .given .1)) ∙ stands (c .before .before .before)
 
 returns-2 : tie.Need-returns-2
-returns-2 c = rw (c .before .zero .ensures, c .zero2 .ensures) (sym (ap decoded (c .before .before .enum-told .given .1)) ∙ stands (c .before .before .before .before))
+returns-2 c = rw (c .before .zero .ensures, c .zero2 .ensures) (sym (ap (λ r. decoded (decodedAnswer r)) (c .before .before .enum-told .given .1)) ∙ stands (c .before .before .before .before))
 
 pub edge-at-spec : {M : Type 1} → statement M
 edge-at-spec =

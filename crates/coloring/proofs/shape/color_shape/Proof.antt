@@ -6,34 +6,27 @@ use mathlib.Core.Bool.{Bool}
 use mathlib.Core.List.{List, _++_, map}
 use Prim.Native.Nat.{ℕ, _≤_}
 use native.Mathlib.Omega.{arith}
-use lib.Ieee.{Float}
 use lib.ListN.{length, take, drop, replicate, length-append}
 use lib.Seq.{length-take-le, take-at}
 use Rattle.geometry.specs.declared.edge_segment.EdgeSegment.{EdgeSegment}
-use Rattle.coloring.specs.declared.refusal.Checked.the-variants.{Passed}
+use Rattle.coloring.specs.Answers.{checkedAnswer, firstRefusal}
 use Rattle.coloring.specs.declared.outline.Counts.{Counts}
 use Rattle.coloring.specs.declared.settings.Marking.{Marking}
 use Rattle.coloring.specs.Limits.{maxShapeSplines}
 use Rattle.coloring.specs.Corners.{Cornered, cornered}
 use Rattle.coloring.specs.Layout.{layout}
 use Rattle.coloring.specs.Splines.{splineTotal}
-use Rattle.coloring.specs.Values.{splineValues, checkMarking}
+use Rattle.coloring.specs.Values.{checkMarking}
 use Rattle.coloring.specs.Outline.{Result, edgesOf, result}
-use Rattle.coloring.specs.Shape.{deliverValues, deliverFound}
 use Rattle.coloring.proofs.outline.EdgeLaws.{edges-length}
 use Rattle.coloring.proofs.layout.SplitLaws.{values-laid}
-use Rattle.coloring.proofs.shape.DeliverLaws.{cut-flagged, deliver-failed, splines-counted}
+use Rattle.coloring.specs.DeliverLaws.{values-passed, values-failed}
+use Rattle.coloring.proofs.shape.DeliverLaws.{cut-flagged, splines-counted}
 use Rattle.coloring.proofs.shape.color_shape.Statement.{statement}
 use Rattle.coloring.proofs.shape.color_shape.Tie as tie
 
 abbrev zeros : List ℕ
 zeros = replicate maxShapeSplines 0
-
--- the splines pass their checks, and have their values
-values-delivered : (marking : Marking) (distances : List Float) (found : List Cornered) (old : Result) {values : List ℕ}
-    → checkMarking marking (splineTotal (map layout found)) distances ≡ Passed → values ≡ splineValues marking distances (map layout found)
-    → deliverValues Passed marking values (map layout found) old ≡ deliverFound Passed marking distances found old
-values-delivered marking distances found old passed values-are = rw (passed, values-are)
 
 -- the contours with their corners
 abbrev edges : tie.Start → List EdgeSegment
@@ -79,10 +72,10 @@ module _ (c : tie.After-spline-values) where
   abbrev marking : Marking
   marking = s .args .settings .marking
 
-  answer : c .spline-values .result ≡ checkMarking marking (splineTotal (map layout (found s))) (s .args .distances .now)
+  answer : checkedAnswer (c .spline-values .result) ≡ firstRefusal (checkMarking marking (splineTotal (map layout (found s))) (s .args .distances .now))
   answer =
       let total = splines-counted (s .args .lengths .now) (edges s) (s .args .flags .now) (counted .count-shape .result) (flagged s) (counted .count-shape .ensures) in
-      c .spline-values .ensures .0 ∙ ap (λ (n : ℕ). checkMarking marking n (s .args .distances .now)) (long counted ∙ sym total)
+      c .spline-values .ensures .0 ∙ ap (λ (n : ℕ). firstRefusal (checkMarking marking n (s .args .distances .now))) (long counted ∙ sym total)
 
   abbrev values : List ℕ
   values = c .spline-values .last .1 .1 .1 .1 .1 .1 .0
@@ -117,7 +110,8 @@ enum-known-checked c = search needs
 returns : tie.Need-returns
 returns c =
     let valued = c .before .before .before .before in
-    deliver-failed _ _ (old (s valued)) _ (sym (answer valued) ∙ c .before .checked .given .1)
+    let s = s valued in
+    values-failed (marking valued) (s .args .distances .now) (found s) (old s) (sym (answer valued) ∙ ap checkedAnswer (c .before .checked .given .1))
 
 enum-told : tie.Need-enum-told
 enum-told c = search needs
@@ -159,7 +153,7 @@ returns-2 c =
     let passed = told .enum-told .given .1 in
     let split = values-laid (marking valued) (s .args .distances .now) (found s) (cut-flagged (s .args .lengths .now) (edges s) (s .args .flags .now) (flagged s)) in
     painted .paint-shape .ensures
-    ∙ values-delivered (marking valued) (s .args .distances .now) (found s) (old s) (sym (answer valued) ∙ passed)
+    ∙ values-passed (marking valued) (s .args .distances .now) (found s) (old s) (sym (answer valued) ∙ ap checkedAnswer passed)
     (front valued ∙ valued .spline-values .ensures .1 passed ∙ sym split)
 
 pub color-shape-spec : {M : Type 1} → statement M

@@ -14,7 +14,8 @@ use Rattle.coloring.specs.Values.{middleValue}
 use Rattle.coloring.specs.Outline.{Result, edgesOf, result, resultFits}
 use Rattle.coloring.specs.Shape.{painted}
 use Rattle.coloring.proofs.outline.EdgeLaws.{edges-length}
-use Rattle.coloring.proofs.shape.DeliverLaws.{laidOut, sized-fits, room-fits, deliver-short, counted-sized, front-total, front-length, front-splines, painted-delivered}
+use Rattle.coloring.specs.DeliverLaws.{deliver-short}
+use Rattle.coloring.proofs.shape.DeliverLaws.{laidOut, sized-fits, room-fits, counted-sized, front-total, front-length, front-splines, painted-delivered}
 use Rattle.coloring.proofs.shape.paint_shape.Statement.{statement}
 use Rattle.coloring.proofs.shape.paint_shape.Tie as tie
 

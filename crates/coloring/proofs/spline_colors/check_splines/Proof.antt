@@ -6,13 +6,16 @@ use Prim.Native.Nat.{_*_, _-_, _/_}
 use lib.Dec.{leb, eqb}
 use lib.ListN.{length}
 use borrow.Author.Tests.{le-leb, lt-leb, eq-eqb, ne-eqb, not-true, not-false}
+use Rattle.coloring.specs.Answers.{firstRefusal}
 use Rattle.coloring.proofs.spline_colors.check_splines.Statement.{statement}
 use Rattle.coloring.proofs.spline_colors.check_splines.Tie as tie
 
 returns : tie.Need-returns
+unfolding firstRefusal
 returns c = rw (lt-leb (c .before .before .args .splines) 64 (c .if1 .taken))
 
 returns-2 : tie.Need-returns-2
+unfolding firstRefusal
 returns-2 c =
     let a = c .before .before .before .args in
     rw (le-leb (a .splines) 64 (c .before .if1 .left), lt-leb (length (a .distances .now)) 2016 (c .if2 .taken))
@@ -29,6 +32,7 @@ pair-count-requires : tie.Need-pair-count-requires
 pair-count-requires c κs = search needs
 
 returns-3 : tie.Need-returns-3
+unfolding firstRefusal
 returns-3 c =
     let within = c .before .before in
     let a = start within .args in
@@ -46,11 +50,13 @@ distances-valid-requires : tie.Need-distances-valid-requires
 distances-valid-requires c κs = search needs
 
 returns-4 : tie.Need-returns-4
+unfolding firstRefusal
 returns-4 c =
     let counted = c .before .before in
     rw (few (within counted), count counted, ← c .before .distances-valid .ensures, not-true (c .before .distances-valid .result) (c .if4 .taken))
 
 returns-5 : tie.Need-returns-5
+unfolding firstRefusal
 returns-5 c =
     let counted = c .before .before in
     rw (few (within counted), count counted, ← c .before .distances-valid .ensures, not-false (c .before .distances-valid .result) (c .if4 .left))

@@ -1,8 +1,9 @@
 -- `color_splines` meets its contract: the refusal of the checks, or the colours.
 use borrow.Author.Needs.{needs}
-use mathlib.Core.Path.{sym, _∙_}
+use mathlib.Core.Path.{sym, ap, _∙_}
 use lib.ListN.{length}
-use Rattle.coloring.proofs.spline_colors.CheckLaws.{check-passed}
+use Rattle.coloring.specs.Answers.{checkedAnswer}
+use Rattle.coloring.proofs.spline_colors.CheckLaws.{check-passed, splines-refused, splines-passed}
 use Rattle.coloring.proofs.spline_colors.color_splines.Statement.{statement}
 use Rattle.coloring.proofs.spline_colors.color_splines.Tie as tie
 
@@ -13,7 +14,10 @@ enum-told : tie.Need-enum-told
 enum-told c = search needs
 
 returns : tie.Need-returns
-returns c = search needs
+returns c =
+    let checked = c .before .before in
+    let a = checked .before .before .before .args in
+    splines-refused (a .distances .now) (a .seed) (a .coloring .now) (ap checkedAnswer (c .enum-told .given .1)) (checked .check-splines .ensures)
 
 enum-told-2 : tie.Need-enum-told-2
 enum-told-2 c = search needs
@@ -21,7 +25,7 @@ enum-told-2 c = search needs
 color-valid-requires : tie.Need-color-valid-requires
 color-valid-requires c κs =
     let a = c .before .before .before .before .before .before .args in
-    check-passed (length (a .coloring .now)) (a .distances .now) (sym (c .before .before .before .check-splines .ensures) ∙ c .before .enum-told2 .given .1)
+    check-passed (length (a .coloring .now)) (a .distances .now) (sym (c .before .before .before .check-splines .ensures) ∙ ap checkedAnswer (c .before .enum-told2 .given .1))
 
 same-length : tie.Need-same-length
 same-length c = search needs
@@ -29,7 +33,9 @@ same-length c = search needs
 returns-2 : tie.Need-returns-2
 returns-2 c =
     let checked = c .before .before .before .before .before .before in
-    (checked .check-splines .ensures, rw (c .before .before .before .before .enum-told2 .given .1) (c .before .before .color-valid .ensures))
+    let a = checked .before .before .before .args in
+    let passed = c .before .before .before .before .enum-told2 .given .1 in
+    splines-passed (a .distances .now) (a .seed) (a .coloring .now) (ap checkedAnswer passed) (checked .check-splines .ensures) (c .before .before .color-valid .ensures)
 
 pub color-splines-spec : {M : Type 1} → statement M
 color-splines-spec =

@@ -11,8 +11,9 @@ use Rattle.geometry.specs.EdgeColor.{bitsOf}
 use Rattle.coloring.specs.declared.refusal.Refusal.the-variants.{TooMany}
 use Rattle.coloring.specs.declared.refusal.Checked.{Checked}
 use Rattle.coloring.specs.declared.refusal.Checked.the-variants.{Passed, Failed}
+use Rattle.coloring.specs.Answers.{Answer, checkedAnswer, firstRefusal}
 use Rattle.coloring.specs.Lists.{range}
-use Rattle.coloring.specs.SplineColors.{colorSplines, checkSplines, coloringAfter}
+use Rattle.coloring.specs.SplineColors.{colorSplines, checkSplines, splinesColored, colorSplinesInto}
 use Rattle.coloring.specs.declared.settings.Strategy.{Strategy}
 use Rattle.coloring.specs.declared.settings.Marking.{Marking}
 use Rattle.coloring.specs.declared.settings.Marking.the-variants.{Colors, Numbers, Distances}
@@ -22,36 +23,35 @@ use Rattle.coloring.specs.Splines.{splineTotal}
 use Rattle.coloring.specs.Values.{shapeColors, splineColor, splineValues, checkMarking}
 use Rattle.coloring.specs.Outline.{edgesOf}
 use Rattle.coloring.proofs.shape.DeliverLaws.{splines-cut}
+use Rattle.coloring.proofs.spline_colors.CheckLaws.{splines-told}
 use Rattle.coloring.proofs.values.spline_values.Statement.{statement}
 use Rattle.coloring.proofs.values.spline_values.Tie as tie
 
 -- the answer and the bytes for n splines of the contours found
 module _ (distances : List Float) (found : List Cornered) (n : ℕ) (sized : n ≡ splineTotal found) where
   abbrev Valued : Marking → Checked → List ℕ → Type 0
-  Valued marking r values = (r ≡ checkMarking marking n distances) × (r ≡ Passed → values ≡ splineValues marking distances found)
+  Valued marking r values = (checkedAnswer r ≡ firstRefusal (checkMarking marking n distances)) × (r ≡ Passed → values ≡ splineValues marking distances found)
 
   module _ {marking : Marking} {values : List ℕ} where
     by-colors : {strategy : Strategy} {seed : ℕ} → marking ≡ Colors strategy seed → values ≡ map bitsOf (shapeColors strategy (initColor seed) found) → Valued marking Passed values
-    unfolding splineValues
+    unfolding splineValues firstRefusal
     by-colors m e = rw m (refl, λ p. e)
 
     too-many : marking ≡ Numbers → 64 < n → Valued marking (Failed TooMany) values
+    unfolding firstRefusal
     too-many m h = rw m (rw (lt-leb n 64 h), λ p. cc)
 
     by-numbers : marking ≡ Numbers → n ≤ 64 → values ≡ range 0 n → Valued marking Passed values
-    unfolding splineValues
+    unfolding splineValues firstRefusal
     by-numbers m h e = rw m (rw (le-leb n 64 h), λ p. e ∙ ap (range 0) sized)
 
-    by-distances : (old : List ℕ) {seed : ℕ} {r : Checked} {coloring : List ℕ} → marking ≡ Distances seed → r ≡ checkSplines n distances
-        → coloring ≡ coloringAfter r (colorSplines n distances seed) old → values ≡ map (λ color. bitsOf (splineColor color)) coloring → Valued marking r values
+    by-distances : (old : List ℕ) {seed : ℕ} {r : Checked} {coloring : List ℕ} → marking ≡ Distances seed → length old ≡ n
+        → splinesColored (checkedAnswer r) coloring ≡ colorSplinesInto distances seed old → values ≡ map (λ color. bitsOf (splineColor color)) coloring
+        → Valued marking r values
     unfolding splineValues
-    by-distances old {seed} {r} m answer colors e = rw m (answer, passed)
-      where
-        after : Checked → List ℕ
-        after r = coloringAfter r (colorSplines n distances seed) old
-
-        passed : r ≡ Passed → values ≡ map (λ color. bitsOf (splineColor color)) (colorSplines (splineTotal found) distances seed)
-        passed p = e ∙ ap (map (λ color. bitsOf (splineColor color))) (colors ∙ ap after p ∙ ap (λ (k : ℕ). colorSplines k distances seed) sized)
+    by-distances old {seed} {r} {coloring} m long colors e =
+        let outcome = splines-told distances seed old r coloring colors in
+        rw m (rw long at (outcome .0), λ p. e ∙ ap (map (λ color. bitsOf (splineColor color))) (outcome .1 p ∙ ap (λ (k : ℕ). colorSplines k distances seed) (long ∙ sized)))
 
 module _ (c : tie.After-slice-known) where
   abbrev start : tie.Start
@@ -122,8 +122,8 @@ returns-4 c =
     let colored = bytes .before .before .before .before in
     let told = colored .before .before .before in
     let known = told .before .before in
-    by-distances (start known .args .distances .now) (found known) _ (size known) _ (told .marking2 .given .1) (colored .color-splines .ensures .0)
-    (colored .color-splines .ensures .1) (bytes .color-numbers .ensures)
+    by-distances (start known .args .distances .now) (found known) _ (size known) _ (told .marking2 .given .1) refl (colored .color-splines .ensures)
+    (bytes .color-numbers .ensures)
 
 pub spline-values-spec : {M : Type 1} → statement M
 spline-values-spec =

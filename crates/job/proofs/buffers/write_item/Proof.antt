@@ -7,7 +7,7 @@ use Rattle.job.specs.declared.records.Item.{Item}
 use Rattle.job.specs.declared.records.Item.the-variants.{Contour, Edge, Distances}
 use Rattle.job.specs.declared.records.Kind.{Kind}
 use Rattle.job.specs.Records.{controls}
-use Rattle.job.specs.Buffers.{buffers, written, Room}
+use Rattle.job.specs.Buffers.{buffers, written, RecordFits}
 use Rattle.job.proofs.records.RecordLaws.{part-after}
 use Rattle.job.proofs.records.RecordLaws.{controls-few}
 use borrow.Author.Needs.{needs}
@@ -17,8 +17,9 @@ use Rattle.job.proofs.buffers.write_item.Tie as tie
 -- there is room for the record
 module _ (c : tie.Start) where
   room : (item : Item) → c .args .item ≡ item
-      → Room item (c .args .n) (c .args .bytes .now) (buffers (c .args .lengths .now) (c .args .kinds .now) (c .args .points .now) (c .args .distances .now))
-  room item e = subst (λ (i : Item). Room i (c .args .n) (c .args .bytes .now)
+      → RecordFits item (c .args .n) (c .args .bytes .now)
+      (buffers (c .args .lengths .now) (c .args .kinds .now) (c .args .points .now) (c .args .distances .now))
+  room item e = subst (λ (i : Item). RecordFits i (c .args .n) (c .args .bytes .now)
       (buffers (c .args .lengths .now) (c .args .kinds .now) (c .args .points .now) (c .args .distances .now))) e (c .pre)
 
 module _ (c : tie.After-item) where
@@ -28,7 +29,7 @@ module _ (c : tie.After-item) where
   abbrev kind : Kind
   kind = c .item .given .0 .0
 
-  edge-room : Room (Edge kind) (entry .args .n) (entry .args .bytes .now)
+  edge-room : RecordFits (Edge kind) (entry .args .n) (entry .args .bytes .now)
       (buffers (entry .args .lengths .now) (entry .args .kinds .now) (entry .args .points .now) (entry .args .distances .now))
   edge-room = room entry (Edge kind) (c .item .given .1)
 
@@ -36,18 +37,18 @@ module _ (c : tie.After-item) where
   last-room : (1 ≤ entry .args .n .contours) × (entry .args .n .contours - 1 < length (entry .args .lengths .now))
   last-room = (omega (arith, edge-room .0), omega (arith, edge-room .0, edge-room .1))
 
-module _ (c : tie.After-controls) where
+module _ (c : tie.After-body-size) where
   abbrev chosen : tie.After-item
   chosen = c .before .before .before .before .before
 
-  end-is : 2 + 16 * c .controls .result ≡ 2 + 16 * controls (kind chosen)
-  end-is = ap (λ (k : ℕ). 2 + 16 * k) (c .controls .ensures)
+  end-is : 2 + c .body-size .result ≡ 2 + 16 * controls (kind chosen)
+  end-is = ap (λ (k : ℕ). 2 + k) (c .body-size .ensures)
 
 module _ (c : tie.After-item2) where
   abbrev entry2 : tie.Start
   entry2 = c .before .before .before .before .before .before .before
 
-  distances-room : Room (Distances (c .item2 .given .0 .0)) (entry2 .args .n) (entry2 .args .bytes .now)
+  distances-room : RecordFits (Distances (c .item2 .given .0 .0)) (entry2 .args .n) (entry2 .args .bytes .now)
       (buffers (entry2 .args .lengths .now) (entry2 .args .kinds .now) (entry2 .args .points .now) (entry2 .args .distances .now))
   distances-room = room entry2 (Distances (c .item2 .given .0 .0)) (c .item2 .given .1)
 
@@ -94,14 +95,11 @@ kind-number-requires c κs = search needs
 slice-write-kinds : tie.Need-slice-write-kinds
 slice-write-kinds c = omega (arith, edge-room (c .before .before .before .before))
 
-controls-requires : tie.Need-controls-requires
-controls-requires c κs = search needs
-
-mul-end : tie.Need-mul-end
-mul-end c = omega (arith, c .controls .ensures, controls-few (kind (chosen c)))
+body-size-requires : tie.Need-body-size-requires
+body-size-requires c κs = search needs
 
 add-end : tie.Need-add-end
-add-end c = omega (arith, c .controls .ensures, controls-few (kind (chosen c)))
+add-end c = omega (arith, end-is c, controls-few (kind (chosen c)))
 
 mul-from : tie.Need-mul-from
 mul-from c = omega (arith, edge-room (chosen c))
@@ -177,7 +175,7 @@ returns-3 c =
     let made = c .before .before .before .before .before in
     let i = entry (chosen made) .args .n .edges in
     let eight : 8 * i + 8 - 8 * i ≡ 8 = omega arith in
-    let size : 2 + 16 * made .controls .result - 2 ≡ 16 * controls (kind (chosen made)) = omega (arith, end-is made) in
+    let size : 2 + made .body-size .result - 2 ≡ 16 * controls (kind (chosen made)) = omega (arith, end-is made) in
     rw (chosen made .item .given .1)
     (record {
       lengths-are = refl;
@@ -192,9 +190,9 @@ same-length-5 c = search needs
 returns-4 : tie.Need-returns-4
 unfolding written
 returns-4 c =
-    let told = c .before .before .before .before .before .before in
-    let bytes = entry2 told .args .bytes .now in
-    rw (told .item2 .given .1)
+    let matched = c .before .before .before .before .before .before in
+    let bytes = entry2 matched .args .bytes .now in
+    rw (matched .item2 .given .1)
     (record {
       lengths-are = refl;
       kinds-are = refl;
@@ -219,8 +217,7 @@ write-item-spec =
     slice-write-lengths-2
     kind-number-requires
     slice-write-kinds
-    controls-requires
-    mul-end
+    body-size-requires
     add-end
     mul-from
     add-to

@@ -31,7 +31,7 @@ same-length c = search needs
 returns : tie.Need-returns
 returns c =
     let clear = c .before .before .before .before .before .before .before in
-    let start = c .before .before .before .before .before .before .before .before .before .before .before in
+    let start = clear .before .before .before .before in
     c .before .before .write-floats .ensures ∙ rw (c .before .before .before .before .controls .ensures, clear .clear .ensures, start .pre .1)
     (places-from (start .args .kind) (start .args .body .now))
 

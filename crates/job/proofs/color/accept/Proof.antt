@@ -1,12 +1,13 @@
 -- `job::color::accept` meets its contract: the answer of reading, then that of the checks.
-use mathlib.Core.Path.{_≡_, sym, _∙_}
+use mathlib.Core.Path.{_≡_, sym, _∙_, ap}
 use mathlib.Core.List.{List}
 use Prim.Native.Nat.{ℕ}
 use borrow.Author.Tests.{not-true}
-use Rattle.job.specs.declared.progress.Read.the-variants as read
+use Rattle.coloring.specs.Answers.{gives}
 use Rattle.job.specs.Job.{readJob}
-use Rattle.job.specs.Progress.{answerOf}
+use Rattle.job.specs.Progress.{answerOf, readAnswer}
 use Rattle.job.specs.Color.{checkFile, acceptJob}
+use Rattle.coloring.specs.Outline.{coloredAnswer}
 use Rattle.job.proofs.color.AcceptLaws.{accept-plain, accept-edges, accept-refused, accept-unread}
 use borrow.Author.Needs.{needs}
 use Rattle.job.proofs.color.accept.Statement.{statement}
@@ -22,8 +23,8 @@ read-at c = c .before .before .before
 abbrev scanned : tie.After-by-distance → tie.After-scan
 scanned c = read-at c .before .before
 
-told : (c : tie.After-n) → read.Job (c .n .given .0 .0) ≡ answerOf (readJob (file (c .before .before)))
-told c = sym (c .n .given .1) ∙ c .before .before .scan .ensures
+numbers-are : (c : tie.After-n) → gives (c .n .given .0 .0) ≡ answerOf (readJob (file (c .before .before)))
+numbers-are c = sym (ap readAnswer (c .n .given .1)) ∙ c .before .before .scan .ensures
 
 scan-requires : tie.Need-scan-requires
 scan-requires c κs = search needs
@@ -36,7 +37,7 @@ by-distance-requires c κs = search needs
 
 returns : tie.Need-returns
 unfolding acceptJob
-returns c = accept-plain (readJob (file (scanned (c .before)))) _ (told (read-at (c .before)))
+returns c = accept-plain (readJob (file (scanned (c .before)))) _ (numbers-are (read-at (c .before)))
     (sym (c .before .by-distance .ensures) ∙ not-true (c .before .by-distance .result) (c .if1 .taken))
 
 check-requires : tie.Need-check-requires
@@ -55,18 +56,18 @@ returns-2 : tie.Need-returns-2
 unfolding acceptJob checkFile
 returns-2 c =
     let checked = c .before .before in
-    accept-edges (readJob (file (scanned (checked .before .before)))) _ _ (told (read-at (checked .before .before)))
-    (sym (c .enum-told .given .1) ∙ checked .check .ensures)
+    accept-edges (readJob (file (scanned (checked .before .before)))) _ _ (numbers-are (read-at (checked .before .before)))
+    (sym (ap coloredAnswer (c .enum-told .given .1)) ∙ checked .check .ensures)
 
 returns-3 : tie.Need-returns-3
 unfolding acceptJob checkFile
 returns-3 c =
     let checked = c .before .before .before in
-    accept-refused (readJob (file (scanned (checked .before .before)))) _ (sym (c .before .refusal .given .1) ∙ checked .check .ensures)
+    accept-refused (readJob (file (scanned (checked .before .before)))) _ (sym (ap coloredAnswer (c .before .refusal .given .1)) ∙ checked .check .ensures)
 
 returns-4 : tie.Need-returns-4
 unfolding acceptJob
-returns-4 c = accept-unread (readJob (file (c .before .before .before))) _ (sym (c .before .refusal2 .given .1) ∙ c .before .before .before .scan .ensures)
+returns-4 c = accept-unread (readJob (file (c .before .before .before))) _ (sym (ap readAnswer (c .before .refusal2 .given .1)) ∙ c .before .before .before .scan .ensures)
 
 pub accept-spec : {M : Type 1} → statement M
 accept-spec =

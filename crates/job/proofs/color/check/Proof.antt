@@ -7,6 +7,7 @@ use Rattle.coloring.specs.Outline.{Outcome}
 use Rattle.job.specs.declared.records.Strategy.{Strategy}
 use Rattle.job.specs.declared.records.Strategy.the-variants.{Simple, InkTrap, ByDistance}
 use Rattle.job.specs.Records.{byDistance}
+use Rattle.job.specs.Progress.{readAnswer}
 use Rattle.job.proofs.AnswerLaws.{color-answer}
 use borrow.Author.Needs.{needs}
 use Rattle.job.proofs.color.check.Statement.{statement}
@@ -55,7 +56,10 @@ check-by-distance-requires c κs =
     let asked = c .before .before .before .before .before .before .before .before in
     let tested = asked .before in
     let at = tested .before .before .before in (
-      record { told = sym (at .n .given .1) ∙ at .before .before .scan .ensures; asks = only _ (sym (tested .by-distance .ensures) ∙ asked .if1 .taken) },
+      record {
+        numbers-are = sym (ap readAnswer (at .n .given .1)) ∙ at .before .before .scan .ensures;
+        asks = only _ (sym (tested .by-distance .ensures) ∙ asked .if1 .taken);
+      },
       (
         record { lengths-fit = omega arith; kinds-fit = omega arith; points-fit = omega arith; distances-fit = omega arith },
         record { lengths-fit = omega arith; kinds-fit = omega arith; points-fit = omega arith; colors-fit = omega arith },

@@ -39,13 +39,13 @@ module _ (c : tie.After-slice-known12) where
 
   holding : Holding (file start) (start .args .n) (old start) (wrote .fill .last .1 .0) (wrote .fill .last .1 .1 .0) (wrote .fill .last .1 .1 .1 .0)
       (wrote .fill .last .1 .1 .1 .1 .0)
-  holding = holding-of _ _ _ (start .pre .0 .told) _ _ _ _ (wrote .fill .ensures)
+  holding = holding-of _ _ _ (start .pre .0 .numbers-are) _ _ _ _ (wrote .fill .ensures)
 
 abbrev stored-at : tie.After-float → tie.After-slice-known12
 stored-at c = c .before .before
 
 fill-requires : tie.Need-fill-requires
-fill-requires c κs = let s = began c in fits-jobs _ _ _ (s .pre .0 .told) (s .pre .1 .0)
+fill-requires c κs = let s = began c in fits-jobs _ _ _ (s .pre .0 .numbers-are) (s .pre .1 .0)
 
 mul-places : tie.Need-mul-places
 mul-places c = omega (arith, edges-most (holding c))

@@ -1,13 +1,13 @@
 -- `job::color::color_in` meets its contract: the refusal of reading, or the colouring of what was read.
-use mathlib.Core.Path.{_≡_, sym, _∙_}
+use mathlib.Core.Path.{_≡_, sym, _∙_, ap}
 use mathlib.Core.List.{List}
 use Prim.Native.Nat.{ℕ}
 use native.Mathlib.Omega.{arith}
 use lib.Seq.{length-take-le}
 use Rattle.coloring.specs.Outline.{Result, result}
-use Rattle.job.specs.declared.progress.Read.the-variants as read
+use Rattle.coloring.specs.Answers.{gives}
 use Rattle.job.specs.Job.{readJob}
-use Rattle.job.specs.Progress.{answerOf}
+use Rattle.job.specs.Progress.{answerOf, readAnswer}
 use Rattle.job.specs.Buffers.{Buffers, buffers}
 use Rattle.job.proofs.color.ColorLaws.{Holding, fits-jobs, holding-of, color-refused, held-colored, edges-most, contours-within, kinds-within}
 use Rattle.job.proofs.color.ColorLaws.{places-within, distances-within}
@@ -36,8 +36,8 @@ module _ (c : tie.After-n) where
   abbrev begun : tie.Start
   begun = began (c .before .before)
 
-  told : read.Job (c .n .given .0 .0) ≡ answerOf (readJob (file begun))
-  told = sym (c .n .given .1) ∙ c .before .before .scan .ensures
+  numbers-are : gives (c .n .given .0 .0) ≡ answerOf (readJob (file begun))
+  numbers-are = sym (ap readAnswer (c .n .given .1)) ∙ c .before .before .scan .ensures
 
 -- its job, written into the places
 module _ (c : tie.After-slice-known12) where
@@ -52,7 +52,7 @@ module _ (c : tie.After-slice-known12) where
 
   holding : Holding (file start) (chosen .n .given .0 .0) (old start) (wrote .fill .last .1 .0) (wrote .fill .last .1 .1 .0) (wrote .fill .last .1 .1 .1 .0)
       (wrote .fill .last .1 .1 .1 .1 .0)
-  holding = holding-of _ _ _ (told chosen) _ _ _ _ (wrote .fill .ensures)
+  holding = holding-of _ _ _ (numbers-are chosen) _ _ _ _ (wrote .fill .ensures)
 
 abbrev stored-at : tie.After-float → tie.After-slice-known12
 stored-at c = c .before .before
@@ -66,7 +66,7 @@ enum-known-n c = search needs
 fill-requires : tie.Need-fill-requires
 fill-requires c κs =
     let n = c .before .before .before .before .before in
-    fits-jobs _ _ _ (told n) (begun n .pre)
+    fits-jobs _ _ _ (numbers-are n) (begun n .pre)
 
 mul-places : tie.Need-mul-places
 mul-places c = omega (arith, edges-most (holding c))
@@ -135,7 +135,7 @@ returns c =
     colored .color-stored .ensures ∙ held-colored (holding (stored-at float)) (float .float .result) (out (start (stored-at float))) (float .float .ensures)
 
 returns-2 : tie.Need-returns-2
-returns-2 c = color-refused _ _ _ (sym (c .before .refusal .given .1) ∙ c .before .before .before .scan .ensures)
+returns-2 c = color-refused _ _ _ (sym (ap readAnswer (c .before .refusal .given .1)) ∙ c .before .before .before .scan .ensures)
 
 pub color-in-spec : {M : Type 1} → statement M
 color-in-spec =

@@ -1,6 +1,7 @@
 -- `job::color::paired` meets its contract, test by test.
 use borrow.Author.Tests.{lt-leb, le-leb, eq-eqb, ne-eqb}
 use borrow.Author.Needs.{needs}
+use Rattle.job.specs.Color.{paired}
 use Rattle.job.proofs.color.paired.Statement.{statement}
 use Rattle.job.proofs.color.paired.Tie as tie
 
@@ -8,12 +9,14 @@ enum-known-counted : tie.Need-enum-known-counted
 enum-known-counted c = search needs
 
 returns : tie.Need-returns
+unfolding paired
 returns c = rw (c .before .before .counted .given .1, lt-leb _ 64 (c .if1 .taken))
 
 pair-count-requires : tie.Need-pair-count-requires
 pair-count-requires c κs = search needs
 
 returns-2 : tie.Need-returns-2
+unfolding paired
 returns-2 c = rw (
   c .before .before .before .before .counted .given .1,
   le-leb _ 64 (c .before .before .if1 .left),
@@ -25,6 +28,7 @@ enum-known-counted-2 : tie.Need-enum-known-counted-2
 enum-known-counted-2 c = search needs
 
 returns-3 : tie.Need-returns-3
+unfolding paired
 returns-3 c = rw (
   c .before .before .before .before .counted .given .1,
   le-leb _ 64 (c .before .before .if1 .left),
@@ -33,6 +37,7 @@ returns-3 c = rw (
 )
 
 returns-4 : tie.Need-returns-4
+unfolding paired
 returns-4 c = rw (c .before .counted2 .given .1)
 
 pub paired-spec : {M : Type 1} → statement M

@@ -4,15 +4,15 @@ use mathlib.Core.List.{List, [], _++_}
 use Prim.Native.Nat.{ℕ, _+_, _-_, _≤_}
 use native.Mathlib.Omega.{arith}
 use lib.ListN.{length, drop, getD, drop-of-length-le}
-use Rattle.job.specs.Listing.{line, contourLines}
+use Rattle.job.specs.Listing.{edgeLine, contourLines}
 use Rattle.job.proofs.listing.ListingLaws.{contour-step}
-use Rattle.job.proofs.listing.PasteLaws.{Listed, listed-begin, listed-room, listed-next, listed-end}
+use Rattle.job.proofs.listing.PasteLaws.{Pasting, pasting-begin, pasting-room, pasting-next, pasting-end}
 use Rattle.job.proofs.listing.put_contour.Statement.{statement}
 use Rattle.job.proofs.listing.put_contour.Tie as tie
 
 abbrev Inv-loop : tie.InvT-loop
 Inv-loop out₀ at contour kinds colors next₀ i₀ out next i = (i ≤ length kinds) × (length out ≡ length out₀)
-    × Listed (contourLines contour 0 kinds colors) at out₀ (contourLines contour i (drop i kinds) (drop i colors)) next out
+    × Pasting (contourLines contour 0 kinds colors) at out₀ (contourLines contour i (drop i kinds) (drop i colors)) next out
 
 abbrev μ-loop : tie.MeasureT-loop
 μ-loop out₀ at contour kinds colors next₀ i₀ out next i = length kinds - i
@@ -29,7 +29,7 @@ module _ (c : tie.In-loop Inv-loop μ-loop) where
   i = at .loop .i
 
   abbrev here : List ℕ
-  here = line (start .args .contour) i (getD (start .args .kinds .now) i 0) (getD (start .args .colors .now) i 0)
+  here = edgeLine (start .args .contour) i (getD (start .args .kinds .now) i 0) (getD (start .args .colors .now) i 0)
 
   abbrev rest : List ℕ
   rest = contourLines (start .args .contour) (i + 1) (drop (i + 1) (start .args .kinds .now)) (drop (i + 1) (start .args .colors .now))
@@ -38,7 +38,7 @@ module _ (c : tie.In-loop Inv-loop μ-loop) where
   step = contour-step (start .args .contour) i (start .args .kinds .now) (start .args .colors .now) (c .loop-test .taken) (start .pre .0 .2)
 
 loop-holds : tie.Need-loop-holds Inv-loop μ-loop
-loop-holds c = (omega arith, refl, listed-begin _ _ _ (c .before .before .before .pre .1))
+loop-holds c = (omega arith, refl, pasting-begin _ _ _ (c .before .before .before .pre .1))
 
 shared-slice-read-put-line : tie.Need-shared-slice-read-put-line Inv-loop μ-loop
 shared-slice-read-put-line c = omega arith
@@ -49,7 +49,7 @@ shared-slice-read-put-line-2 c = omega arith
 put-line-requires : tie.Need-put-line-requires Inv-loop μ-loop
 put-line-requires c κs =
     let l = c .before .before .before in
-    (start l .pre .0 .0, omega (arith, start l .pre .0 .1), listed-room (here l) (rest l) (step l) (at l .loop .inv .2))
+    (start l .pre .0 .0, omega (arith, start l .pre .0 .1), pasting-room (here l) (rest l) (step l) (at l .loop .inv .2))
 
 add-i : tie.Need-add-i Inv-loop μ-loop
 add-i c = omega arith
@@ -62,7 +62,7 @@ loop-again c =
     let l = c .before .before .before .before .before .before in (
       omega arith,
       c .before .before .put-line .kept .0 ∙ at l .loop .inv .1,
-      listed-next (here l) (rest l) (step l) (at l .loop .inv .2) (c .before .before .put-line .ensures),
+      pasting-next (here l) (rest l) (step l) (at l .loop .inv .2) (c .before .before .put-line .ensures),
     )
 
 same-length : tie.Need-same-length Inv-loop μ-loop
@@ -73,7 +73,7 @@ unfolding contourLines
 returns c =
     let start = c .before .before .before .before .before in
     let none : drop (c .before .loop .i) (start .args .kinds .now) ≡ [] = drop-of-length-le (start .args .kinds .now) {i = c .before .loop .i} (omega arith) in
-    listed-end (rw none at (c .before .loop .inv .2))
+    pasting-end (rw none at (c .before .loop .inv .2))
 
 pub put-contour-spec : {M : Type 1} → statement M
 put-contour-spec =

@@ -50,28 +50,25 @@ digit-requires-3 c κs = search needs
 
 put-requires-3 : tie.Need-put-requires-3
 put-requires-3 c κs =
-    let start = c .before .before .before .before .before .before .before .before .before .before in
-    let place = c .before .before .before .before .before .before .before in
-    omega (
-      arith,
-      ap length (two place),
-      start .pre .1,
-      c .before .before .before .before .put2 .ensures .place,
-      c .before .before .before .before .put2 .kept .0,
-    )
+    let put = c .before .before .before .before in
+    let place = put .before .before .before in
+    let start = place .before .before .before in
+    omega (arith, ap length (two place), start .pre .1, put .put2 .ensures .place, put .put2 .kept .0)
 
 same-length-2 : tie.Need-same-length-2
 same-length-2 c = search needs
 
 returns-2 : tie.Need-returns-2
 returns-2 c =
-    let start = c .before .before .before .before .before .before .before .before .before .before .before .before .before in
-    let place = c .before .before .before .before .before .before .before .before .before .before in
-    let digit = c .before .before .before .before .before .before .before .before in
-    let put = c .before .before .before .before .before .before .before in
+    let put2 = c .before .before in
+    let digit2 = put2 .before in
+    let put = digit2 .before .before .before .before in
+    let digit = put .before in
+    let place = digit .before .before in
+    let start = place .before .before .before in
     rw (two place)
     (pasted-then (written (digit .digit2 .ensures) (put .put2 .ensures))
-    (written (c .before .before .before .digit3 .ensures) (c .before .before .put3 .ensures)) (omega (arith, ap length (two place), start .pre .1)))
+    (written (digit2 .digit3 .ensures) (put2 .put3 .ensures)) (omega (arith, ap length (two place), start .pre .1)))
 
 digit-requires-4 : tie.Need-digit-requires-4
 digit-requires-4 c κs = search needs
@@ -84,32 +81,28 @@ digit-requires-5 c κs = search needs
 
 put-requires-5 : tie.Need-put-requires-5
 put-requires-5 c κs =
-    let start = c .before .before .before .before .before .before .before .before .before .before in
-    let place = c .before .before .before .before .before .before .before in
-    omega (
-      arith,
-      ap length (three place),
-      start .pre .1,
-      c .before .before .before .before .put4 .ensures .place,
-      c .before .before .before .before .put4 .kept .0,
-    )
+    let put = c .before .before .before .before in
+    let place = put .before .before .before in
+    let start = place .before .before .before in
+    omega (arith, ap length (three place), start .pre .1, put .put4 .ensures .place, put .put4 .kept .0)
 
 digit-requires-6 : tie.Need-digit-requires-6
 digit-requires-6 c κs = search needs
 
 put-requires-6 : tie.Need-put-requires-6
 put-requires-6 c κs =
-    let start = c .before .before .before .before .before .before .before .before .before .before .before .before .before .before .before in
-    let place = c .before .before .before .before .before .before .before .before .before .before .before .before in
-    let put = c .before .before .before .before .before .before .before .before .before in
+    let put2 = c .before .before .before .before in
+    let put = put2 .before .before .before .before .before in
+    let place = put .before .before .before in
+    let start = place .before .before .before in
     omega (
       arith,
       ap length (three place),
       start .pre .1,
       put .put4 .ensures .place,
       put .put4 .kept .0,
-      c .before .before .before .before .put5 .ensures .place,
-      c .before .before .before .before .put5 .kept .0,
+      put2 .put5 .ensures .place,
+      put2 .put5 .kept .0,
     )
 
 same-length-3 : tie.Need-same-length-3
@@ -117,18 +110,20 @@ same-length-3 c = search needs
 
 returns-3 : tie.Need-returns-3
 returns-3 c =
-    let start = c .before .before .before .before .before .before .before .before .before .before .before .before .before .before .before .before .before .before in
-    let place = c .before .before .before .before .before .before .before .before .before .before .before .before .before .before .before in
-    let digit = c .before .before .before .before .before .before .before .before .before .before .before .before .before in
-    let put = c .before .before .before .before .before .before .before .before .before .before .before .before in
-    let digit2 = c .before .before .before .before .before .before .before .before in
-    let put2 = c .before .before .before .before .before .before .before in
+    let put3 = c .before .before in
+    let digit3 = put3 .before in
+    let put2 = digit3 .before .before .before .before in
+    let digit2 = put2 .before in
+    let put = digit2 .before .before .before .before in
+    let digit = put .before in
+    let place = digit .before .before in
+    let start = place .before .before .before in
     let long = three place in
     let room = start .pre .1 in
     rw long
     (pasted-then (pasted-then (written (digit .digit4 .ensures) (put .put4 .ensures)) (written (digit2 .digit5 .ensures) (put2 .put5 .ensures))
     (omega (arith, ap length long)))
-    (written (c .before .before .before .digit6 .ensures) (c .before .before .put6 .ensures)) (omega (arith, ap length long)))
+    (written (digit3 .digit6 .ensures) (put3 .put6 .ensures)) (omega (arith, ap length long)))
 
 pub put-decimal-spec : {M : Type 1} → statement M
 put-decimal-spec =

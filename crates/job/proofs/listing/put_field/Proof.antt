@@ -13,8 +13,8 @@ put-decimal-requires c κs =
 
 put-requires : tie.Need-put-requires
 put-requires c κs =
-    let start = c .before .before .before .before .before .before in
     let number = c .before .before .before in
+    let start = number .before .before .before in
     omega (arith, start .pre .1, field-length (start .args .n) (start .args .byte), number .put-decimal .ensures .place, number .put-decimal .kept .0)
 
 same-length : tie.Need-same-length
@@ -23,7 +23,7 @@ same-length c = search needs
 returns : tie.Need-returns
 returns c =
     let put-decimal = c .before .before .before .before .before .before in
-    let start = c .before .before .before .before .before .before .before .before .before in
+    let start = put-decimal .before .before .before in
     pasted-then (put-decimal .put-decimal .ensures) (c .before .before .put .ensures)
     (omega (arith, start .pre .1, field-length (start .args .n) (start .args .byte)))
 

@@ -8,7 +8,7 @@ use Rattle.coloring.specs.Places.{total}
 use Rattle.coloring.specs.Outline.{cut}
 use Rattle.job.specs.Listing.{contourLines, shapeLines}
 use Rattle.job.proofs.listing.ListingLaws.{shape-step, total-step}
-use Rattle.job.proofs.listing.PasteLaws.{Listed, listed-begin, listed-room, listed-next, listed-end}
+use Rattle.job.proofs.listing.PasteLaws.{Pasting, pasting-begin, pasting-room, pasting-next, pasting-end}
 use Rattle.job.proofs.listing.put_shape.Statement.{statement}
 use Rattle.job.proofs.listing.put_shape.Tie as tie
 
@@ -19,7 +19,7 @@ lines contour lengths kinds colors = shapeLines contour (cut lengths kinds) (cut
 abbrev Inv-loop : tie.InvT-loop
 Inv-loop out₀ at lengths kinds colors next₀ from₀ contour₀ out next from contour =
     (contour ≤ length lengths) × (from + total (drop contour lengths) ≡ length kinds) × (length out ≡ length out₀)
-    × Listed (lines 0 lengths kinds colors) at out₀ (lines contour (drop contour lengths) (drop from kinds) (drop from colors)) next out
+    × Pasting (lines 0 lengths kinds colors) at out₀ (lines contour (drop contour lengths) (drop from kinds) (drop from colors)) next out
 
 abbrev μ-loop : tie.MeasureT-loop
 μ-loop out₀ at lengths kinds colors next₀ from₀ contour₀ out next from contour = length lengths - contour
@@ -65,7 +65,7 @@ module _ (c : tie.In-loop Inv-loop μ-loop) where
 loop-holds : tie.Need-loop-holds Inv-loop μ-loop
 loop-holds c =
     let s = c .before .before .before .before in
-    (omega arith, omega (arith, s .pre .0 .2), refl, listed-begin _ _ _ (s .pre .1))
+    (omega arith, omega (arith, s .pre .0 .2), refl, pasting-begin _ _ _ (s .pre .1))
 
 mul-end : tie.Need-mul-end Inv-loop μ-loop
 mul-end c = omega arith
@@ -105,7 +105,7 @@ put-contour-requires c κs =
         simp (length-take, length-drop) (omega (arith, start l .pre .0 .1)),
         simp (length-take, length-drop) (omega (arith, start l .pre .0 .3)),
       ),
-      listed-room (here l) (rest l) (step l) (at l .loop .inv .3),
+      pasting-room (here l) (rest l) (step l) (at l .loop .inv .3),
     )
 
 add-contour : tie.Need-add-contour Inv-loop μ-loop
@@ -121,7 +121,7 @@ loop-again c =
       omega arith,
       omega (arith, at l .loop .inv .1, total-step (contour l) (start l .args .lengths .now) (l .loop-test .taken)),
       put .put-contour .kept .0 ∙ at l .loop .inv .2,
-      listed-next (here l) (rest l) (step l) (at l .loop .inv .3) (put .put-contour .ensures),
+      pasting-next (here l) (rest l) (step l) (at l .loop .inv .3) (put .put-contour .ensures),
     )
 
 same-length : tie.Need-same-length Inv-loop μ-loop
@@ -133,7 +133,7 @@ returns c =
     let start = c .before .before .before .before .before .before in
     let none : drop (c .before .loop .contour) (start .args .lengths .now) ≡ [] = drop-of-length-le
     (start .args .lengths .now) {i = c .before .loop .contour} (omega arith) in
-    listed-end (rw none at (c .before .loop .inv .3))
+    pasting-end (rw none at (c .before .loop .inv .3))
 
 pub put-shape-spec : {M : Type 1} → statement M
 put-shape-spec =

@@ -6,12 +6,12 @@ use native.Mathlib.Omega.{arith}
 use native.Mathlib.Numerals.{add-one}
 use lib.ListN.{length, drop, getD, drop-of-length-le}
 use lib.Seq.{drop-cons}
-use Rattle.job.proofs.listing.PasteLaws.{Listed, listed-begin, listed-room, listed-next, listed-end}
+use Rattle.job.proofs.listing.PasteLaws.{Pasting, pasting-begin, pasting-room, pasting-next, pasting-end}
 use Rattle.job.proofs.listing.put_word.Statement.{statement}
 use Rattle.job.proofs.listing.put_word.Tie as tie
 
 abbrev Inv-loop : tie.InvT-loop
-Inv-loop out₀ at word next₀ i₀ out next i = (i ≤ length word) × (length out ≡ length out₀) × Listed word at out₀ (drop i word) next out
+Inv-loop out₀ at word next₀ i₀ out next i = (i ≤ length word) × (length out ≡ length out₀) × Pasting word at out₀ (drop i word) next out
 
 abbrev μ-loop : tie.MeasureT-loop
 μ-loop out₀ at word next₀ i₀ out next i = length word - i
@@ -34,7 +34,7 @@ module _ (c : tie.In-loop Inv-loop μ-loop) where
   step = rw add-one (drop-cons word (at .loop .i) 0 (c .loop-test .taken))
 
 loop-holds : tie.Need-loop-holds Inv-loop μ-loop
-loop-holds c = (omega arith, refl, listed-begin _ _ _ (c .before .before .pre))
+loop-holds c = (omega arith, refl, pasting-begin _ _ _ (c .before .before .pre))
 
 shared-slice-read-put : tie.Need-shared-slice-read-put Inv-loop μ-loop
 shared-slice-read-put c = omega arith
@@ -42,7 +42,7 @@ shared-slice-read-put c = omega arith
 put-requires : tie.Need-put-requires Inv-loop μ-loop
 put-requires c κs =
     let l = c .before .before in
-    let room = listed-room (here l) (rest l) (step l) (at l .loop .inv .2) in
+    let room = pasting-room (here l) (rest l) (step l) (at l .loop .inv .2) in
     omega arith
 
 add-i : tie.Need-add-i Inv-loop μ-loop
@@ -56,7 +56,7 @@ loop-again c =
     let l = c .before .before .before .before .before in (
       omega arith,
       c .before .before .put .kept .0 ∙ at l .loop .inv .1,
-      listed-next (here l) (rest l) (step l) (at l .loop .inv .2) (c .before .before .put .ensures),
+      pasting-next (here l) (rest l) (step l) (at l .loop .inv .2) (c .before .before .put .ensures),
     )
 
 same-length : tie.Need-same-length Inv-loop μ-loop
@@ -66,7 +66,7 @@ returns : tie.Need-returns Inv-loop μ-loop
 returns c =
     let start = c .before .before .before .before in
     let none : drop (c .before .loop .i) (start .args .word .now) ≡ [] = drop-of-length-le (start .args .word .now) {i = c .before .loop .i} (omega arith) in
-    listed-end (rw none at (c .before .loop .inv .2))
+    pasting-end (rw none at (c .before .loop .inv .2))
 
 pub put-word-spec : {M : Type 1} → statement M
 put-word-spec =

@@ -7,8 +7,9 @@ use lib.ListN.{length}
 use lib.Seq.{length-take-le}
 use Rattle.coloring.specs.declared.outline.Counts.{Counts}
 use Rattle.coloring.specs.declared.outline.Colored.{Colored}
-use Rattle.coloring.specs.Outline.{Result, result, outcome}
+use Rattle.coloring.specs.Outline.{Result, result, outcome, coloredAnswer}
 use Rattle.job.specs.Listing.{refusalLine, fileText, Pasted}
+use Rattle.coloring.specs.Refusal.{refusalNumber}
 use Rattle.job.proofs.AnswerLaws.{Front, front, refused-text, text-few}
 use borrow.Author.Needs.{needs}
 use Rattle.job.proofs.listing.write_answer.Statement.{statement}
@@ -36,10 +37,10 @@ began c =
 abbrev new : tie.After-color → Result
 new c = result (c .color .last .1 .0) (c .color .last .1 .1 .0) (c .color .last .1 .1 .1 .0) (c .color .last .1 .1 .1 .1 .0)
 
--- a file that was coloured, its contours counted
-module _ (c : tie.After-contour-count) where
+-- a file that was coloured
+module _ (c : tie.After-known-told) where
   abbrev counted : tie.After-counts
-  counted = c .before .before
+  counted = c .before
 
   abbrev coloring : tie.After-color
   coloring = colored-here (counted .before .before)
@@ -47,31 +48,28 @@ module _ (c : tie.After-contour-count) where
   abbrev counts : Counts
   counts = counted .counts .given .0 .0
 
-  at-front : Front (file (began coloring)) (c .contour-count .result) (counts .edges) (new coloring)
+  at-front : Front (file (began coloring)) (counts .contours) (counts .edges) (new coloring)
   at-front =
       let start = began coloring in
-      front (file start) (old start) (start .pre .0) (c .contour-count .result) counts (new coloring) (c .contour-count .ensures)
-      (ap (λ (r : Colored). outcome r (new coloring)) (sym (counted .counts .given .1)) ∙ coloring .color .ensures)
+      front (file start) (old start) (start .pre .0) counts (new coloring)
+      (ap (λ (r : Colored). outcome (coloredAnswer r) (new coloring)) (sym (counted .counts .given .1)) ∙ coloring .color .ensures)
 
 -- a file that was refused
 module _ (c : tie.After-refusal) where
   abbrev refusing : tie.After-color
   refusing = colored-here (c .before .before)
 
-  refused : fileText (file (began refusing)) ≡ refusalLine (c .refusal .given .0 .0)
+  refused : fileText (file (began refusing)) ≡ refusalLine (refusalNumber (c .refusal .given .0 .0))
   refused =
       let start = began refusing in
-      refused-text (file start) (old start) (start .pre .0) (c .refusal .given .0 .0) (new refusing)
-      (ap (λ (r : Colored). outcome r (new refusing)) (sym (c .refusal .given .1)) ∙ refusing .color .ensures)
+      refused-text (file start) (old start) (start .pre .0) (refusalNumber (c .refusal .given .0 .0)) (new refusing)
+      (ap (λ (r : Colored). outcome (coloredAnswer r) (new refusing)) (sym (c .refusal .given .1)) ∙ refusing .color .ensures)
 
 color-requires : tie.Need-color-requires
 color-requires c κs = search needs
 
 enum-known-counts : tie.Need-enum-known-counts
 enum-known-counts c = search needs
-
-contour-count-requires : tie.Need-contour-count-requires
-contour-count-requires c κs = search needs
 
 slice-reshare-prefix-write-listing : tie.Need-slice-reshare-prefix-write-listing
 slice-reshare-prefix-write-listing c = at-front c .lengths-within
@@ -102,9 +100,9 @@ enum-known-refusal c = search needs
 
 write-refusal-requires : tie.Need-write-refusal-requires
 write-refusal-requires c κs =
-    let refusal = c .before .before in
-    let start = began (refusing refusal) in
-    omega (arith, ap length (refused refusal), text-few (file start), start .pre .1)
+    let number = c .before .before in
+    let start = began (refusing number) in
+    omega (arith, ap length (refused number), text-few (file start), start .pre .1)
 
 same-length : tie.Need-same-length
 same-length c = search needs
@@ -147,9 +145,9 @@ same-length-10 c = search needs
 returns-2 : tie.Need-returns-2
 returns-2 c =
     let written = c .before .before in
-    let refusal = written .before .before .before in
-    subst (λ (x : List ℕ). Pasted x 0 (began (refusing refusal) .args .text .now) (written .write-refusal .result) (written .write-refusal .last .1 .0))
-    (sym (refused refusal))
+    let number = written .before .before .before in
+    subst (λ (x : List ℕ). Pasted x 0 (began (refusing number) .args .text .now) (written .write-refusal .result) (written .write-refusal .last .1 .0))
+    (sym (refused number))
     (written .write-refusal .ensures)
 
 pub write-answer-spec : {M : Type 1} → statement M
@@ -158,7 +156,6 @@ write-answer-spec =
     (tie.spec
     color-requires
     enum-known-counts
-    contour-count-requires
     slice-reshare-prefix-write-listing
     slice-aggregate-write-listing
     slice-reshare-prefix-write-listing-2

@@ -4,6 +4,7 @@ use mathlib.Core.List.{List, _++_}
 use Prim.Native.Nat.{ℕ}
 use native.Mathlib.Omega.{arith}
 use lib.ListN.{length}
+use Rattle.coloring.specs.Refusal.{refusalNumber}
 use Rattle.job.specs.Listing.{refusedWord, newline, field, Pasted}
 use Rattle.job.proofs.listing.ListingLaws.{refusal-parts, refusal-length}
 use Rattle.job.proofs.listing.PasteLaws.{pasted-then}
@@ -17,7 +18,7 @@ slice-aggregate-put-word c = search needs
 put-word-requires : tie.Need-put-word-requires
 put-word-requires c κs =
     let s = c .before .before .before in
-    omega (arith, s .pre, refusal-length (s .args .refusal))
+    omega (arith, s .pre, refusal-length (refusalNumber (s .args .refusal)))
 
 number-requires : tie.Need-number-requires
 number-requires c κs = search needs
@@ -33,7 +34,7 @@ put-field-requires c κs =
       omega (
         arith,
         s .pre,
-        refusal-length (s .args .refusal),
+        refusal-length (refusalNumber (s .args .refusal)),
         ap (λ (n : ℕ). length (field n newline)) (c .number .ensures),
         word .put-word .ensures .place,
         word .put-word .kept .0,
@@ -50,9 +51,9 @@ returns c =
     let s = word .before .before .before .before in
     let old = s .args .out .now in
     subst (λ (x : List ℕ). Pasted x 0 old (c .before .before .put-field .result) (c .before .before .put-field .last .0))
-    (ap (λ (n : ℕ). refusedWord ++ field n newline) (number .number .ensures) ∙ refusal-parts (s .args .refusal))
+    (ap (λ (n : ℕ). refusedWord ++ field n newline) (number .number .ensures) ∙ refusal-parts (refusalNumber (s .args .refusal)))
     (pasted-then (word .put-word .ensures) (c .before .before .put-field .ensures)
-    (omega (arith, s .pre, refusal-length (s .args .refusal), ap (λ (n : ℕ). length (field n newline)) (number .number .ensures))))
+    (omega (arith, s .pre, refusal-length (refusalNumber (s .args .refusal)), ap (λ (n : ℕ). length (field n newline)) (number .number .ensures))))
 
 pub write-refusal-spec : {M : Type 1} → statement M
 write-refusal-spec =

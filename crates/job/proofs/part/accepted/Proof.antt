@@ -1,6 +1,8 @@
 -- `job::part::accepted` meets its contract: the answer is a job.
 use mathlib.Core.Path.{sym, ap, _∙_}
-use Rattle.job.specs.Color.{hasJob, acceptJob}
+use Rattle.coloring.specs.Answers.{succeeds}
+use Rattle.job.specs.Color.{acceptJob}
+use Rattle.job.specs.Progress.{readAnswer}
 use Rattle.job.proofs.reader.DeliverLaws.{answer-job, answer-refused}
 use borrow.Author.Needs.{needs}
 use Rattle.job.proofs.part.accepted.Statement.{statement}
@@ -16,10 +18,10 @@ enum-told-2 : tie.Need-enum-told-2
 enum-told-2 c = search needs
 
 returns : tie.Need-returns
-returns c = sym (ap hasJob (answer-job (acceptJob _) _ (sym (c .enum-told .given .1) ∙ c .before .before .accept .ensures) .is-read))
+returns c = sym (ap succeeds (answer-job (acceptJob _) _ (sym (ap readAnswer (c .enum-told .given .1)) ∙ c .before .before .accept .ensures) .is-read))
 
 returns-2 : tie.Need-returns-2
-returns-2 c = sym (ap hasJob (answer-refused (acceptJob _) _ (sym (c .enum-told2 .given .1) ∙ c .before .before .accept .ensures)))
+returns-2 c = sym (ap succeeds (answer-refused (acceptJob _) _ (sym (ap readAnswer (c .enum-told2 .given .1)) ∙ c .before .before .accept .ensures)))
 
 pub accepted-spec : {M : Type 1} → statement M
 accepted-spec =

@@ -4,8 +4,9 @@ use mathlib.Core.Bool.{true}
 use mathlib.Core.List.{List}
 use Prim.Native.Nat.{ℕ}
 use native.Mathlib.Omega.{arith}
+use Rattle.coloring.specs.Answers.{succeeds}
 use Rattle.job.specs.Job.{Reading}
-use Rattle.job.specs.Color.{hasJob, accepted}
+use Rattle.job.specs.Color.{accepted}
 use Rattle.job.specs.Part.{placeIn, contourPlace}
 use borrow.Author.Tests.{not-true, not-false}
 use Rattle.job.proofs.part.PartLaws.{place-refused}
@@ -34,7 +35,7 @@ returns c =
     )
 
 contour-span-requires : tie.Need-contour-span-requires
-contour-span-requires c κs = ap hasJob (accepted-same (file (c .before)) (is-accepted c)) ∙ is-accepted c
+contour-span-requires c κs = ap succeeds (accepted-same (file (c .before)) (is-accepted c)) ∙ is-accepted c
 
 returns-2 : tie.Need-returns-2
 unfolding contourPlace

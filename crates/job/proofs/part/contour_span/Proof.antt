@@ -6,7 +6,7 @@ use native.Mathlib.Omega.{arith}
 use lib.ListN.{length, drop}
 use borrow.Author.Needs.{needs}
 use Rattle.job.specs.declared.progress.Progress.{Progress}
-use Rattle.job.specs.Records.{foundOf, readRecord}
+use Rattle.job.specs.Records.{foundAnswer, foundOf, readRecord}
 use Rattle.job.proofs.records.RecordLaws.{part-after}
 use Rattle.job.proofs.records.ReadingLaws.{Read-as, found-item, found-end, found-fails}
 use Rattle.job.proofs.progress.ProgressLaws.{counts-on, less-on}
@@ -34,7 +34,7 @@ module _ (c : tie.After-read-record Inv-loop μ-loop) where
   abbrev p : Progress
   p = at .loop .p
 
-  read : c .read-record .result ≡ foundOf (readRecord (p .state) (drop (p .at) file))
+  read : foundAnswer (c .read-record .result) ≡ foundOf (readRecord (p .state) (drop (p .at) file))
   read = c .read-record .ensures ∙ ap (λ (x : List ℕ). foundOf (readRecord (p .state) x)) (part-after (p .at) file)
 
 -- a record
@@ -43,7 +43,7 @@ module _ (c : tie.After-item Inv-loop μ-loop) where
   found = c .before .before
 
   as-read : Read-as (readRecord (p found .state) (drop (p found .at) (file found))) (c .item .given .0 .0) (c .item .given .0 .1 .0)
-  as-read = found-item _ _ _ (sym (c .item .given .1) ∙ read found)
+  as-read = found-item _ _ _ (sym (ap foundAnswer (c .item .given .1)) ∙ read found)
 
 begin-requires : tie.Need-begin-requires Inv-loop μ-loop
 begin-requires c κs = search needs
@@ -91,7 +91,7 @@ returns : tie.Need-returns Inv-loop μ-loop
 returns c =
     let f = c .before .before .before in
     rw (c .span-of .ensures) (
-      seeking-end (file f) (number f) (p f) (at f .loop .q) (at f .loop .inv) (found-end _ (sym (c .before .enum-told .given .1) ∙ read f)),
+      seeking-end (file f) (number f) (p f) (at f .loop .q) (at f .loop .inv) (found-end _ (sym (ap foundAnswer (c .before .enum-told .given .1)) ∙ read f)),
       seeking-inside (file f) (number f) (p f) (at f .loop .q) (at f .loop .inv),
     )
 
@@ -101,7 +101,7 @@ enum-told-2 c = search needs
 returns-2 : tie.Need-returns-2 Inv-loop μ-loop
 returns-2 c =
     let f = c .before .before in
-    absurd (seeking-fault (file f) (p f) (at f .loop .inv .at) (at f .before .before .before .pre) _ (found-fails _ _ (sym (c .enum-told2 .given .1) ∙ read f)))
+    absurd (seeking-fault (file f) (p f) (at f .loop .inv .at) (at f .before .before .before .pre) _ (found-fails _ _ (sym (ap foundAnswer (c .enum-told2 .given .1)) ∙ read f)))
 
 pub contour-span-spec : {M : Type 1} → statement M
 contour-span-spec =

@@ -6,9 +6,9 @@ use mathlib.Core.List.{List}
 use lib.ListN.{length, drop}
 use borrow.Author.Needs.{needs}
 use Rattle.job.specs.declared.progress.Progress.{Progress}
-use Rattle.job.specs.Records.{foundOf, readRecord}
-use Rattle.job.specs.declared.progress.Read.the-variants.{Job}
+use Rattle.job.specs.Records.{foundAnswer, foundOf, readRecord}
 use Rattle.job.specs.Progress.{answerOf}
+use Rattle.coloring.specs.Answers.{gives}
 use Rattle.job.proofs.records.RecordLaws.{part-after}
 use Rattle.job.proofs.records.ReadingLaws.{Read-as, found-item, found-end, found-fails}
 use Rattle.job.proofs.progress.ProgressLaws.{Reached, reached-begin, counts-on, less-on, reached-on, reached-end, reached-fault}
@@ -32,7 +32,7 @@ module _ (c : tie.After-read-record Inv-loop μ-loop) where
   abbrev p : Progress
   p = at .loop .p
 
-  read : c .read-record .result ≡ foundOf (readRecord (p .state) (drop (p .at) file))
+  read : foundAnswer (c .read-record .result) ≡ foundOf (readRecord (p .state) (drop (p .at) file))
   read = c .read-record .ensures ∙ ap (λ (x : List ℕ). foundOf (readRecord (p .state) x)) (part-after (p .at) file)
 
 -- a record
@@ -41,7 +41,7 @@ module _ (c : tie.After-item Inv-loop μ-loop) where
   found = c .before .before
 
   as-read : Read-as (readRecord (p found .state) (drop (p found .at) (file found))) (c .item .given .0 .0) (c .item .given .0 .1 .0)
-  as-read = found-item _ _ _ (sym (c .item .given .1) ∙ read found)
+  as-read = found-item _ _ _ (sym (ap foundAnswer (c .item .given .1)) ∙ read found)
 
 begin-requires : tie.Need-begin-requires Inv-loop μ-loop
 begin-requires c κs = search needs
@@ -79,8 +79,8 @@ enum-told c = search needs
 returns : tie.Need-returns Inv-loop μ-loop
 returns c =
     let f = c .before .before .before in
-    let at-end = found-end _ (sym (c .before .enum-told .given .1) ∙ read f) in
-    ap Job (at f .loop .inv .numbers-are) ∙ ap answerOf (reached-end (file f) (p f) (at f .loop .inv) at-end)
+    let at-end = found-end _ (sym (ap foundAnswer (c .before .enum-told .given .1)) ∙ read f) in
+    ap gives (at f .loop .inv .numbers-are) ∙ ap answerOf (reached-end (file f) (p f) (at f .loop .inv) at-end)
 
 enum-known-refusal : tie.Need-enum-known-refusal Inv-loop μ-loop
 enum-known-refusal c = search needs
@@ -88,7 +88,7 @@ enum-known-refusal c = search needs
 returns-2 : tie.Need-returns-2 Inv-loop μ-loop
 returns-2 c =
     let f = c .before .before .before in
-    let fault = found-fails _ _ (sym (c .before .refusal .given .1) ∙ read f) in
+    let fault = found-fails _ _ (sym (ap foundAnswer (c .before .refusal .given .1)) ∙ read f) in
     ap answerOf (reached-fault (file f) (p f) (at f .loop .inv) _ fault)
 
 pub scan-spec : {M : Type 1} → statement M

@@ -6,8 +6,8 @@ use native.Mathlib.Omega.{arith}
 use lib.ListN.{length, drop}
 use borrow.Author.Needs.{needs}
 use Rattle.job.specs.declared.progress.Progress.{Progress}
-use Rattle.job.specs.Records.{foundOf, readRecord}
-use Rattle.job.specs.Buffers.{Buffers, buffers, written, Hold, Room}
+use Rattle.job.specs.Records.{foundAnswer, foundOf, readRecord}
+use Rattle.job.specs.Buffers.{Buffers, buffers, written, Hold, RecordFits}
 use Rattle.job.specs.Progress.{advanced}
 use Rattle.job.proofs.records.RecordLaws.{part-after}
 use Rattle.job.proofs.records.ReadingLaws.{Read-as, found-item, found-end, found-fails}
@@ -40,7 +40,7 @@ module _ (c : tie.After-read-record Inv-loop μ-loop) where
   abbrev p : Progress
   p = at .loop .p
 
-  read : c .read-record .result ≡ foundOf (readRecord (p .state) (drop (p .at) file))
+  read : foundAnswer (c .read-record .result) ≡ foundOf (readRecord (p .state) (drop (p .at) file))
   read = c .read-record .ensures ∙ ap (λ (x : List ℕ). foundOf (readRecord (p .state) x)) (part-after (p .at) file)
 
 -- a record
@@ -49,9 +49,9 @@ module _ (c : tie.After-item Inv-loop μ-loop) where
   found = c .before .before
 
   as-read : Read-as (readRecord (p found .state) (drop (p found .at) (file found))) (c .item .given .0 .0) (c .item .given .0 .1 .0)
-  as-read = found-item _ _ _ (sym (c .item .given .1) ∙ read found)
+  as-read = found-item _ _ _ (sym (ap foundAnswer (c .item .given .1)) ∙ read found)
 
-  has-room : Room (c .item .given .0 .0) (p found .state .numbers) (drop (p found .at) (file found))
+  has-room : RecordFits (c .item .given .0 .0) (p found .state .numbers) (drop (p found .at) (file found))
       (buffers (at found .loop .lengths) (at found .loop .kinds) (at found .loop .points) (at found .loop .distances))
   has-room =
       filling-room (file found) (old found) (start found .pre) (p found) (at found .loop .lengths) (at found .loop .kinds) (at found .loop .points)
@@ -114,7 +114,7 @@ write-item-requires : tie.Need-write-item-requires Inv-loop μ-loop
 write-item-requires c κs =
     let i = c .before .before .before .before .before .before .before in
     let f = found i in
-    subst (λ (x : List ℕ). Room (i .item .given .0 .0) (p f .state .numbers) x
+    subst (λ (x : List ℕ). RecordFits (i .item .given .0 .0) (p f .state .numbers) x
     (buffers (at f .loop .lengths) (at f .loop .kinds) (at f .loop .points) (at f .loop .distances)))
     (sym (part-after (p f .at) (file f))) (has-room i)
 
@@ -153,7 +153,7 @@ same-length-4 c = at (c .before .before) .loop .inv .distances-kept
 returns : tie.Need-returns Inv-loop μ-loop
 returns c =
     let f = c .before .before in
-    filling-end (file f) (old f) (start f .pre) (p f) _ _ _ _ (at f .loop .inv) (found-end _ (sym (c .enum-told .given .1) ∙ read f))
+    filling-end (file f) (old f) (start f .pre) (p f) _ _ _ _ (at f .loop .inv) (found-end _ (sym (ap foundAnswer (c .enum-told .given .1)) ∙ read f))
 
 enum-told-2 : tie.Need-enum-told-2 Inv-loop μ-loop
 enum-told-2 c = search needs
@@ -173,7 +173,7 @@ same-length-8 c = at (c .before .before) .loop .inv .distances-kept
 returns-2 : tie.Need-returns-2 Inv-loop μ-loop
 returns-2 c =
     let f = c .before .before in
-    absurd (filling-fault (file f) (old f) (start f .pre) (p f) _ _ _ _ (at f .loop .inv) _ (found-fails _ _ (sym (c .enum-told2 .given .1) ∙ read f)))
+    absurd (filling-fault (file f) (old f) (start f .pre) (p f) _ _ _ _ (at f .loop .inv) _ (found-fails _ _ (sym (ap foundAnswer (c .enum-told2 .given .1)) ∙ read f)))
 
 pub fill-spec : {M : Type 1} → statement M
 fill-spec =

@@ -1,5 +1,5 @@
 -- `job::reader::read` meets its contract: the refusal of an accepted reading, or room and the job.
-use mathlib.Core.Path.{_≡_, sym, _∙_}
+use mathlib.Core.Path.{_≡_, sym, _∙_, ap}
 use mathlib.Core.Bool.{Bool, true, false}
 use mathlib.Core.List.{List}
 use Prim.Native.Nat.{ℕ}
@@ -8,6 +8,7 @@ use Rattle.job.specs.declared.progress.Numbers.{Numbers}
 use Rattle.job.specs.Job.{readJob}
 use Rattle.job.specs.Color.{acceptJob}
 use Rattle.job.specs.Buffers.{Buffers, buffers, hasRoom}
+use Rattle.job.specs.Progress.{readAnswer}
 use Rattle.job.proofs.reader.DeliverLaws.{As-job, answer-job, answer-refused, answer-few, delivers-refused, delivers-short, fits-buffers, delivers-job}
 use Rattle.job.proofs.color.AcceptLaws.{accept-same}
 use borrow.Author.Needs.{needs}
@@ -31,7 +32,7 @@ module _ (c : tie.After-n) where
   numbers = c .n .given .0 .0
 
   job : As-job (acceptJob (file start)) numbers
-  job = answer-job _ _ (sym (c .n .given .1) ∙ c .before .before .accept .ensures)
+  job = answer-job _ _ (sym (ap readAnswer (c .n .given .1)) ∙ c .before .before .accept .ensures)
 
   -- which is the job that it reads as
   same : readJob (file start) ≡ acceptJob (file start)
@@ -90,7 +91,7 @@ returns-3 : tie.Need-returns-3
 returns-3 c =
     let scanned = c .before .before .before in
     let start = scanned .before .before .before .before .before .before in
-    delivers-refused (acceptJob (file start)) (old start) _ (answer-refused _ _ (sym (c .before .refusal .given .1) ∙ scanned .accept .ensures))
+    delivers-refused (acceptJob (file start)) (old start) _ (answer-refused _ _ (sym (ap readAnswer (c .before .refusal .given .1)) ∙ scanned .accept .ensures))
 
 pub read-spec : {M : Type 1} → statement M
 read-spec =

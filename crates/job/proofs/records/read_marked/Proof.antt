@@ -4,7 +4,7 @@ use mathlib.Core.Bool.{true}
 use native.Mathlib.Omega.{arith}
 use lib.ListN.{take, length-take}
 use borrow.Author.Tests.{lt-leb, not-true, not-false}
-use Rattle.job.specs.Records.{fits, foundOf, readBody, readMarked}
+use Rattle.job.specs.Records.{belowMaximum, foundOf, readBody, readMarked}
 use Rattle.job.proofs.records.RecordLaws.{Allowed, marked-body, part-after}
 use borrow.Author.Needs.{needs}
 use Rattle.job.proofs.records.read_marked.Statement.{statement}
@@ -17,8 +17,8 @@ began c = c .before .before .before .before .before
 may : (c : tie.Else1) → Allowed (began c .args .s) (began c .args .mark)
 may c = sym (c .before .allowed .ensures) ∙ not-false (c .before .allowed .result) (c .if1 .left)
 
-room : (c : tie.Else2) → fits (began (c .before .before) .args .s .numbers) (began (c .before .before) .args .mark) ≡ true
-room c = sym (c .before .fits2 .ensures) ∙ not-false (c .before .fits2 .result) (c .if2 .left)
+room : (c : tie.Else2) → belowMaximum (began (c .before .before) .args .s .numbers) (began (c .before .before) .args .mark) ≡ true
+room c = sym (c .before .below-maximum .ensures) ∙ not-false (c .before .below-maximum .result) (c .if2 .left)
 
 allowed-requires : tie.Need-allowed-requires
 allowed-requires c κs = search needs
@@ -27,12 +27,12 @@ returns : tie.Need-returns
 unfolding readMarked
 returns c = rw (← c .before .allowed .ensures, not-true (c .before .allowed .result) (c .if1 .taken))
 
-fits-requires : tie.Need-fits-requires
-fits-requires c κs = search needs
+below-maximum-requires : tie.Need-below-maximum-requires
+below-maximum-requires c κs = search needs
 
 returns-2 : tie.Need-returns-2
 unfolding readMarked
-returns-2 c = rw (may (c .before .before), ← c .before .fits2 .ensures, not-true (c .before .fits2 .result) (c .if2 .taken))
+returns-2 c = rw (may (c .before .before), ← c .before .below-maximum .ensures, not-true (c .before .below-maximum .result) (c .if2 .taken))
 
 body-size-requires : tie.Need-body-size-requires
 body-size-requires c κs = search needs
@@ -73,7 +73,7 @@ read-marked-spec =
     (tie.spec
     allowed-requires
     returns
-    fits-requires
+    below-maximum-requires
     returns-2
     body-size-requires
     returns-3

@@ -3,8 +3,7 @@ use Prim.Native.Nat.{ℕ, zero, suc}
 use mathlib.Core.Path.{_≡_, refl}
 use mathlib.Core.List.{List}
 use lib.Ieee.{Float}
-use Rattle.geometry.specs.declared.edge_segment.Decoded.the-variants.{UnknownKind}
-use Rattle.geometry.specs.EdgeSegment.{fromStored}
+use Rattle.geometry.specs.EdgeSegment.{refused, fromStored}
 use borrow.Author.Needs.{needs}
 use Rattle.geometry.proofs.edge_segment.EdgeSegment.from_stored.Statement.{statement}
 use Rattle.geometry.proofs.edge_segment.EdgeSegment.from_stored.Tie as tie
@@ -46,7 +45,7 @@ unfolding fromStored
 returns-3 c = rw (c .match .keys3)
 
 -- a kind that is none of 1, 2, 3
-unknown : (n : ℕ) (ps : List Float) → (n ≡ 1 → ⊥) → (n ≡ 2 → ⊥) → (n ≡ 3 → ⊥) → UnknownKind ≡ fromStored n ps
+unknown : (n : ℕ) (ps : List Float) → (n ≡ 1 → ⊥) → (n ≡ 2 → ⊥) → (n ≡ 3 → ⊥) → refused 5 ≡ fromStored n ps
 unfolding fromStored
 unknown zero ps a b d = refl
 unknown (suc zero) ps a b d = elim (a refl) [ ]

@@ -1,7 +1,7 @@
--- `job::records::fits` meets its contract.
+-- `job::records::below_maximum` meets its contract.
 use borrow.Author.Needs.{needs}
-use Rattle.job.proofs.records.fits.Statement.{statement}
-use Rattle.job.proofs.records.fits.Tie as tie
+use Rattle.job.proofs.records.below_maximum.Statement.{statement}
+use Rattle.job.proofs.records.below_maximum.Tie as tie
 
 enum-told : tie.Need-enum-told
 enum-told c = search needs
@@ -33,8 +33,8 @@ returns-4 c = search needs
 returns-5 : tie.Need-returns-5
 returns-5 c = search needs
 
-pub fits-spec : {M : Type 1} → statement M
-fits-spec =
+pub below-maximum-spec : {M : Type 1} → statement M
+below-maximum-spec =
     tie.close
     (tie.spec
     enum-told
