@@ -356,6 +356,15 @@ pub fn directions(edges: &Edges, at: usize) -> (Vector2, Vector2) {
     (edges[before].direction(1.0), edges[at].direction(0.0))
 }
 
+/// The places of a contour that have a corner.
+pub fn corners(edges: &Edges, threshold: f64) -> Vec<usize> {
+    let at = |i: &usize| {
+        let (a, b) = directions(edges, *i);
+        corner(a, b, threshold)
+    };
+    (0..edges.len()).filter(at).collect()
+}
+
 /// The threshold that the corner test of some place meets exactly, or the next below it.
 pub fn tie(r: &mut Random, shape: &[Edges]) -> Option<f64> {
     let edges = shape.get(r.below(shape.len().max(1) as u64) as usize)?;

@@ -391,6 +391,12 @@ pub struct JobBuffers {
     pub numbers: [u64; 6],
 }
 
+impl JobBuffers {
+    pub fn sizes(&self) -> [usize; 4] {
+        [self.lengths.len(), self.kinds.len(), self.points.len(), self.distances.len()]
+    }
+}
+
 /// A job as they hold it: unused places are +0. The numbers are strategy, seed, the threshold's bits, and
 /// how many contours, edges and distances there are.
 pub fn stored(job: &Job) -> JobBuffers {

@@ -1,7 +1,7 @@
 //! The sample of colourings that a program replays: calls by name, each with the source's outcome, as
 //! the program reads them.
 
-use crate::contours::{self, Edges, MAX_COORDINATE, contour, coordinate, edge, planned};
+use crate::contours::{self, Edges, MAX_COORDINATE, contour, coordinate, corners, edge, planned};
 use crate::distances::{self, DistanceCall, collect, collected, pairs, with_splines};
 use crate::glyphs::{self, polygon};
 use crate::math::Vector2;
@@ -221,14 +221,6 @@ fn some(r: &mut Random, count: usize, wanted: impl Fn(&Call, &[Vec<usize>]) -> b
         }
     }
     found
-}
-
-fn corners(edges: &Edges, threshold: f64) -> Vec<usize> {
-    let at = |i: &usize| {
-        let (a, b) = contours::directions(edges, *i);
-        contours::corner(a, b, threshold)
-    };
-    (0..edges.len()).filter(at).collect()
 }
 
 /// One contour with so many corners.

@@ -32,6 +32,12 @@ pub struct Buffers {
     pub colors: Vec<u8>,
 }
 
+impl Buffers {
+    pub fn sizes(&self) -> [usize; 4] {
+        [self.lengths.len(), self.kinds.len(), self.points.len(), self.colors.len()]
+    }
+}
+
 #[derive(Clone, Debug)]
 pub struct Call {
     pub outline: Outline,

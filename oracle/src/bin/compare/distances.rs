@@ -1,7 +1,7 @@
 //! By-distance colouring with given distances, and its collecting pass: shapes and refusals.
 
 use crate::Tally;
-use crate::shapes::{Classes, Guarded, corners};
+use crate::shapes::{Classes, Room, corners};
 use oracle::contours;
 use oracle::distances::{self, DISTANCE_FAULTS, DistanceCall, MOST_SPLINES, ORDER, Outcome, WAYS};
 use oracle::distances::{call, collect, color, pairs, spoil};
@@ -50,36 +50,9 @@ unsafe extern "C" {
     ) -> u64;
 }
 
-/// Four result buffers, each guarded.
-struct Room {
-    lengths: Guarded<u16>,
-    kinds: Guarded<u8>,
-    points: Guarded<u64>,
-    colors: Guarded<u8>,
-}
-
-impl Room {
-    fn new(out: &Buffers) -> Self {
-        Room {
-            lengths: Guarded::new(&out.lengths, 0xA5A5),
-            kinds: Guarded::new(&out.kinds, 0xA5),
-            points: Guarded::new(&out.points, 0x7FF4_0000_0000_BEEF),
-            colors: Guarded::new(&out.colors, 0xA5),
-        }
-    }
-
-    fn is(&self, after: &Buffers) -> bool {
-        self.lengths.is(&after.lengths)
-            && self.kinds.is(&after.kinds)
-            && self.points.is(&after.points)
-            && self.colors.is(&after.colors)
-    }
-}
-
 fn proved_collect(call: &Call, room: &mut Room) -> u64 {
     let o = &call.outline;
-    let (l, k) = (room.lengths.part(), room.kinds.part());
-    let (p, c) = (room.points.part(), room.colors.part());
+    let (l, k, p, c) = room.parts();
     unsafe {
         merelsplum_collect_splines(
             o.lengths.as_ptr(),
@@ -158,8 +131,7 @@ fn compare_collect(part: &mut Tally, c: &DistanceCall) -> u64 {
 /// The same of a colouring. The outcome is the source's.
 fn compare_color(part: &mut Tally, c: &DistanceCall) -> Outcome {
     let (given, mut room) = (c.clone(), Room::new(&c.call.out));
-    let (l, k) = (room.lengths.part(), room.kinds.part());
-    let (p, colors) = (room.points.part(), room.colors.part());
+    let (l, k, p, colors) = room.parts();
     let code = proved_color_to(&given, l, k, p, colors);
     let outcome = color(c);
     let answer = outcome.answer;

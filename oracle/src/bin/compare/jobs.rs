@@ -1,7 +1,7 @@
 //! Job files: reading, checking, colouring, the listing and the part of a contour.
 
 use crate::Tally;
-use crate::shapes::{Classes, Guarded};
+use crate::shapes::{BYTE, Classes, Guarded, Room, SHORT, WORD};
 use oracle::job_faults::{BOTH, DAMAGES, can_follow, damage, planted, planted_before};
 use oracle::job_files::{Known, LONG, PROGRAM_BYTES};
 use oracle::job_files::{job, known, long, longest, no_contours, small, square_job, widest};
@@ -92,24 +92,11 @@ struct Comparison {
     besides: [[u64; 14]; 14],
 }
 
-// What stands beside a buffer.
-const SHORT: u16 = 0xA5A5;
-const BYTE: u8 = 0xA5;
-const WORD: u64 = 0x7FF4_0000_0000_BEEF;
-
 /// Buffers of these sizes to read into, full of noise: lengths, kinds, points, distances.
 fn job_buffers(r: &mut Random, [l, k, p, d]: [usize; 4]) -> JobBuffers {
     let Buffers { lengths, kinds, points, .. } = buffers(r, l, k, p, 0);
     let distances = (0..d).map(|_| noise(r)).collect();
     JobBuffers { lengths, kinds, points, distances, numbers: [0; 6].map(|_| noise(r)) }
-}
-
-fn job_sizes(b: &JobBuffers) -> [usize; 4] {
-    [b.lengths.len(), b.kinds.len(), b.points.len(), b.distances.len()]
-}
-
-fn color_sizes(b: &Buffers) -> [usize; 4] {
-    [b.lengths.len(), b.kinds.len(), b.points.len(), b.colors.len()]
 }
 
 /// Some more of each.
@@ -180,7 +167,7 @@ impl Comparison {
         };
         let expected = match job {
             Err(fault) => refused(fault.number()),
-            Ok(job) if job_sizes(job).iter().zip(n).any(|(&needed, n)| needed > n) => refused(11),
+            Ok(job) if job.sizes().iter().zip(n).any(|(&needed, n)| needed > n) => refused(11),
             Ok(job) => {
                 after.lengths[..job.lengths.len()].copy_from_slice(&job.lengths);
                 after.kinds[..job.kinds.len()].copy_from_slice(&job.kinds);
@@ -200,7 +187,7 @@ impl Comparison {
             || format!("reading {} into {n:?}: {expected:#x}, proved {code:#x}", shown(file));
         self.read.note(agree, what);
         match job {
-            Ok(job) => size_classes(&mut self.classes, &READING, job_sizes(job), n),
+            Ok(job) => size_classes(&mut self.classes, &READING, job.sizes(), n),
             Err(fault) => {
                 let empty = n == [0; 4];
                 let splines = fault == Fault::Splines && empty;
@@ -220,24 +207,18 @@ impl Comparison {
         n: [usize; 4],
     ) {
         let out = buffers(r, n[0], n[1], n[2], n[3]);
-        let mut lengths = Guarded::new(&out.lengths, SHORT);
-        let mut kinds = Guarded::new(&out.kinds, BYTE);
-        let mut points = Guarded::new(&out.points, WORD);
-        let mut colors = Guarded::new(&out.colors, BYTE);
-        let code = proved_color(file, lengths.part(), kinds.part(), points.part(), colors.part());
+        let mut room = Room::new(&out);
+        let (l, k, p, c) = room.parts();
+        let code = proved_color(file, l, k, p, c);
         let (answer, after) = match result {
             Ok(result) => deliver(result, out),
             Err(fault) => (Answer::Refused(fault.number()), out),
         };
-        let agree = code == answer.code()
-            && lengths.is(&after.lengths)
-            && kinds.is(&after.kinds)
-            && points.is(&after.points)
-            && colors.is(&after.colors);
+        let agree = code == answer.code() && room.is(&after);
         let what = || format!("colouring {} into {n:?}: {answer:?}, proved {code:#x}", shown(file));
         self.color.note(agree, what);
         match result {
-            Ok(result) => size_classes(&mut self.classes, &COLORING, color_sizes(result), n),
+            Ok(result) => size_classes(&mut self.classes, &COLORING, result.sizes(), n),
             Err(fault) => {
                 let empty = n == [0; 4];
                 self.classes.note("4 by splines before 11", fault == Fault::Splines && empty);
@@ -281,11 +262,11 @@ impl Comparison {
         let result = result.as_ref().map_err(|fault| **fault);
         let costly = job.is_ok_and(|job| job.kinds.len() > 64 || job.distances.len() > 300);
 
-        let needed = job.map_or([some(r, 9); 4], job_sizes);
+        let needed = job.map_or([some(r, 9); 4], JobBuffers::sizes);
         for n in tries(r, needed, costly) {
             self.read(r, file, job, n);
         }
-        let needed = result.map_or([some(r, 9); 4], color_sizes);
+        let needed = result.map_or([some(r, 9); 4], Buffers::sizes);
         for n in tries(r, needed, costly) {
             self.color(r, file, result, n);
         }

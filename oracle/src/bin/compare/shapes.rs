@@ -1,7 +1,7 @@
 //! Simple and ink-trap colouring: shapes, refusals and the trichotomy.
 
 use crate::Tally;
-use oracle::contours::{Edges, corner, directions};
+use oracle::contours::{self, Edges, directions};
 use oracle::given::probe;
 use oracle::math::{cross, dot};
 use oracle::numbers::Random;
@@ -121,38 +121,58 @@ impl<T: Copy + PartialEq> Guarded<T> {
     }
 }
 
+// What stands beside a buffer.
+pub const SHORT: u16 = 0xA5A5;
+pub const BYTE: u8 = 0xA5;
+pub const WORD: u64 = 0x7FF4_0000_0000_BEEF;
+
+/// Four result buffers, each guarded.
+pub struct Room {
+    lengths: Guarded<u16>,
+    kinds: Guarded<u8>,
+    points: Guarded<u64>,
+    colors: Guarded<u8>,
+}
+
+impl Room {
+    pub fn new(out: &Buffers) -> Self {
+        Room {
+            lengths: Guarded::new(&out.lengths, SHORT),
+            kinds: Guarded::new(&out.kinds, BYTE),
+            points: Guarded::new(&out.points, WORD),
+            colors: Guarded::new(&out.colors, BYTE),
+        }
+    }
+
+    pub fn parts(&mut self) -> (&mut [u16], &mut [u8], &mut [u64], &mut [u8]) {
+        let Room { lengths, kinds, points, colors } = self;
+        (lengths.part(), kinds.part(), points.part(), colors.part())
+    }
+
+    pub fn is(&self, after: &Buffers) -> bool {
+        self.lengths.is(&after.lengths)
+            && self.kinds.is(&after.kinds)
+            && self.points.is(&after.points)
+            && self.colors.is(&after.colors)
+    }
+}
+
 /// Colours by the proved code and by the source, and compares the answer and every bit of the seven
 /// buffers. Answer and result are the source's.
 fn compare_call(part: &mut Tally, strategy: Strategy, call: &Call) -> (Answer, Buffers) {
-    let (o, out) = (call.outline.clone(), &call.out);
-    let mut lengths = Guarded::new(&out.lengths, 0xA5A5);
-    let mut kinds = Guarded::new(&out.kinds, 0xA5);
-    let mut points = Guarded::new(&out.points, 0x7FF4_0000_0000_BEEF);
-    let mut colors = Guarded::new(&out.colors, 0xA5);
-    let code = proved(
-        strategy,
-        &o,
-        call.threshold,
-        call.seed,
-        lengths.part(),
-        kinds.part(),
-        points.part(),
-        colors.part(),
-    );
+    let (o, mut room) = (call.outline.clone(), Room::new(&call.out));
+    let (l, k, p, c) = room.parts();
+    let code = proved(strategy, &o, call.threshold, call.seed, l, k, p, c);
     let (answer, after) = color(strategy, call);
-    let agree = code == answer.code()
-        && lengths.is(&after.lengths)
-        && kinds.is(&after.kinds)
-        && points.is(&after.points)
-        && colors.is(&after.colors)
-        && o == call.outline;
+    let agree = code == answer.code() && room.is(&after) && o == call.outline;
     part.note(agree, || {
         let (o, threshold, seed) = (&call.outline, call.threshold, call.seed);
         let (l, k, p) = (&o.lengths, &o.kinds, &o.points);
         let what =
             format!("{strategy:?} of {l:?} {k:?} {p:016X?}, threshold {threshold:?}, seed {seed}");
         let what: String = what.chars().take(2000).collect();
-        format!("{what}: {answer:?}, proved {code:#x}, {:?} and {:?}", colors.part(), after.colors)
+        let found = room.parts().3;
+        format!("{what}: {answer:?}, proved {code:#x}, {found:?} and {:?}", after.colors)
     });
     (answer, after)
 }
@@ -299,11 +319,7 @@ impl Classes {
 
 pub fn corners(edges: &Edges, threshold: f64) -> Vec<usize> {
     let found = probe::corners(&source_shape(std::slice::from_ref(edges)).contours[0], threshold);
-    let at = |i: usize| {
-        let (a, b) = directions(edges, i);
-        corner(a, b, threshold)
-    };
-    assert!((0..edges.len()).filter(|&i| at(i)).eq(found.iter().copied()));
+    assert_eq!(contours::corners(edges, threshold), found);
     found
 }
 
