@@ -1,4 +1,4 @@
-//! Job files: reading, checking, colouring, the listing and the part of a contour.
+//! Job files: reading, checking, colouring, the listing and the part of a contour; and the program `channels`.
 
 use crate::Tally;
 use crate::shapes::{BYTE, Classes, Guarded, Room, SHORT, WORD};
@@ -626,7 +626,7 @@ fn channels(file: &[u8]) -> Vec<u8> {
 }
 
 /// The program on every file of examples/, which has its text beside it, and on damaged ones.
-fn program(all: &mut Tally) {
+pub fn program(all: &mut Tally) {
     let mut part = Tally::default();
     let mut compare = |file: &[u8], text: &[u8]| {
         let found = channels(file);
@@ -677,6 +677,5 @@ pub fn compare(all: &mut Tally) {
     each_place(&mut c);
     damaged(&mut c, all);
     accepted(&mut c);
-    program(all);
     c.close(all);
 }

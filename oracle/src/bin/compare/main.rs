@@ -1,7 +1,7 @@
 //! Runs the proved code, through the archives of target/staticlib, beside the Rust of docs/src, and counts
 //! the answers that differ. The last line is the verdict. A word names one part alone: `leaves`,
-//! `edges`, `tables`, `shapes`, `distances`, `jobs`, or `root`, which a run of all leaves out. `speed`
-//! measures and compares nothing, and runs `pass` under callgrind.
+//! `edges`, `tables`, `shapes`, `distances`, `jobs`, `channels`, or `root`, which a run of all leaves out.
+//! `speed` measures and compares nothing, and runs `pass` under callgrind.
 
 mod distances;
 mod edges;
@@ -55,7 +55,9 @@ impl Tally {
 }
 
 fn usage() -> ! {
-    eprintln!("usage: compare [leaves | edges | tables | shapes | distances | jobs | root]");
+    eprintln!(
+        "usage: compare [leaves | edges | tables | shapes | distances | jobs | channels | root]"
+    );
     eprintln!("       compare speed [FOLDER...]");
     eprintln!("       compare pass ROW proved|rust [FOLDER...]");
     std::process::exit(2);
@@ -72,6 +74,7 @@ fn main() {
             shapes::compare(&mut all);
             distances::compare(&mut all);
             jobs::compare(&mut all);
+            jobs::program(&mut all);
         }
         Some("leaves") => leaves::compare(&mut all),
         Some("edges") => edges::compare(&mut all),
@@ -79,6 +82,7 @@ fn main() {
         Some("shapes") => shapes::compare(&mut all),
         Some("distances") => distances::compare(&mut all),
         Some("jobs") => jobs::compare(&mut all),
+        Some("channels") => jobs::program(&mut all),
         Some("root") => root::compare(&mut all),
         Some("speed") => return speed::measure(&words[1..]),
         Some("pass") => return speed::pass(&words[1..]).unwrap_or_else(|| usage()),
