@@ -1,29 +1,145 @@
-//! The sample of job files that a program replays: each with its listing and the part of each contour.
+//! The sample of job files that a program replays: each with its check, its listing and the part of each contour,
+//! and what reading and colouring it leave in buffers.
 
-use crate::glyphs::{registered, teardrop};
+use crate::glyphs::{polygon, registered, teardrop};
 use crate::job_faults::{BOTH, DAMAGES, damage, planted};
 use crate::job_files::{by, known, long, small, square_job};
-use crate::jobs::{FAULTS, Job, outcome, records, stop, write};
+use crate::jobs::{FAULTS, Job, JobBuffers, outcome, records, stop, stored, write};
 use crate::numbers::Random;
+use crate::shape_sample::NOISE;
+use crate::shapes::{Answer, Buffers, encode};
 
-/// Five words: the number 69, the record's bytes, how many bytes the file and its listing have, and how
-/// many contours' parts follow, from contour 0 to one beyond the last; two words a part, where it starts
-/// and how many bytes it has, both 0 where it is empty; the file and the listing, each filled up to whole
-/// words with zeros.
-fn record(file: &[u8]) -> Vec<u8> {
+fn bytes(words: &[u64]) -> Vec<u8> {
+    words.iter().flat_map(|w| w.to_le_bytes()).collect()
+}
+
+fn lengths(lengths: &[u16]) -> Vec<u8> {
+    bytes(&lengths.iter().map(|&n| n as u64).collect::<Vec<_>>())
+}
+
+/// Filled up to whole words with zeros.
+fn whole(bytes: &[u8]) -> Vec<u8> {
+    [bytes, &vec![0; bytes.len().next_multiple_of(8) - bytes.len()]].concat()
+}
+
+/// Words and what follows them. The second word is set to the bytes of them all.
+fn record(mut words: Vec<u64>, body: &[u8]) -> Vec<u8> {
+    words[1] = (8 * words.len() + body.len()) as u64;
+    [bytes(&words), body.to_vec()].concat()
+}
+
+/// Six words: the number 69, the record's bytes, how many bytes the file and its listing have, how many
+/// contours' parts follow, from contour 0 to one beyond the last, and what checking answers; two words a
+/// part, where it starts and how many bytes it has, both 0 where it is empty; the file and the listing, each
+/// filled up to whole words.
+fn answers(file: &[u8]) -> Vec<u8> {
     let outcome = outcome(file);
     let text = outcome.text();
     let contours = outcome.reading.as_ref().map_or(1, |reading| reading.job.contours.len());
-    let mut words = vec![69, 0, file.len() as u64, text.len() as u64, contours as u64 + 1];
+    let checked = match &outcome.colored {
+        Ok(shape) => Answer::Edges(encode(shape).kinds.len()),
+        Err(fault) => Answer::Refused(fault.number()),
+    };
+    let sizes = [file.len() as u64, text.len() as u64, contours as u64 + 1];
+    let mut words = [&[69, 0][..], &sizes, &[checked.code()]].concat();
     for part in (0..=contours).map(|contour| outcome.part(contour as u64)) {
         words.extend([part.start as u64, part.len() as u64]);
     }
-    let whole =
-        |bytes: &[u8]| [bytes, &vec![0; bytes.len().next_multiple_of(8) - bytes.len()]].concat();
-    let body = [whole(file), whole(text.as_bytes())].concat();
-    words[1] = (8 * words.len() + body.len()) as u64;
-    assert!(words[1] <= 65536, "no program holds a record of {} bytes", words[1]);
-    [words.into_iter().flat_map(u64::to_le_bytes).collect(), body].concat()
+    record(words, &[whole(file), whole(text.as_bytes())].concat())
+}
+
+/// Whether one of the buffers is too short.
+fn short(needed: [usize; 4], room: [usize; 4]) -> bool {
+    needed.into_iter().zip(room).any(|(needed, room)| needed > room)
+}
+
+/// Thirteen words: the number 70, the record's bytes, how many bytes the file has, how many distances, contours
+/// and edges the job that is read, 0, how many places the buffers for lengths, kinds, points and distances have,
+/// the answer, and where the job begins; the six numbers after; the file, filled up to whole words; and the job:
+/// lengths, kinds, point places, distances.
+fn reading(file: &[u8], room: [usize; 4]) -> Vec<u8> {
+    let read = match outcome(file).accepted() {
+        Err(fault) => Err(fault.number()),
+        Ok(reading) => Ok(stored(&reading.job))
+            .and_then(|job| if short(job.sizes(), room) { Err(11) } else { Ok(job) }),
+    };
+    let answer = read.as_ref().map_or_else(|&number| Answer::Refused(number).code(), |_| 0);
+    let untouched = JobBuffers { numbers: [NOISE.point; 6], ..JobBuffers::default() };
+    let job = read.unwrap_or(untouched);
+    let [l, k, _, d] = job.sizes().map(|n| n as u64);
+    let file_bytes = whole(file);
+    let begins = 19 * 8 + file_bytes.len();
+    let words = [
+        &[70, 0, file.len() as u64, d, l, k, 0][..],
+        &room.map(|n| n as u64),
+        &[answer, begins as u64],
+        &job.numbers,
+    ];
+    let JobBuffers { kinds, points, distances, .. } = &job;
+    let stored = [lengths(&job.lengths), kinds.clone(), bytes(points), bytes(distances)].concat();
+    record(words.concat(), &[file_bytes, stored].concat())
+}
+
+/// Thirteen words: the number 71, the record's bytes, how many bytes the file has, 0, how many contours the
+/// result, 0, 0, how many places the buffers for lengths, kinds, points and colours have, the answer, and where
+/// the result begins; the file, filled up to whole words; and the result: lengths, kinds, colours, point places.
+fn coloring(file: &[u8], room: [usize; 4]) -> Vec<u8> {
+    let colored = match &outcome(file).colored {
+        Err(fault) => Err(fault.number()),
+        Ok(shape) => Ok(encode(shape))
+            .and_then(|result| if short(result.sizes(), room) { Err(11) } else { Ok(result) }),
+    };
+    let answer = match &colored {
+        Err(number) => Answer::Refused(*number),
+        Ok(result) => Answer::Edges(result.kinds.len()),
+    };
+    let result = colored.unwrap_or_default();
+    let file_bytes = whole(file);
+    let begins = 13 * 8 + file_bytes.len();
+    let words = [
+        &[71, 0, file.len() as u64, 0, result.lengths.len() as u64, 0, 0][..],
+        &room.map(|n| n as u64),
+        &[answer.code(), begins as u64],
+    ];
+    let Buffers { kinds, points, colors, .. } = &result;
+    let stored = [lengths(&result.lengths), kinds.clone(), colors.clone(), bytes(points)].concat();
+    record(words.concat(), &[file_bytes, stored].concat())
+}
+
+/// Buffers exactly right, longer, and each one short; of a file that is refused, empty and not.
+fn rooms(needed: Option<[usize; 4]>) -> Vec<[usize; 4]> {
+    let Some(exact) = needed else { return vec![[0; 4], [1, 4, 32, 6]] };
+    let one_short = |which: usize| {
+        let mut room = exact;
+        room[which] = exact[which].checked_sub(1)?;
+        Some(room)
+    };
+    let mut rooms = vec![exact, exact.map(|n| n + 3)];
+    rooms.extend((0..4).filter_map(one_short));
+    rooms
+}
+
+fn readings(file: &[u8]) -> Vec<Vec<u8>> {
+    let outcome = outcome(file);
+    let needed = outcome.accepted().ok().map(|reading| stored(&reading.job).sizes());
+    rooms(needed).into_iter().map(|room| reading(file, room)).collect()
+}
+
+fn colorings(file: &[u8]) -> Vec<Vec<u8>> {
+    let needed = outcome(file).colored.ok().map(|shape| encode(&shape).sizes());
+    rooms(needed).into_iter().map(|room| coloring(file, room)).collect()
+}
+
+/// A record of each kind, small ones, with accepted files.
+pub fn small_records() -> Vec<Vec<u8>> {
+    let two = |strategy: u8| {
+        let distances = vec![0.5; (strategy == 3) as usize];
+        let contours = vec![polygon(&[(0.0, 0.0), (1.0, 2.0)])];
+        write(&Job { contours, distances, ..square_job(strategy) })
+    };
+    let read = reading(&two(3), [1, 2, 16, 1]);
+    let colored = (1..4).map(|strategy| coloring(&two(strategy), [1, 2, 16, 2]));
+    [answers(&write(&square_job(1))), read].into_iter().chain(colored).collect()
 }
 
 /// Document 01's limits; a few of the files that differ by a place alone, and the long ones by strategies 1
@@ -85,17 +201,33 @@ fn glyphs(r: &mut Random) -> Vec<Vec<u8>> {
 /// The records of each part, by name.
 pub fn sample() -> Vec<(String, Vec<Vec<u8>>)> {
     let r = &mut Random(710);
-    let squares = (1..4).map(|strategy| write(&square_job(strategy))).collect();
-    let mut parts: Vec<(String, Vec<Vec<u8>>)> =
-        vec![("job squares".to_string(), squares), ("job limits".to_string(), limits())];
+    let squares: Vec<Vec<u8>> = (1..4).map(|strategy| write(&square_job(strategy))).collect();
+    let mut parts = vec![("squares".to_string(), squares), ("limits".to_string(), limits())];
     for number in 1..10 {
-        parts.push((format!("job refused {number}"), refused(r, number)));
+        parts.push((format!("refused {number}"), refused(r, number)));
     }
     let both = BOTH.iter().map(|(_, _, make)| make(r).concat()).collect();
-    parts.push(("job order".to_string(), both));
-    parts.push(("job damaged".to_string(), damaged(r)));
-    parts.push(("job glyphs".to_string(), glyphs(r)));
-    parts.push(("job too long".to_string(), vec![long(r, 2)[..34_001].to_vec()]));
-    let recorded = |files: Vec<Vec<u8>>| files.iter().map(|file| record(file)).collect();
-    parts.into_iter().map(|(name, files)| (name, recorded(files))).collect()
+    parts.push(("order".to_string(), both));
+    parts.push(("damaged".to_string(), damaged(r)));
+    parts.push(("glyphs".to_string(), glyphs(r)));
+    parts.push(("too long".to_string(), vec![long(r, 2)[..34_001].to_vec()]));
+    let mut sample = Vec::new();
+    for (name, files) in &parts {
+        let records: Vec<_> = files.iter().map(|file| answers(file)).collect();
+        sample.push((format!("job {name}"), records));
+    }
+    // of a small file the buffers too
+    for (name, files) in &parts {
+        let small = || files.iter().filter(|file| file.len() < 1500);
+        if small().next().is_some() {
+            sample.push((format!("read {name}"), small().flat_map(|f| readings(f)).collect()));
+            sample.push((format!("color {name}"), small().flat_map(|f| colorings(f)).collect()));
+        }
+    }
+    for (_, records) in &sample {
+        for record in records {
+            assert!(record.len() <= 65536, "no program holds a record of {} bytes", record.len());
+        }
+    }
+    sample
 }

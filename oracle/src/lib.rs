@@ -31,4 +31,5 @@ pub mod numbers;
 pub mod roots;
 pub mod shape_sample;
 pub mod shapes;
+pub mod spoilt;
 pub mod tables;

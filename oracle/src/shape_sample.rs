@@ -12,12 +12,12 @@ use crate::shapes::{call, color, faults, outline, refusal, result, used};
 // What the program's buffers hold at most, and what it puts into the places that no record fills.
 const MOST: [usize; 7] = [80, 264, 2120, 90, 540, 4100, 540];
 const UNUSED: u64 = 0x7FF8_0000_0000_0000;
-const NOISE: Noise = Noise { length: 0xA5A5, byte: 0xA5, point: 0xC0FE_2408_0000_0000 };
+pub const NOISE: Noise = Noise { length: 0xA5A5, byte: 0xA5, point: 0xC0FE_2408_0000_0000 };
 
-struct Noise {
-    length: u16,
-    byte: u8,
-    point: u64,
+pub struct Noise {
+    pub length: u16,
+    pub byte: u8,
+    pub point: u64,
 }
 
 /// A call with buffers as the program makes them.
@@ -332,7 +332,7 @@ fn by_distance(mut call: Call, distances: Vec<u64>) -> DistanceCall {
 /// P7 of document 01: the square's edges 3, 6, 5, 6.
 fn square_by_distance() -> Vec<DistanceCall> {
     let call = square().remove(0);
-    let bits = [0.0, 1.0, 0.0, 0.0, 2.0, 0.0].map(f64::to_bits);
+    let bits = [0.0, 1.0, 0.0, 0.0, 1.0, 0.0].map(f64::to_bits);
     let c = by_distance(call, bits.into());
     assert_eq!(distances::color(&c).after.colors, [3, 6, 5, 6]);
     vec![c]
@@ -377,6 +377,14 @@ fn spoiled(r: &mut Random) -> Vec<DistanceCall> {
         }
     }
     found
+}
+
+/// A small record of each function, accepted: two lines.
+pub fn small_records() -> Vec<Vec<u8>> {
+    let call = on(&[polygon(&[(0.0, 0.0), (1.0, 2.0)])], 0.125, 0);
+    let by_distance = by_distance(call.clone(), vec![0.5f64.to_bits()]);
+    let simple_and_ink_trap = STRATEGIES.map(|strategy| record(strategy, &call));
+    simple_and_ink_trap.into_iter().chain(distance_records(&by_distance)).collect()
 }
 
 /// The records of each part, by name.

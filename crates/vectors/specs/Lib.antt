@@ -1,2 +1,4 @@
 -- The definitions that the contracts on recorded answers cite.
 pub mod Words
+pub mod Records
+pub mod Examples

@@ -1,12 +1,14 @@
-// Records of job files (69): five words (the number, the record's bytes, how many bytes the file and its listing have,
-// how many contours are asked for), two words for each of these (the place of its part and how many bytes it has), the
-// file, and its listing, each filled up to words.
+// Records of job files (69): six words (the number, the record's bytes, how many bytes the file and its listing have,
+// how many contours are asked for, what checking answers), two words for each contour (the place of its part and how
+// many bytes it has), the file, and its listing, each filled up to words.
 use crate::words::load;
 use crate::words::part;
 use crate::words::size;
 use crate::words::word;
+use capi::job_file::merelsplum_job_check;
 use capi::job_file::merelsplum_job_contour_part;
 use capi::job_file::merelsplum_job_listing;
+use job::part::contour_part;
 ghost use Prim.Native.Nat.{_≤_};
 
 // What the buffer holds before the call.
@@ -20,13 +22,29 @@ fn padded(n: usize) -> usize
     (n + 7) / 8 * 8
 }
 
-// Whether the parts of the first contours stand where s says, two words each.
+// Whether the part of a contour is where the two words at the start of s say, and has the bytes that stand there.
+fn is_part(file: &[u8], contour: usize, s: &[u8]) -> bool {
+    let place = merelsplum_job_contour_part(file, contour);
+    let start = place % 4294967296;
+    let bytes = place / 4294967296;
+    if start != word(s, 0) {
+        return false;
+    }
+    if bytes != word(s, 8) {
+        return false;
+    }
+    check::same(
+        contour_part(file, contour),
+        part(file, start as usize, bytes as usize),
+    )
+}
+
+// Whether the parts of the first contours are as s says, two words each.
 fn are_parts(file: &[u8], s: &[u8]) -> bool {
     let mut at = 0;
     let mut contour = 0;
     while 16 <= s.len() - at {
-        let place = word(s, at) % 4294967296 + 4294967296 * (word(s, at + 8) % 4294967296);
-        if merelsplum_job_contour_part(file, contour) != place {
+        if !is_part(file, contour, &s[at..]) {
             return false;
         }
         at += 16;
@@ -50,9 +68,12 @@ pub(crate) fn is_right(s: &[u8]) -> bool {
     let n = size(s, 16, 65536);
     let m = size(s, 24, 5598);
     let contours = size(s, 32, 300);
-    let from = 40 + 16 * contours;
+    let from = 48 + 16 * contours;
     let file = part(s, from, n);
-    if !are_parts(file, part(s, 40, 16 * contours)) {
+    if merelsplum_job_check(file) != word(s, 40) {
+        return false;
+    }
+    if !are_parts(file, part(s, 48, 16 * contours)) {
         return false;
     }
     is_listing(file, part(s, from + padded(n), m))

@@ -1,7 +1,8 @@
 // Records of simple (65), ink-trap (66) and by-distance colouring (68) and of the collecting pass (67): thirteen words
 // (the number, the record's bytes, threshold, seed, how many lengths, kinds and point places go in, how many of these
 // and of colours the result buffers have, the answer, where the result begins); what goes in: lengths, kinds, point
-// places, distances; and the result: lengths, kinds, colours, point places. A length is a word.
+// places, distances; and the result: lengths, kinds, colours, point places. A length is a word. Of the colouring of a
+// job file (71) the threshold's word has the bytes of the file, and what goes in is the file.
 use crate::words::load;
 use crate::words::number;
 use crate::words::part;
@@ -12,16 +13,17 @@ use capi::by_distance::merelsplum_collect_splines;
 use capi::by_distance::merelsplum_edge_coloring_by_distance;
 use capi::edge_coloring::merelsplum_edge_coloring_ink_trap;
 use capi::edge_coloring::merelsplum_edge_coloring_simple;
+use capi::job_file::merelsplum_job_color;
 use math::bits::float;
 ghost use Prim.Native.Nat.{_≤_, _<_, _*_};
 ghost use lib.ListN.{length};
 
 // What a result buffer holds before the call.
-const LENGTH: u16 = 0xA5A5;
+pub(crate) const LENGTH: u16 = 0xA5A5;
 
-const BYTE: u8 = 0xA5;
+pub(crate) const BYTE: u8 = 0xA5;
 
-const PLACE: u64 = 0xC0FE_2408_0000_0000;
+pub(crate) const PLACE: u64 = 0xC0FE_2408_0000_0000;
 
 // ---- out of a record
 
@@ -221,6 +223,41 @@ fn color(
     )
 }
 
+// The same where it is that of a job file.
+fn color_file(
+    s: &[u8],
+    out_lengths: &mut [u16],
+    out_kinds: &mut [u8],
+    out_points: &mut [f64],
+    out_colors: &mut [u8],
+) -> u64 {
+    let d = size(s, 56, out_lengths.len());
+    let e = size(s, 64, out_kinds.len());
+    let f = size(s, 72, out_points.len());
+    let g = size(s, 80, out_colors.len());
+    let file = part(s, 104, size(s, 16, 65536));
+    merelsplum_job_color(
+        file,
+        &mut out_lengths[..d],
+        &mut out_kinds[..e],
+        &mut out_points[..f],
+        &mut out_colors[..g],
+    )
+}
+
+fn answer(
+    s: &[u8],
+    out_lengths: &mut [u16],
+    out_kinds: &mut [u8],
+    out_points: &mut [f64],
+    out_colors: &mut [u8],
+) -> u64 {
+    if word(s, 0) == 71 {
+        return color_file(s, out_lengths, out_kinds, out_points, out_colors);
+    }
+    color(s, out_lengths, out_kinds, out_points, out_colors)
+}
+
 // ---- the result
 
 fn wide(x: u16) -> u64 {
@@ -233,7 +270,7 @@ fn word_or(s: &[u8], at: usize, other: u64) -> u64 {
 }
 
 // Whether a buffer holds what s records, and after that what stood there before.
-fn is_lengths(s: &[u8], lengths: &[u16]) -> bool
+pub(crate) fn is_lengths(s: &[u8], lengths: &[u16]) -> bool
     requires { ⌜ length (now lengths) ≤ 4100 ⌝ }
 {
     let mut i = 0;
@@ -246,7 +283,7 @@ fn is_lengths(s: &[u8], lengths: &[u16]) -> bool
     true
 }
 
-fn is_points(s: &[u8], points: &[f64]) -> bool
+pub(crate) fn is_points(s: &[u8], points: &[f64]) -> bool
     requires { ⌜ length (now points) ≤ 4100 ⌝ }
 {
     let mut i = 0;
@@ -259,7 +296,7 @@ fn is_points(s: &[u8], points: &[f64]) -> bool
     true
 }
 
-fn is_bytes(s: &[u8], bytes: &[u8]) -> bool {
+pub(crate) fn is_bytes(s: &[u8], bytes: &[u8]) -> bool {
     let mut expected = [BYTE; 540];
     load(s, &mut expected);
     check::same(bytes, &expected)
@@ -317,8 +354,7 @@ pub(crate) fn is_right(s: &[u8]) -> bool {
     let mut kinds = [BYTE; 540];
     let mut points = [float(PLACE); 4100];
     let mut colors = [BYTE; 540];
-    let answer = color(s, &mut lengths, &mut kinds, &mut points, &mut colors);
-    if answer != word(s, 88) {
+    if answer(s, &mut lengths, &mut kinds, &mut points, &mut colors) != word(s, 88) {
         return false;
     }
     is_result(

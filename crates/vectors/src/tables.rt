@@ -6,32 +6,30 @@ use crate::words::part;
 use crate::words::size;
 use crate::words::word;
 use capi::spline_table::merelsplum_try_add_edge;
-use std::num::wrapping_add_u64;
 ghost use Prim.Native.Nat.{_≤_, _<_};
 ghost use lib.ListN.{length};
 
 // Makes the offer that is recorded at the start of s: whether the answer is as recorded.
-fn is_right(s: &[u8], coloring: &mut [u8], edge_matrix: &mut [u8]) -> bool {
+fn is_offer(s: &[u8], coloring: &mut [u8], edge_matrix: &mut [u8]) -> bool {
     let a = word(s, 0) as usize;
     let b = word(s, 8) as usize;
     merelsplum_try_add_edge(coloring, edge_matrix, a, b) == word(s, 16)
 }
 
-// Makes the offers of s in order: how many answers are as recorded.
-fn offers(s: &[u8], coloring: &mut [u8], edge_matrix: &mut [u8]) -> u64 {
-    let mut right = 0;
+// Makes the offers of s in order: whether all answers are as recorded.
+fn are_offers(s: &[u8], coloring: &mut [u8], edge_matrix: &mut [u8]) -> bool {
     let mut at = 0;
     while 24 <= s.len() - at {
-        if is_right(&s[at..], coloring, edge_matrix) {
-            right = wrapping_add_u64(right, 1);
+        if !is_offer(&s[at..], coloring, edge_matrix) {
+            return false;
         }
         at += 24;
     }
-    right
+    true
 }
 
-// The same in two buffers of the run's sizes.
-fn run(s: &[u8], coloring: &mut [u8], edge_matrix: &mut [u8], count: usize) -> u64
+// The same in two buffers of the run's sizes, and whether they end as recorded.
+fn is_run(s: &[u8], coloring: &mut [u8], edge_matrix: &mut [u8], count: usize) -> bool
     requires { ⌜ (length (now coloring) ≤ 128) × (length (now «edge_matrix») ≤ 8192) × (count ≤ 4096) ⌝ }
 {
     let n = coloring.len();
@@ -41,11 +39,10 @@ fn run(s: &[u8], coloring: &mut [u8], edge_matrix: &mut [u8], count: usize) -> u
     let after = first + 24 * count;
     load(part(s, 40, n), coloring);
     load(part(s, entries, m), edge_matrix);
-    let right = offers(part(s, first, 24 * count), coloring, edge_matrix);
-    if check::same(coloring, part(s, after, n)) && check::same(edge_matrix, part(s, after + n, m)) {
-        return wrapping_add_u64(right, 1);
+    if !are_offers(part(s, first, 24 * count), coloring, edge_matrix) {
+        return false;
     }
-    right
+    check::same(coloring, part(s, after, n)) && check::same(edge_matrix, part(s, after + n, m))
 }
 
 fn colors(s: &[u8]) -> usize
@@ -66,16 +63,11 @@ fn count(s: &[u8]) -> usize
     size(s, 32, 4096)
 }
 
-// How many answers of the run at the start of s are as recorded, with one more where the table ends as recorded.
-pub(crate) fn right(s: &[u8]) -> u64 {
+// Whether every answer of the run at the start of s, and the table that it leaves, are as recorded.
+pub(crate) fn is_right(s: &[u8]) -> bool {
     let n = colors(s);
     let m = entries(s);
     let mut coloring = [0u8; 128];
     let mut edge_matrix = [0u8; 8192];
-    run(s, &mut coloring[..n], &mut edge_matrix[..m], count(s))
-}
-
-// How many answers it has, the last table among them.
-pub(crate) fn answers(s: &[u8]) -> u64 {
-    1 + count(s) as u64
+    is_run(s, &mut coloring[..n], &mut edge_matrix[..m], count(s))
 }

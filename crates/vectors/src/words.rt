@@ -4,7 +4,7 @@ use math::bits::float;
 ghost use mathlib.Core.Path.{_≡_};
 ghost use Prim.Native.Nat.{_+_, _≤_, _<_};
 ghost use lib.ListN.{length};
-ghost use Rattle.vectors.specs.Words.{halfAt, wordAt, headed, matches};
+ghost use Rattle.vectors.specs.Words.{halfAt, wordAt, matches};
 
 fn wide(x: u8) -> u64
     ensures { λ r. ⌜ (r ≡ x) × (r < 256) ⌝ }
@@ -46,13 +46,6 @@ pub(crate) fn same(x: f64, bits: u64) -> bool
         return 0x7FF0_0000_0000_0000 < bits % 0x8000_0000_0000_0000;
     }
     f64::to_bits(x) == bits
-}
-
-// Whether a heading stands at the start of s.
-pub(crate) fn is_heading(s: &[u8]) -> bool
-    ensures { λ r. ⌜ r ≡ headed (now (s .entry)) ⌝ }
-{
-    word(s, 0) == 0xFFFF_FFFF_FFFF_FFFF
 }
 
 // A number that is recorded at the place at of s, or 0 where it is above the most that there can be.

@@ -1,11 +1,12 @@
 //! Writes the files `stdin` and `stdout` of the program `replay`, in the folder that is named:
 //! `vectors ../crates/replay`.
 
-use oracle::tables::{self, Run, Table};
+use oracle::spoilt::spoilt;
+use oracle::tables::{self, Run};
 use oracle::{edges, job_sample, leaves, shape_sample};
 use std::path::Path;
 
-/// The records, and the counts that the program prints when every answer is right.
+/// The records, and the counts that the program prints when every answer is as the source's.
 #[derive(Default)]
 struct Recording {
     records: Vec<u8>,
@@ -13,71 +14,71 @@ struct Recording {
 }
 
 impl Recording {
-    fn words(&mut self, words: &[u64]) {
-        for w in words {
-            self.records.extend(w.to_le_bytes());
-        }
-    }
-
-    fn buffers(&mut self, t: &Table) {
-        self.records.extend(&t.coloring);
-        self.records.extend(&t.edge_matrix);
-    }
-
-    /// Begins a part: a word of ones and a name of 16 bytes; `count` records are to follow.
-    fn heading(&mut self, name: &str, count: usize) {
+    /// A part: a word of ones, a name of 16 bytes, and the records, of which so many are right.
+    fn part(&mut self, name: &str, records: &[Vec<u8>], right: usize) {
         let name = format!("{name:<16}");
         assert_eq!(name.len(), 16, "a name too long: {name}");
-        self.words(&[u64::MAX]);
+        assert!(!records.is_empty(), "no record: {name}");
+        self.records.extend(u64::MAX.to_le_bytes());
         self.records.extend(name.bytes());
-        self.counts += &format!("{name}{count} of {count}\n");
+        self.records.extend(records.concat());
+        self.counts += &format!("{name}{right} of {}\n", records.len());
+    }
+
+    /// Parts with the source's answers; then the first record of each with its answer spoilt, none of them right.
+    fn parts(&mut self, name: &str, parts: Vec<(String, Vec<Vec<u8>>)>, to_spoil: &[Vec<u8>]) {
+        for (name, records) in &parts {
+            self.part(name, records, records.len());
+        }
+        let spoilt: Vec<_> = to_spoil.iter().flat_map(|record| spoilt(record)).collect();
+        self.part(&format!("spoilt {name}"), &spoilt, 0);
     }
 }
 
-fn math(out: &mut Recording) {
-    for (number, leaf) in leaves::LEAVES.iter().enumerate() {
+fn bytes(words: &[u64]) -> Vec<u8> {
+    words.iter().flat_map(|w| w.to_le_bytes()).collect()
+}
+
+/// The first record of each part.
+fn firsts(parts: &[(String, Vec<Vec<u8>>)]) -> Vec<Vec<u8>> {
+    parts.iter().map(|(_, records)| records[0].clone()).collect()
+}
+
+fn math() -> Vec<(String, Vec<Vec<u8>>)> {
+    let part = |(number, leaf): (usize, &leaves::Leaf)| {
         let sample = leaves::sample(number);
-        out.heading(leaf.name, sample.len());
-        for (inputs, outputs) in sample {
-            out.words(&leaves::record(number, &inputs, &outputs));
-        }
-    }
+        let records = sample.iter().map(|(i, o)| bytes(&leaves::record(number, i, o)));
+        (leaf.name.to_string(), records.collect())
+    };
+    leaves::LEAVES.iter().enumerate().map(part).collect()
 }
 
-fn geometry(out: &mut Recording) {
-    for (number, function) in edges::FUNCTIONS.iter().enumerate() {
+fn geometry() -> Vec<(String, Vec<Vec<u8>>)> {
+    let part = |(number, function): (usize, &edges::Function)| {
         let vectors = function.vectors(number);
-        out.heading(function.name, vectors.len());
-        for (inputs, outputs) in vectors {
-            out.words(&edges::record(number, &inputs, &outputs));
-        }
-    }
+        let records = vectors.iter().map(|(i, o)| bytes(&edges::record(number, i, o)));
+        (function.name.to_string(), records.collect())
+    };
+    edges::FUNCTIONS.iter().enumerate().map(part).collect()
 }
 
-/// Runs of offers: 64, the record's bytes, how many colours, entries and offers; the two buffers; a, b
+/// A run of offers: 64, the record's bytes, how many colours, entries and offers; the two buffers; a, b
 /// and the answer of each offer; the two buffers after the last.
-fn table(out: &mut Recording) {
-    for (name, runs) in tables::sample() {
-        out.heading(&name, runs.iter().map(|run| run.offers.len() + 1).sum());
-        for Run { before, offers, after } in runs {
-            let (n, m) = (before.coloring.len(), before.edge_matrix.len());
-            let bytes = 40 + 2 * (n + m) + 24 * offers.len();
-            out.words(&[64, bytes as u64, n as u64, m as u64, offers.len() as u64]);
-            out.buffers(&before);
-            for ((a, b), answer) in offers {
-                out.words(&[a as u64, b as u64, answer.code()]);
-            }
-            out.buffers(&after);
-        }
+fn run(Run { before, offers, after }: &Run) -> Vec<u8> {
+    let (n, m) = (before.coloring.len(), before.edge_matrix.len());
+    let size = 40 + 2 * (n + m) + 24 * offers.len();
+    let mut record = bytes(&[64, size as u64, n as u64, m as u64, offers.len() as u64]);
+    record.extend([&before.coloring[..], &before.edge_matrix].concat());
+    for ((a, b), answer) in offers {
+        record.extend(bytes(&[*a as u64, *b as u64, answer.code()]));
     }
+    record.extend([&after.coloring[..], &after.edge_matrix].concat());
+    record
 }
 
-/// Calls of the colourings and job files, with their outcomes, of no common size.
-fn coloring_and_jobs(out: &mut Recording) {
-    for (name, records) in shape_sample::sample().into_iter().chain(job_sample::sample()) {
-        out.heading(&name, records.len());
-        out.records.extend(records.concat());
-    }
+fn offers() -> Vec<(String, Vec<Vec<u8>>)> {
+    let part = |(name, runs): (String, Vec<Run>)| (name, runs.iter().map(run).collect());
+    tables::sample().into_iter().map(part).collect()
 }
 
 fn main() {
@@ -86,10 +87,14 @@ fn main() {
         std::process::exit(2);
     };
     let mut out = Recording::default();
-    math(&mut out);
-    geometry(&mut out);
-    table(&mut out);
-    coloring_and_jobs(&mut out);
+    let (math, geometry, offers) = (math(), geometry(), offers());
+    let (math_firsts, geometry_firsts) = (firsts(&math), firsts(&geometry));
+    let square = [offers[0].1[0].clone()];
+    out.parts("math", math, &math_firsts);
+    out.parts("geometry", geometry, &geometry_firsts);
+    out.parts("offers", offers, &square);
+    out.parts("colours", shape_sample::sample(), &shape_sample::small_records());
+    out.parts("jobs", job_sample::sample(), &job_sample::small_records());
     let folder = Path::new(&folder);
     std::fs::write(folder.join("stdin"), &out.records).unwrap();
     std::fs::write(folder.join("stdout"), &out.counts).unwrap();

@@ -17,24 +17,17 @@ loop-holds c = search needs
 sub-loop : tie.Need-sub-loop Inv-loop μ-loop
 sub-loop c = search needs
 
-word-requires : tie.Need-word-requires Inv-loop μ-loop
-word-requires c κs = search needs
+sub-is-part : tie.Need-sub-is-part Inv-loop μ-loop
+sub-is-part c = search needs
 
-add-word : tie.Need-add-word Inv-loop μ-loop
-add-word c = search needs
+part-is-part-start : tie.Need-part-is-part-start Inv-loop μ-loop
+part-is-part-start c = search needs
 
-word-requires-2 : tie.Need-word-requires-2 Inv-loop μ-loop
-word-requires-2 c κs = search needs
+part-is-part-end : tie.Need-part-is-part-end Inv-loop μ-loop
+part-is-part-end c = search needs
 
-mul-place : tie.Need-mul-place Inv-loop μ-loop
-mul-place c = search needs
-
-add-place : tie.Need-add-place Inv-loop μ-loop
-add-place c = search needs
-
-merelsplum-job-contour-part-requires :
-    tie.Need-merelsplum-job-contour-part-requires Inv-loop μ-loop
-merelsplum-job-contour-part-requires c κs = search needs
+is-part-requires : tie.Need-is-part-requires Inv-loop μ-loop
+is-part-requires c κs = search needs
 
 returns : tie.Need-returns Inv-loop μ-loop
 returns c = search needs
@@ -62,12 +55,10 @@ are-parts-spec =
     μ-loop
     loop-holds
     sub-loop
-    word-requires
-    add-word
-    word-requires-2
-    mul-place
-    add-place
-    merelsplum-job-contour-part-requires
+    sub-is-part
+    part-is-part-start
+    part-is-part-end
+    is-part-requires
     returns
     add-at
     add-contour

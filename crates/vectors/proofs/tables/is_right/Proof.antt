@@ -1,12 +1,12 @@
--- `vectors::tables::right` is safe: the two sizes are within the arrays. Assumes nothing.
+-- `vectors::tables::is_right` is safe: the two sizes are within the arrays. Assumes nothing.
 use borrow.Author.Needs.{needs}
 use mathlib.Core.List.{List}
 use mathlib.Core.Path.{sym}
 use Prim.Native.Nat.{ℕ, _≤_}
 use lib.ListN.{length, take}
 use lib.Seq.{length-take-le}
-use Rattle.vectors.proofs.tables.right.Statement.{statement}
-use Rattle.vectors.proofs.tables.right.Tie as tie
+use Rattle.vectors.proofs.tables.is_right.Statement.{statement}
+use Rattle.vectors.proofs.tables.is_right.Tie as tie
 
 -- a part is no longer than what it was to be
 part-fits : (j m : ℕ) (l : List ℕ) → j ≤ length l → j ≤ m → length (take j l) ≤ m
@@ -21,20 +21,20 @@ entries-requires c κs = search needs
 array-borrow-prefix-coloring : tie.Need-array-borrow-prefix-coloring
 array-borrow-prefix-coloring c = search needs
 
-slice-aggregate-run : tie.Need-slice-aggregate-run
-slice-aggregate-run c = sym (length-take-le _ _ (search needs))
+slice-aggregate-is-run : tie.Need-slice-aggregate-is-run
+slice-aggregate-is-run c = sym (length-take-le _ _ (search needs))
 
 array-borrow-prefix-edge-matrix : tie.Need-array-borrow-prefix-edge-matrix
 array-borrow-prefix-edge-matrix c = search needs
 
-slice-aggregate-run-2 : tie.Need-slice-aggregate-run-2
-slice-aggregate-run-2 c = sym (length-take-le _ _ (search needs))
+slice-aggregate-is-run-2 : tie.Need-slice-aggregate-is-run-2
+slice-aggregate-is-run-2 c = sym (length-take-le _ _ (search needs))
 
 count-requires : tie.Need-count-requires
 count-requires c κs = search needs
 
-run-requires : tie.Need-run-requires
-run-requires c κs =
+is-run-requires : tie.Need-is-run-requires
+is-run-requires c κs =
     let n = c .before .before .before .before .colors .result in
     let m = c .before .before .before .entries .result in
     (part-fits n 128 _ (search needs) (search needs), part-fits m 8192 _ (search needs) (search needs), search needs)
@@ -42,16 +42,16 @@ run-requires c κs =
 returns : tie.Need-returns
 returns c = search needs
 
-pub right-spec : {M : Type 1} → statement M
-right-spec =
+pub is-right-spec : {M : Type 1} → statement M
+is-right-spec =
     tie.close
     (tie.spec
     colors-requires
     entries-requires
     array-borrow-prefix-coloring
-    slice-aggregate-run
+    slice-aggregate-is-run
     array-borrow-prefix-edge-matrix
-    slice-aggregate-run-2
+    slice-aggregate-is-run-2
     count-requires
-    run-requires
+    is-run-requires
     returns)

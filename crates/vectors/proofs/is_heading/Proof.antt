@@ -1,10 +1,10 @@
--- `vectors::words::is_heading` meets its contract, by that of `word`. Assumes nothing.
+-- `vectors::is_heading` meets its contract, by that of `word`. Assumes nothing.
 use borrow.Author.Needs.{needs}
 use mathlib.Core.Path.{ap}
 use Prim.Native.Nat.{ℕ}
 use lib.Dec.{eqb}
-use Rattle.vectors.proofs.words.is_heading.Statement.{statement}
-use Rattle.vectors.proofs.words.is_heading.Tie as tie
+use Rattle.vectors.proofs.is_heading.Statement.{statement}
+use Rattle.vectors.proofs.is_heading.Tie as tie
 
 word-requires : tie.Need-word-requires
 word-requires c κs = search needs

@@ -1,10 +1,10 @@
--- `vectors::replay::replay` is safe and ends: what is left of the turns falls. Assumes nothing.
+-- `replay::main` is safe and ends: what is left of the turns falls. Assumes nothing.
 use borrow.Author.Needs.{needs}
 use mathlib.Core.Path.{_≡_}
 use Prim.Native.Nat.{_≤_, _-_}
 use lib.ListN.{length}
-use Rattle.vectors.proofs.replay.replay.Statement.{statement}
-use Rattle.vectors.proofs.replay.replay.Tie as tie
+use Rattle.replay.proofs.main.Statement.{statement}
+use Rattle.replay.proofs.main.Tie as tie
 
 abbrev Inv-loop : tie.InvT-loop
 Inv-loop space₀ counts₀ turns₀ space counts turns = (turns ≤ 1000000) × (length space ≡ 65536)
@@ -48,8 +48,8 @@ print-counts-requires c κs = search needs
 returns : tie.Need-returns Inv-loop μ-loop
 returns c = search needs
 
-pub replay-spec : {M : Type 1} → statement M
-replay-spec =
+pub main-spec : {M : Type 1} → statement M
+main-spec =
     tie.close
     (tie.spec
     Inv-loop
