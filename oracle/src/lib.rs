@@ -2,7 +2,6 @@
 //!
 //! `math`, `geometry` and `coloring` are the source; `given` is the copy of `coloring` that build.rs
 //! makes, in which the threshold is the one that is given and not its sine.
-#![allow(dead_code, unused_imports, clippy::all)]
 
 // `use arrayvec::ArrayVec` of equation_solver.rs finds the stand-in below.
 extern crate self as arrayvec;
