@@ -1,4 +1,5 @@
--- A buffer that is being written from a place on: `overFrom n xs buffer` has xs from place n on, and else what stood there.
+-- A buffer that is being written from a place on: `overFrom n xs buffer` has xs from place n on, and else what stood
+-- there.
 use mathlib.Core.Path.{_≡_, refl, sym, ap, _∙_}
 use mathlib.Core.List.{List, [], _∷_, _++_, append-assoc, append-nil}
 use Prim.Native.Nat.{ℕ, suc, _+_, _≤_, _<_}

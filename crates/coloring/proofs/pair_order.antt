@@ -1,4 +1,5 @@
--- The order of the pairs: laws of distances, of merging and sorting, and of pairs by their numbers; and that it is the only one.
+-- The order of the pairs: laws of distances, of merging and sorting, and of pairs by their numbers; and that it is the
+-- only one.
 pub mod DistanceLaws
 pub mod MergeLaws
 pub mod EachLaws

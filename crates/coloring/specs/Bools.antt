@@ -1,4 +1,5 @@
--- Truth values: a conjunction and a disjunction taken apart, cases by a test, a branch on a test that is known, and equality of two tests.
+-- Truth values: a conjunction and a disjunction taken apart, cases by a test, a branch on a test that is known, and
+-- equality of two tests.
 use mathlib.Core.Path.{_≡_, refl, sym}
 use mathlib.Core.Bool.{Bool, true, false, _&&_, _||_, true≢false, false≢true}
 

@@ -1,5 +1,5 @@
--- Worked examples of document 01, P1 to P3, P5 and P6, and others that refute wrong colourings; all computed from the
--- definitions.
+-- Worked examples: P1 to P3, P5 and P6 (SCOPE, Examples), and others that refute wrong colourings; all computed from
+-- the definitions.
 use Prim.Native.Nat.{ℕ, _*_}
 use mathlib.Core.Path.{_≡_, refl}
 use mathlib.Core.Bool.{Bool, true, false}

@@ -1,4 +1,4 @@
--- The limits of document 01, "Trays and the job file", and what follows from them.
+-- The limits (SCOPE, Limits), and what follows from them.
 use Prim.Native.Nat.{ℕ}
 
 abbrev pub maxContours : ℕ

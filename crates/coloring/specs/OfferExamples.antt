@@ -47,7 +47,8 @@ pub upper-wait-first :
 unfolding offer
 upper-wait-first = refl
 
--- refutes one that tests the counter behind the recolouring: the spline that it stops at has a free colour, with which it would keep the pair
+-- refutes one that tests the counter behind the recolouring: the spline that it stops at has a free colour, with which
+-- it would keep the pair
 pub stopped-with-a-free-colour :
     offer (tableOf (0 ∷ 0 ∷ 1 ∷ 0 ∷ 2 ∷ 1 ∷ 2 ∷ [])
     ((0 ∷ 1 ∷ 0 ∷ 0 ∷ 1 ∷ 1 ∷ 0 ∷ []) ++ (1 ∷ 0 ∷ 1 ∷ 0 ∷ 1 ∷ 1 ∷ 0 ∷ []) ++ (0 ∷ 1 ∷ 0 ∷ 0 ∷ 0 ∷ 1 ∷ 1 ∷ [])
@@ -78,7 +79,8 @@ pub refusals-in-order :
 unfolding offer
 refusals-in-order = (refl, refl, refl)
 
--- refutes one that misses a fault: a colour above 2, an entry above 1, entries that differ both ways round, a spline that touches itself
+-- refutes one that misses a fault: a colour above 2, an entry above 1, entries that differ both ways round, a spline
+-- that touches itself
 pub bad-tables :
     map (λ (t : Table). offer t 0 1 .answer)
     (tableOf (3 ∷ 0 ∷ []) (0 ∷ 0 ∷ 0 ∷ 0 ∷ [])

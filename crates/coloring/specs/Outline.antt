@@ -1,5 +1,5 @@
--- Outline buffers and the contours that they stand for, both ways, and the checks of an outline (document 01, "Trays
--- and the job file").
+-- Outline buffers and the contours that they stand for, both ways, and the checks of an outline (SCOPE, Buffers and
+-- Refusals).
 use Prim.Native.Nat.{ℕ, suc, _-_, _*_, _≤_}
 use denote.Ref.{RefT, now}
 use denote.Triple.Both.{Both}

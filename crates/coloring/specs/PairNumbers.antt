@@ -1,4 +1,5 @@
--- The order of the pairs as the code makes it: the pairs by their numbers in (i, j) order; halves of the numbers sorted and merged.
+-- The order of the pairs as the code makes it: the pairs by their numbers in (i, j) order; halves of the numbers sorted
+-- and merged.
 use mathlib.Core.Path.{_≡_}
 use mathlib.Core.Logic.{_≢_}
 use mathlib.Core.Bool.{Bool, true, false}

@@ -1,5 +1,5 @@
--- The pairs of splines in the order in which by-distance colouring takes them, after "Sorted list of graph edges" of coloring/by_distance.rs
--- (document 01, leaf 7: "a stable order by distance, equal ones by (i, j)").
+-- The pairs of splines in the order in which by-distance colouring takes them, after "Sorted list of graph edges" of
+-- coloring/by_distance.rs (SCOPE, leaf 7).
 use mathlib.Core.Path.{_≡_}
 use mathlib.Core.Bool.{Bool, true, false, _&&_}
 use mathlib.Core.List.{List, [], _∷_, _++_}

@@ -1,6 +1,7 @@
--- The recolouring behind an offer, after coloring/by_distance.rs (document 01, "One offer"): free colours, colours taken away, the walk.
--- The parts stand in the source's order and under its names. A colour is 0, 1 or 2; 3 is the source's -1, a spline without a colour.
--- Last comes what the functions of the recolouring promise each other: the queue of the walk as the code holds it.
+-- The recolouring behind an offer, after coloring/by_distance.rs (SCOPE, Offers): free colours, colours taken away, the
+-- walk. The parts stand in the source's order and under its names. A colour is 0, 1 or 2; 3 is the source's -1, a
+-- spline without a colour. Last comes what the functions of the recolouring promise each other: the queue of the walk
+-- as the code holds it.
 use mathlib.Core.Path.{_≡_}
 use mathlib.Core.Bool.{Bool, true, false, not, _&&_, _||_, cond}
 use mathlib.Core.List.{List, [], _∷_, _++_}
@@ -31,7 +32,8 @@ uses c [] entries = false
 uses c (x ∷ coloring) [] = false
 uses c (x ∷ coloring) (e ∷ entries) = (not (eqb e 0) && eqb x c) || uses c coloring entries
 
--- The colours that no neighbour has, as a set: 1 for the colour 0, 2 for 1, 4 for 2. A neighbour without a colour uses up none.
+-- The colours that no neighbour has, as a set: 1 for the colour 0, 2 for 1, 4 for 2. A neighbour without a colour uses
+-- up none.
 unfoldable pub vertexPossibleColors : List ℕ → List ℕ → ℕ
 unfolding uses
 vertexPossibleColors coloring entries =
@@ -77,8 +79,8 @@ force entries c v w = uncolorSameNeighbors entries c v (record { coloring = set 
 unfoldable pub maxRecolorSteps : ℕ
 maxRecolorSteps = 16
 
--- The step whose colour, step mod 3, is forced on a spline: the first, from the counter on, that does not meet the colour c of a.
--- Two steps in a row differ mod 3, so the second is the last.
+-- The step whose colour, step mod 3, is forced on a spline: the first, from the counter on, that does not meet the
+-- colour c of a. Two steps in a row differ mod 3, so the second is the last.
 unfoldable pub forcedStep : Bool → ℕ → ℕ → ℕ
 forcedStep joinedToA c step = cond (joinedToA && eqb (step % 3) c) (suc step) step
 
@@ -87,8 +89,8 @@ pub data Walk : Type 0 where
   recolored : List ℕ → ℕ → Walk
   stopped : ℕ → Walk
 
--- Takes the splines off the queue, first come first served, as long as the counter is below 16. `fuel` bounds the turns; `walkFuel` is never used up.
--- c is the colour of a, which stays.
+-- Takes the splines off the queue, first come first served, as long as the counter is below 16. `fuel` bounds the
+-- turns; `walkFuel` is never used up. c is the colour of a, which stays.
 unfoldable pub walk : ℕ → List ℕ → ℕ → ℕ → ℕ → ℕ → List ℕ → List ℕ → Walk
 unfolding row joined vertexPossibleColors firstPossibleColor force maxRecolorSteps forcedStep
 walk n edgeMatrix a c zero step coloring queue = stopped step

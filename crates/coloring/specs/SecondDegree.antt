@@ -1,5 +1,4 @@
--- The starting colours of the splines, after `color_second_degree_graph` of coloring/by_distance.rs (document 01, leaf 7: "A decision over the
--- eight sets of free colours gives each spline its starting colour").
+-- The starting colours of the splines, after `color_second_degree_graph` of coloring/by_distance.rs (SCOPE, leaf 7).
 use mathlib.Core.Bool.{cond}
 use mathlib.Core.List.{List, [], _∷_, _++_}
 use Prim.Native.Nat.{ℕ, zero, suc, _+_, _%_}
@@ -13,7 +12,8 @@ use Rattle.coloring.specs.declared.seed.Draw.{Draw}
 abbrev pub undrawn : ℕ → ℕ → Draw
 undrawn seed color = record { value = color; seed = seed }
 
--- the colour of spline i by the set of its free colours (1 for the colour 0, 2 for 1, 4 for 2), and the seed that is left
+-- the colour of spline i by the set of its free colours (1 for the colour 0, 2 for 1, 4 for 2), and the seed that is
+-- left
 unfoldable pub startingColor : ℕ → ℕ → ℕ → Draw
 startingColor possible i seed =
     let two = seedExtract2 seed in
@@ -31,7 +31,8 @@ startingColor possible i seed =
     possible
     (undrawn seed 0)
 
--- The k splines after those that have a colour. A neighbour that has none yet takes away no colour: `vertexPossibleColors` ends with the colours.
+-- The k splines after those that have a colour. A neighbour that has none yet takes away no colour:
+-- `vertexPossibleColors` ends with the colours.
 unfoldable pub colorFrom : ℕ → List ℕ → ℕ → ℕ → List ℕ → List ℕ
 unfolding startingColor row vertexPossibleColors
 colorFrom n edgeMatrix zero seed coloring = coloring

@@ -1,4 +1,4 @@
--- Draws from a seed, after `seed_extract2` and `seed_extract3` of coloring/mod.rs (document 01, leaf 6).
+-- Draws from a seed, after `seed_extract2` and `seed_extract3` of coloring/mod.rs (SCOPE, leaf 6).
 use Prim.Native.Nat.{ℕ, _/_, _%_}
 use Rattle.coloring.specs.declared.seed.Draw.{Draw}
 

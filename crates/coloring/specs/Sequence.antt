@@ -1,5 +1,6 @@
--- The sequence rule for offers to a spline table that starts without a clash (demand 3): one claim about a whole list of offers.
--- The terms are document 01's, "One offer". `offer` is the definition that the contract of `try_add_edge` names.
+-- The sequence rule for offers to a spline table that starts without a clash (demand 3): one claim about a whole list
+-- of offers. The terms are those of SCOPE, Demands and Offers. `offer` is the definition that the contract of
+-- `try_add_edge` names.
 use mathlib.Core.Path.{_≡_}
 use mathlib.Core.Logic.{_⊎_, _≢_}
 use Prim.Native.Nat.{ℕ, _+_, _*_, _<_}

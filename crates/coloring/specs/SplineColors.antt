@@ -1,5 +1,6 @@
--- By-distance colouring without outlines: from n splines, their distances and a seed to the splines' colours, after coloring/by_distance.rs from
--- "Sorted list of graph edges" to the end of the offers (document 01, leaf 7). Spline colours 0, 1, 2 are Yellow, Cyan, Magenta.
+-- By-distance colouring without outlines: from n splines, their distances and a seed to the splines' colours, after
+-- coloring/by_distance.rs from "Sorted list of graph edges" to the end of the offers (SCOPE, leaf 7). Spline colours 0,
+-- 1, 2 are Yellow, Cyan, Magenta.
 use mathlib.Core.Path.{_≡_}
 use mathlib.Core.Bool.{Bool, true, false, _&&_}
 use mathlib.Core.List.{List, [], _∷_, map}

@@ -1,4 +1,5 @@
--- Worked examples of by-distance colouring without outlines, computed from the definitions. Each says which wrong program it refutes.
+-- Worked examples of by-distance colouring without outlines, computed from the definitions. Each says which wrong
+-- program it refutes.
 use mathlib.Core.Path.{_≡_, refl}
 use mathlib.Core.Bool.{true, false}
 use mathlib.Core.List.{List, [], _∷_, map}
@@ -77,13 +78,16 @@ pub no-draw : (startingColor 4 0 7 ≡ record { value = 2; seed = 7 }) × (start
 unfolding startingColor
 no-draw = (refl, refl)
 
--- refutes a program that goes on to a fourth colour: four splines that all touch leave the last none, so it takes 0, and meets the first
+-- refutes a program that goes on to a fourth colour: four splines that all touch leave the last none, so it takes 0,
+-- and meets the first
 pub four-touch : colorSplines 4 (f0 ∷ f0 ∷ f0 ∷ f0 ∷ f0 ∷ f0 ∷ []) 0 ≡ (0 ∷ 1 ∷ 2 ∷ 0 ∷ [])
 unfolding offerSplines Ieee.lt Ieee.eq Ieee.ofBits
 four-touch = refl
 
--- Four splines in a row, each at distance zero from the next, seed 4: starting colours 1, 0, 1, 2. Refutes a program that makes no offers, draws from
--- the whole seed for each spline, starts with the lowest free colours, offers the zero pairs, or takes equal distances in the other order.
+-- Four splines in a row, each at distance zero from the next, seed 4: starting colours 1, 0, 1, 2. Refutes a program
+-- that makes no offers, draws from the whole seed for each spline, starts with the lowest free colours, offers the zero
+-- pairs and does not enter them (`square-answers` refutes one that does both), or takes equal distances in the other
+-- order.
 pub four-in-a-row : colorSplines 4 (f0 ∷ f1 ∷ f1 ∷ f0 ∷ f1 ∷ f0 ∷ []) 4 ≡ (1 ∷ 0 ∷ 2 ∷ 0 ∷ [])
 unfolding offerSplines offer Ieee.lt Ieee.eq Ieee.ofBits
 four-in-a-row = refl

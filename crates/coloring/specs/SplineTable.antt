@@ -1,4 +1,5 @@
--- One offer of a pair to a spline table, after `try_add_edge` of coloring/by_distance.rs (document 01, "One offer"), with the checks before it.
+-- One offer of a pair to a spline table, after `try_add_edge` of coloring/by_distance.rs (SCOPE, Offers), with the
+-- checks before it.
 use mathlib.Core.Bool.{Bool, true, false, not, _&&_}
 use mathlib.Core.List.{List, [], _∷_}
 use Prim.Native.Nat.{ℕ, zero, suc, _+_, _*_}
@@ -20,7 +21,7 @@ pub record Table : Type 0 where
 abbrev pub tableOf : List ℕ → List ℕ → Table
 tableOf coloring edgeMatrix = record { coloring = coloring; edgeMatrix = edgeMatrix }
 
--- An offer's answer in document 01's terms: kept or declined, with its counter, or refused, with its number.
+-- An offer's answer (SCOPE, Offers): kept or declined, with its counter, or refused, with its number.
 pub data OfferAnswer : Type 0 where
   kept : ℕ → OfferAnswer
   declined : ℕ → OfferAnswer
@@ -77,7 +78,7 @@ tryAddEdge t a b =
           ]
     ]
 
--- ---- the checks, in document 01's order: 4, 8, 10
+-- ---- the checks, in the order of SCOPE, Refusals: 4, 8, 10
 
 -- whether a test passes at each number below n
 unfoldable pub allBelow : ℕ → (ℕ → Bool) → Bool

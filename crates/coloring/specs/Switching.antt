@@ -1,4 +1,4 @@
--- Colour switching, after `init_color` to `switch_color_banned` of coloring/mod.rs (document 01, leaf 6).
+-- Colour switching, after `init_color` to `switch_color_banned` of coloring/mod.rs (SCOPE, leaf 6).
 use Prim.Native.Nat.{ℕ, zero, suc, _+_, _-_, _*_, _/_, _%_, _^_}
 use mathlib.Core.Bool.{Bool, _||_, cond}
 use mathlib.Core.Path.{_≡_}

@@ -1,5 +1,5 @@
--- P1 to P10 of document 01, "Examples", as one list, which one theorem proves. Each member is computed where its
--- definitions stand.
+-- P1 to P10 (SCOPE, Examples) as one list, which one theorem proves. Each member is computed where its definitions
+-- stand.
 use mathlib.Core.Path.{_≡_}
 use mathlib.Core.Bool.{false}
 use mathlib.Core.List.{[], _∷_}

@@ -1,4 +1,4 @@
--- `symmetrical_trichotomy` of coloring/mod.rs, by document 01's rule over whole numbers.
+-- `symmetrical_trichotomy` of coloring/mod.rs, by the rule in whole numbers (SCOPE, Leaves).
 use Prim.Native.Nat.{ℕ, _-_, _*_}
 use mathlib.Core.Bool.{cond}
 use lib.Dec.{ltb}

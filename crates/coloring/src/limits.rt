@@ -1,4 +1,4 @@
-// The limits of document 01, and what follows from them; specs/Limits.antt has the same.
+// The limits (SCOPE, Limits), and what follows from them; specs/Limits.antt has the same.
 
 pub(crate) const MAX_CONTOURS: usize = 64;
 

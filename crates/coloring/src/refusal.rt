@@ -1,5 +1,5 @@
-// Why a call is refused. One enum for all crates; `refusalNumber` of specs/Refusal.antt gives the
-// number that document 01 prints for each case.
+// Why a call is refused. One enum for all crates; `refusalNumber` of specs/Refusal.antt gives the number of each case
+// (SCOPE, Refusals).
 ghost use mathlib.Core.Path.{_≡_};
 ghost use Rattle.coloring.specs.Refusal.{refusalNumber};
 
@@ -29,7 +29,7 @@ pub enum Refusal {
 }
 
 impl Refusal {
-    // The number that document 01 gives the refusal.
+    // The number of the refusal (SCOPE, Refusals).
     pub fn number(self) -> u8
         ensures { λ r. ⌜ r ≡ refusalNumber self ⌝ }
     {

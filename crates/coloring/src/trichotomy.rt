@@ -1,4 +1,4 @@
-// `symmetrical_trichotomy` of coloring/mod.rs, by the whole-number rule that document 01 gives for its float
+// `symmetrical_trichotomy` of coloring/mod.rs, by the rule in whole numbers that SCOPE, Leaves, has for its float
 // expression.
 ghost use mathlib.Core.Path.{_≡_};
 ghost use Prim.Native.Nat.{_≤_, _<_};

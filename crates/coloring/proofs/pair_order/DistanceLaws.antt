@@ -1,4 +1,5 @@
--- Distances that are finite and not below zero are ordered as fractions: `lt` is asymmetric, and "not below" is transitive.
+-- Distances that are finite and not below zero are ordered as fractions: `lt` is asymmetric, and "not below" is
+-- transitive.
 use mathlib.Core.Path.{_≡_, refl, sym, _∙_}
 use mathlib.Core.Bool.{true, false, _&&_, false≢true}
 use mathlib.Core.List.{List, [], _∷_}

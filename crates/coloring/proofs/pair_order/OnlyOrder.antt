@@ -1,5 +1,6 @@
--- The order of the pairs is what document 01 says, and the only one: of all rearrangements of the pairs, `pairOrder` alone has the nearer pair
--- before the farther, and of two that are as near the first by (i, j). The theorems are `order-fits` and `order-only`.
+-- The order of the pairs is that of SCOPE, leaf 7, and the only one: of all rearrangements of the pairs, `pairOrder`
+-- alone has the nearer pair before the farther, and of two that are as near the first by (i, j). The theorems are
+-- `order-fits` and `order-only`.
 use mathlib.Core.Path.{_≡_, refl, sym, ap, ap₂, _∙_, subst}
 use mathlib.Core.Logic.{_⊎_, inl, inr, ⊎-elim}
 use mathlib.Core.Bool.{true, false, true≢false}

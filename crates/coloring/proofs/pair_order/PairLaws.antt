@@ -1,5 +1,5 @@
--- The pairs by their numbers: how they are written row by row, how many they are, that each is of two different splines, and that the order of
--- the numbers is the order of the pairs.
+-- The pairs by their numbers: how they are written row by row, how many they are, that each is of two different
+-- splines, and that the order of the numbers is the order of the pairs.
 use mathlib.Core.Path.{_≡_, refl, sym, ap, ap₂, _∙_}
 use mathlib.Core.List.{List, [], _∷_, _++_, map}
 use Prim.Native.Nat.{ℕ, zero, suc, _+_, _-_, _*_, _/_, _<_, _≤_}

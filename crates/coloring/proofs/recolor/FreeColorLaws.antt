@@ -1,4 +1,5 @@
--- The free colours of a spline: how `uses` goes along a row, the range of `vertexPossibleColors`, the colours taken of a set, and the forced colour.
+-- The free colours of a spline: how `uses` goes along a row, the range of `vertexPossibleColors`, the colours taken of
+-- a set, and the forced colour.
 use mathlib.Core.Path.{_≡_, refl}
 use mathlib.Core.Logic.{_≢_}
 use mathlib.Core.Bool.{Bool, true, false, not, _&&_, _||_, cond, true≢false, false≢true}

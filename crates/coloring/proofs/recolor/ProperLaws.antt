@@ -1,5 +1,5 @@
--- What holds of the colours each time a spline is taken off the queue: who has no colour waits, and, where there was no clash at first, neighbours
--- differ. So a walk that is not stopped ends in colours without a clash.
+-- What holds of the colours each time a spline is taken off the queue: who has no colour waits, and, where there was no
+-- clash at first, neighbours differ. So a walk that is not stopped ends in colours without a clash.
 use mathlib.Core.Path.{_≡_, sym, _∙_}
 use mathlib.Core.Logic.{_⊎_, inl, inr, ⊎-elim, ⊎-map, _≢_}
 use mathlib.Core.List.{List, [], _∷_, List·Memᴰ, List·Memᴰ·cases-cons, List·Memᴰ·not-nil}
@@ -16,7 +16,8 @@ use Rattle.coloring.proofs.recolor.FreeColorLaws.{Free, uses-false, pos
 use Rattle.coloring.proofs.recolor.UncolorLaws.{KeepsOrWaits, Uncolors, uncolors-none, force-uncolors, force-gone}
 use Rattle.coloring.proofs.recolor.WalkLaws.{Turns, turns}
 
--- Of all splines but v (of all, where v is n): each has a colour or waits; and if `Clear`, two neighbours have one colour only where they wait.
+-- Of all splines but v (of all, where v is n): each has a colour or waits; and if `Clear`, two neighbours have one
+-- colour only where they wait.
 pub record Proper (Clear : Type 0) (n : ℕ) (edgeMatrix : List ℕ) (v : ℕ) (w : Recoloring) : Type 0 where
   pub size : length (w .coloring) ≡ n
   pub colored : (i : ℕ) → i < n → i ≢ v → (getD (w .coloring) i 0 < 3) ⊎ List·Memᴰ i (w .queue)

@@ -1,5 +1,6 @@
--- The queue of a walk. First the ring: its length, and what is put at its end. Then the splines that wait: they are as many as there are
--- places at most, one more may wait once it has lost its colour, and the first may be taken off once it has one.
+-- The queue of a walk. First the ring: its length, and what is put at its end. Then the splines that wait: they are as
+-- many as there are places at most, one more may wait once it has lost its colour, and the first may be taken off once
+-- it has one.
 use mathlib.Core.Path.{_≡_, refl, sym, ap, _∙_}
 use mathlib.Core.Logic.{_≢_}
 use mathlib.Core.Bool.{Bool, true, false, cond}

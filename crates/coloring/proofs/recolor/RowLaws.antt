@@ -1,4 +1,5 @@
--- Where the entries of n splines lie: entry (a, b) at a * n + b, and the row of v from v * n on; and the matrix of a sound table.
+-- Where the entries of n splines lie: entry (a, b) at a * n + b, and the row of v from v * n on; and the matrix of a
+-- sound table.
 use mathlib.Core.Path.{_≡_}
 use mathlib.Core.List.{List}
 use Prim.Native.Nat.{ℕ, _+_, _-_, _*_, _≤_, _<_}

@@ -1,4 +1,5 @@
--- Taking colours away: what it does to each spline and to the queue, its first step, and the same with the queue in its ring.
+-- Taking colours away: what it does to each spline and to the queue, its first step, and the same with the queue in its
+-- ring.
 use mathlib.Core.Path.{_≡_, refl, sym, ap, _∙_, subst⁻¹}
 use mathlib.Core.Logic.{_⊎_, inl, inr, _≢_}
 use mathlib.Core.Bool.{Bool, true, false, _&&_, cond, and-false}

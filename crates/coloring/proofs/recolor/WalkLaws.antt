@@ -1,5 +1,6 @@
--- The walk. One turn by its three cases, and what holds at the end of a walk if each turn keeps it; that `walkFuel` is never used up; the
--- counters at which a walk can end; and the turns as the code makes them, with the queue in its ring.
+-- The walk. One turn by its three cases, and what holds at the end of a walk if each turn keeps it; that `walkFuel` is
+-- never used up; the counters at which a walk can end; and the turns as the code makes them, with the queue in its
+-- ring.
 use mathlib.Core.Path.{_≡_, refl, sym, ap, _∙_, subst⁻¹}
 use mathlib.Core.Logic.{_≢_}
 use mathlib.Core.List.{List, [], _∷_, List·Memᴰ, List·Memᴰ·not-nil}

@@ -1,4 +1,5 @@
--- The starting colours, spline by spline: each is a colour, and the row of a spline counts only as far as there are colours.
+-- The starting colours, spline by spline: each is a colour, and the row of a spline counts only as far as there are
+-- colours.
 use mathlib.Core.Path.{_≡_, refl, sym, ap, _∙_}
 use mathlib.Core.Bool.{Bool, true, false, not, cond, _&&_, _||_}
 use mathlib.Core.List.{List, [], _∷_, _++_}

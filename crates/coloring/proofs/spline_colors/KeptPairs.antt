@@ -1,5 +1,5 @@
--- The sequence rule for the offers of by-distance colouring. Where the starting colours leave no zero pair with one colour on both sides, no pair
--- that is kept at the end has one colour on both sides: `kept-pairs-differ`.
+-- The sequence rule for the offers of by-distance colouring. Where the starting colours leave no zero pair with one
+-- colour on both sides, no pair that is kept at the end has one colour on both sides: `kept-pairs-differ`.
 use Prim.Native.Nat.{ℕ}
 use mathlib.Core.List.{List}
 use lib.Ieee.{Float}

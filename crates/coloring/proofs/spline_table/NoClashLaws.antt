@@ -1,5 +1,6 @@
--- One offer of two different splines to a sound table leaves a sound table. One offer to a table without a clash: there is none afterwards; the pairs
--- kept are those from before and, if the answer is kept, the offer's own; if it is not, the table is as it was.
+-- One offer of two different splines to a sound table leaves a sound table. One offer to a table without a clash: there
+-- is none afterwards; the pairs kept are those from before and, if the answer is kept, the offer's own; if it is not,
+-- the table is as it was.
 use mathlib.Core.Path.{_≡_, refl, sym, ap, _∙_, subst}
 use mathlib.Core.Logic.{_⊎_, inl, inr, ⊎-elim, _≢_}
 use mathlib.Core.Bool.{true, false, true≢false}
@@ -171,7 +172,8 @@ module _ (t : Table) (p : Pair) (v : Unrefused t (p .a) (p .b)) where
       no-entry : NoClash t → entry n (t .edgeMatrix) (p .a) (p .b) ≡ 0
       no-entry clear = go clear (ℕ-discrete _ 0)
 
-  -- the colours differ and b keeps its own, or b takes a free one, or it takes the first that a has not and a walk follows
+  -- the colours differ and b keeps its own, or b takes a free one, or it takes the first that a has not and a walk
+  -- follows
   try-outcome : Outcome t p (tryAddEdge t (p .a) (p .b))
   try-outcome =
       rule-cases t (p .a) (p .b) (Outcome t p) (λ d. if-kept 0 (t .coloring) (old-colors n (λ i j names x z. differ d i j names)))

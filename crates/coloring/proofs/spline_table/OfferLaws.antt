@@ -1,6 +1,6 @@
--- One offer, to any table and of any two numbers: the rule by its three cases, the checks in their order, what an offer that passes them leaves,
--- and the laws of document 01, "One offer": the counter that the answer carries, what a declined and a refused offer leave as it was, and that the
--- walk's fuel is never used up.
+-- One offer, to any table and of any two numbers: the rule by its three cases, the checks in their order, what an offer
+-- that passes them leaves, and the laws of SCOPE, Offers: the counter that the answer carries, what a declined and a
+-- refused offer leave as it was, and that the walk's fuel is never used up.
 use mathlib.Core.Path.{_≡_, refl, sym, _∙_, subst}
 use mathlib.Core.Logic.{_⊎_, inl, inr, ⊎-elim, _≢_}
 use mathlib.Core.Bool.{Bool, true, false, not, _&&_, and-false}

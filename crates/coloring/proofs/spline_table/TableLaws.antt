@@ -1,4 +1,5 @@
--- Laws of a spline table: what `sound` says, place by place, and that it is what the code looks at; the entries before and after a pair is entered.
+-- Laws of a spline table: what `sound` says, place by place, and that it is what the code looks at; the entries before
+-- and after a pair is entered.
 use mathlib.Core.Path.{_≡_, refl, sym, ap, _∙_, subst}
 use mathlib.Core.Logic.{inl, inr, ⊎-elim, _≢_, Dec·and}
 use mathlib.Core.Bool.{Bool, true, _&&_}

@@ -1,4 +1,5 @@
--- `sort_by_distance` meets its contract, by the length of the list: the two halves sorted, and merged, are the whole sorted.
+-- `sort_by_distance` meets its contract, by the length of the list: the two halves sorted, and merged, are the whole
+-- sorted.
 use mathlib.Core.Path.{_≡_, sym, ap, ap₂, subst, _∙_}
 use mathlib.Core.Bool.{true}
 use mathlib.Core.List.{List, _++_, append-nil}

@@ -1,4 +1,5 @@
--- `recolor` meets its contract: the copy equals the colours, the first splines that wait are the definition's, and so is the walk.
+-- `recolor` meets its contract: the copy equals the colours, the first splines that wait are the definition's, and so
+-- is the walk.
 use mathlib.Core.Path.{_≡_, refl, sym, ap, _∙_}
 use mathlib.Core.List.{List, []}
 use Prim.Native.Nat.{ℕ, _-_, _^_, _<_}

@@ -1,5 +1,6 @@
--- `walk` meets its contract. The walk's invariant: the walk from here on, by the definition, equals the whole, and the ring holds its queue.
--- The inner loop's: the step that is forced from here on is the one that was forced when the loop began.
+-- `walk` meets its contract. The walk's invariant: the walk from here on, by the definition, equals the whole, and the
+-- ring holds its queue. The inner loop's: the step that is forced from here on is the one that was forced when the loop
+-- began.
 use mathlib.Core.Path.{_≡_, refl, sym, ap, _∙_}
 use mathlib.Core.Logic.{⊎-elim}
 use mathlib.Core.Bool.{true, false, _&&_}

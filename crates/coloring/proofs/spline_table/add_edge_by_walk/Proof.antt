@@ -1,4 +1,5 @@
--- `add_edge_by_walk` meets its contract: the walk on the first n places of a copy, and then the copy taken over or the pair taken out.
+-- `add_edge_by_walk` meets its contract: the walk on the first n places of a copy, and then the copy taken over or the
+-- pair taken out.
 use mathlib.Core.Path.{_≡_, sym, ap, _∙_}
 use mathlib.Core.List.{List, _++_}
 use Prim.Native.Nat.{ℕ}

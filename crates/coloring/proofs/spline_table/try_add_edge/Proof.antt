@@ -1,4 +1,5 @@
--- `try_add_edge` meets its contract: the refusals in their order, each with the buffers as they came, and then the rule.
+-- `try_add_edge` meets its contract: the refusals in their order, each with the buffers as they came, and then the
+-- rule.
 use mathlib.Core.Path.{sym, _∙_}
 use mathlib.Core.Logic.{⊎-elim}
 use native.Mathlib.Omega.{arith}
