@@ -33,7 +33,8 @@ place-cases start k m s h =
 -- different steps lead to different places
 place-other : (start k i m : ℕ) → start ≤ m → k < i → i < m → (start + k) % m ≡ (start + i) % m → ⊥
 place-other start k i m s h l e =
-    ⊎-elim (λ a. ⊎-elim (λ b. omega arith) (λ b. omega arith) (place-cases start i m s l)) (λ a. ⊎-elim (λ b. omega arith) (λ b. omega arith) (place-cases start i m s l))
+    ⊎-elim (λ a. ⊎-elim (λ b. omega arith) (λ b. omega arith) (place-cases start i m s l))
+        (λ a. ⊎-elim (λ b. omega arith) (λ b. omega arith) (place-cases start i m s l))
     (place-cases start k m s (omega arith))
 
 -- each place is reached
@@ -53,7 +54,8 @@ place-back start k m s h =
 -- ---- rotated lists
 
 module _ {A : Type 0} where
-  pub getD-rotate : (start : ℕ) (xs : List A) (k : ℕ) (d : A) → start ≤ length xs → k < length xs → getD (rotate start xs) k d ≡ getD xs ((start + k) % length xs) d
+  pub getD-rotate : (start : ℕ) (xs : List A) (k : ℕ) (d : A) → start ≤ length xs
+      → k < length xs → getD (rotate start xs) k d ≡ getD xs ((start + k) % length xs) d
   unfolding rotate
   getD-rotate start xs k d s h = ⊎-elim near around (place-cases start k (length xs) s h)
     where
@@ -70,7 +72,8 @@ module _ {A : Type 0} where
           ∙ getD-take start xs (start + k - length xs) d (omega arith)
           ∙ ap (λ (p : ℕ). getD xs p d) (sym (a .1))
 
-  getD-byPlace : (start : ℕ) (xs : List A) (k : ℕ) (d : A) → start ≤ length xs → k < length xs → getD (byPlace start xs) ((start + k) % length xs) d ≡ getD xs k d
+  getD-byPlace : (start : ℕ) (xs : List A) (k : ℕ) (d : A) → start ≤ length xs
+      → k < length xs → getD (byPlace start xs) ((start + k) % length xs) d ≡ getD xs k d
   unfolding byPlace
   getD-byPlace start xs k d s h =
       getD-rotate (length xs - start) xs ((start + k) % length xs) d (omega arith) (mod-lt (start + k) (omega arith))
@@ -86,7 +89,8 @@ module _ {A : Type 0} (start m : ℕ) (xs : List A) (d : A) where
   pub walked-none : {written : List A} → length written ≡ m → Walked written 0
   walked-none e = record { size = e; passed = λ k h. absurd (omega arith) }
 
-  pub walked-more : {written : List A} {i : ℕ} → start ≤ m → i < m → Walked written i → (a : A) → a ≡ getD xs i d → Walked (set written ((start + i) % m) a) (i + 1)
+  pub walked-more : {written : List A} {i : ℕ} → start ≤ m → i < m → Walked written i
+      → (a : A) → a ≡ getD xs i d → Walked (set written ((start + i) % m) a) (i + 1)
   walked-more {written} {i} s h w a e = record { size = length-set written place a ∙ w .size; passed = again }
     where
       place : ℕ

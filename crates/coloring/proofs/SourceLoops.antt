@@ -4,7 +4,7 @@
 use Prim.Native.Nat.{ℕ, zero, suc, _+_, _-_, _*_, _/_, _%_, _≤_, _<_}
 use mathlib.Core.Bool.{Bool, true, false, cond, _&&_}
 use mathlib.Core.Path.{_≡_, refl, sym, ap, _∙_}
-use mathlib.Core.List.{List, [], _∷_, _++_, map, map-append, append-assoc, append-nil}
+use mathlib.Core.List.{List, [], _∷_, _++_, map, map-append, append-assoc}
 use native.Mathlib.Nat.{mod-eq-of-lt, mod-eq-sub-mod, zero-add, add-zero}
 use native.Mathlib.Omega.{arith}
 use lib.Dec.{ltb, eqb}
@@ -14,7 +14,7 @@ use lib.Seq.{drop-cons, set-at, length-take-le}
 use borrow.Author.Tests.{lt-ltb, le-ltb, ltb-true, ltb-false, eq-eqb, ne-eqb}
 use Rattle.coloring.specs.Lists.{range}
 use Rattle.coloring.specs.Trichotomy.{symmetricalTrichotomy}
-use Rattle.coloring.specs.Corners.{cornersFrom, cornersOf, cornerCount, firstCorner}
+use Rattle.coloring.specs.Corners.{cornersFrom, cornersOf, cornerCount}
 use Rattle.coloring.specs.Teardrop.{thirdOf, runs}
 use Rattle.coloring.specs.Splines.{spread, paint}
 use Rattle.coloring.specs.Values.{noSpline}

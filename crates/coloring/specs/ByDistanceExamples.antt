@@ -19,15 +19,16 @@ use Rattle.coloring.specs.declared.settings.Marking.the-variants.{Distan
 use Rattle.coloring.specs.Splines.{paintContours}
 use Rattle.coloring.specs.Values.{splineColor, noSpline, middleValue}
 use Rattle.coloring.specs.EdgeColoring.{edgeColoring, collectSplines, edgeColoringByDistance}
-use Rattle.coloring.specs.Examples.{square, fourEdges, eighth}
+use Rattle.coloring.specs.Examples.{squareOutline, fourEdges, eighth}
 
 -- ---- P7: the square by distance, seed 0; its splines' colours and offers are in SplineColorsExamples
 
 -- the edges' splines, and their colours
 pub square-edges :
-    (collectSplines square eighth fourEdges .buffers .colors ≡ (0 ∷ 1 ∷ 2 ∷ 3 ∷ []))
-    × (edgeColoringByDistance square eighth 0 squareDistances fourEdges .buffers .colors ≡ (3 ∷ 6 ∷ 5 ∷ 6 ∷ []))
-unfolding square edgeColoring validDistance cornerCount firstCorner offerSplines offer direction sub dot cross divScalar squaredLength lengthOf normalize sqrtOf toStored fromStored Ieee.add Ieee.sub Ieee.mul Ieee.div Ieee.neg Ieee.ne Ieee.le Ieee.lt Ieee.eq Ieee.ofBits
+    (collectSplines squareOutline eighth fourEdges .buffers .colors ≡ (0 ∷ 1 ∷ 2 ∷ 3 ∷ []))
+    × (edgeColoringByDistance squareOutline eighth 0 squareDistances fourEdges .buffers .colors ≡ (3 ∷ 6 ∷ 5 ∷ 6 ∷ []))
+unfolding squareOutline edgeColoring validDistance cornerCount firstCorner offerSplines offer direction sub dot cross divScalar squaredLength lengthOf normalize sqrtOf toStored fromStored
+    Ieee.add Ieee.sub Ieee.mul Ieee.div Ieee.neg Ieee.ne Ieee.le Ieee.lt Ieee.eq Ieee.ofBits
 square-edges = (refl, refl)
 
 -- ---- numbers and colours
@@ -42,6 +43,7 @@ unfolding paintContours cornerCount firstCorner range
 numbers-go-on = refl
 
 -- refutes one that colours the White edge
-pub white-stays : paintContours {A = ℕ} (middleValue (Distances 0)) (map (λ color. bitsOf (splineColor color)) (2 ∷ 1 ∷ 0 ∷ [])) twoContours ≡ ((5 ∷ 7 ∷ 6 ∷ []) ∷ (3 ∷ 3 ∷ []) ∷ [])
+pub white-stays : paintContours {A = ℕ} (middleValue (Distances 0)) (map (λ color. bitsOf (splineColor color)) (2 ∷ 1 ∷ 0 ∷ [])) twoContours
+    ≡ ((5 ∷ 7 ∷ 6 ∷ []) ∷ (3 ∷ 3 ∷ []) ∷ [])
 unfolding paintContours cornerCount firstCorner
 white-stays = refl

@@ -61,22 +61,22 @@ banned-without-draw = refl
 
 -- ---- P6: the square (0,0) (1,0) (1,1) (0,1) of lines, seed 0, threshold 0.125
 
-abbrev line : Float → Float → Float → Float → List Float
-line x0 y0 x1 y1 = x0 ∷ y0 ∷ x1 ∷ y1 ∷ f0 ∷ f0 ∷ f0 ∷ f0 ∷ []
+abbrev lineStored : Float → Float → Float → Float → List Float
+lineStored x0 y0 x1 y1 = x0 ∷ y0 ∷ x1 ∷ y1 ∷ f0 ∷ f0 ∷ f0 ∷ f0 ∷ []
 
 -- so many squares, a contour each
 unfoldable pub squares : ℕ → Outline
 squares n =
     outline (replicate n 4) (replicate (4 * n) 1)
-    (flatten (replicate n (line f0 f0 f1 f0 ++ line f1 f0 f1 f1 ++ line f1 f1 f0 f1 ++ line f0 f1 f0 f0)))
+    (flatten (replicate n (lineStored f0 f0 f1 f0 ++ lineStored f1 f0 f1 f1 ++ lineStored f1 f1 f0 f1 ++ lineStored f0 f1 f0 f0)))
 
 -- buffers for their result, and so many colours
 abbrev room : ℕ → List ℕ → Result
 room n colors = result (replicate n 9) (replicate (4 * n) 9) (replicate (32 * n) f1) colors
 
-unfoldable pub square : Outline
+unfoldable pub squareOutline : Outline
 unfolding squares
-square = squares 1
+squareOutline = squares 1
 
 abbrev pub fourEdges : Result
 fourEdges = room 1 (9 ∷ 9 ∷ 9 ∷ 9 ∷ [])
@@ -84,33 +84,38 @@ fourEdges = room 1 (9 ∷ 9 ∷ 9 ∷ 9 ∷ [])
 abbrev pub eighth : Float
 eighth = fin false 1 (negsuc 2)
 
-pub simple-square : edgeColoringSimple square eighth 0 fourEdges .buffers .colors ≡ (5 ∷ 3 ∷ 6 ∷ 3 ∷ [])
-unfolding square edgeColoring cornerCount firstCorner direction sub dot cross divScalar squaredLength lengthOf normalize sqrtOf toStored fromStored Ieee.add Ieee.sub Ieee.mul Ieee.div Ieee.neg Ieee.ne Ieee.le Ieee.lt Ieee.ofBits
+pub simple-square : edgeColoringSimple squareOutline eighth 0 fourEdges .buffers .colors ≡ (5 ∷ 3 ∷ 6 ∷ 3 ∷ [])
+unfolding squareOutline edgeColoring cornerCount firstCorner direction sub dot cross divScalar squaredLength lengthOf normalize sqrtOf toStored fromStored
+    Ieee.add Ieee.sub Ieee.mul Ieee.div Ieee.neg Ieee.ne Ieee.le Ieee.lt Ieee.ofBits
 simple-square = refl
 
-pub ink-trap-square : edgeColoringInkTrap square eighth 0 fourEdges .buffers .colors ≡ (5 ∷ 3 ∷ 6 ∷ 3 ∷ [])
-unfolding square edgeColoring cornerCount firstCorner direction point vmix add sub mulScalar dot cross divScalar squaredLength lengthOf normalize sqrtOf toStored fromStored Ieee.add Ieee.sub Ieee.mul Ieee.div Ieee.neg Ieee.ne Ieee.le Ieee.lt Ieee.ofBits
+pub ink-trap-square : edgeColoringInkTrap squareOutline eighth 0 fourEdges .buffers .colors ≡ (5 ∷ 3 ∷ 6 ∷ 3 ∷ [])
+unfolding squareOutline edgeColoring cornerCount firstCorner direction point vmix add sub mulScalar dot cross divScalar squaredLength lengthOf normalize sqrtOf toStored fromStored
+    Ieee.add Ieee.sub Ieee.mul Ieee.div Ieee.neg Ieee.ne Ieee.le Ieee.lt Ieee.ofBits
 ink-trap-square = refl
 
 -- refutes one that colours the first contour only, or begins each with a new pen
 pub two-squares : edgeColoringSimple (squares 2) eighth 0 (room 2 (replicate 8 9)) .buffers .colors ≡ (5 ∷ 3 ∷ 6 ∷ 3 ∷ 6 ∷ 5 ∷ 3 ∷ 5 ∷ [])
-unfolding squares edgeColoring cornerCount firstCorner direction sub dot cross divScalar squaredLength lengthOf normalize sqrtOf toStored fromStored Ieee.add Ieee.sub Ieee.mul Ieee.div Ieee.neg Ieee.ne Ieee.le Ieee.lt Ieee.ofBits
+unfolding squares edgeColoring cornerCount firstCorner direction sub dot cross divScalar squaredLength lengthOf normalize sqrtOf toStored fromStored
+    Ieee.add Ieee.sub Ieee.mul Ieee.div Ieee.neg Ieee.ne Ieee.le Ieee.lt Ieee.ofBits
 two-squares = refl
 
 -- the square into buffers with room for so many colours
 abbrev into : List ℕ → Outcome
-into colors = edgeColoringSimple square eighth 0 (room 1 colors)
+into colors = edgeColoringSimple squareOutline eighth 0 (room 1 colors)
 
 -- refutes one that refuses a result that fits exactly, or writes beyond it
 pub exactly-fits :
     (into (9 ∷ 9 ∷ 9 ∷ 9 ∷ 8 ∷ []) .answer ≡ gives (record { contours = 1; edges = 4; splines = 4 }))
     × (into (9 ∷ 9 ∷ 9 ∷ 9 ∷ 8 ∷ []) .buffers .colors ≡ (5 ∷ 3 ∷ 6 ∷ 3 ∷ 8 ∷ []))
-unfolding square edgeColoring cornerCount firstCorner direction sub dot cross divScalar squaredLength lengthOf normalize sqrtOf toStored fromStored Ieee.add Ieee.sub Ieee.mul Ieee.div Ieee.neg Ieee.ne Ieee.le Ieee.lt Ieee.ofBits
+unfolding squareOutline edgeColoring cornerCount firstCorner direction sub dot cross divScalar squaredLength lengthOf normalize sqrtOf toStored fromStored
+    Ieee.add Ieee.sub Ieee.mul Ieee.div Ieee.neg Ieee.ne Ieee.le Ieee.lt Ieee.ofBits
 exactly-fits = (refl, refl)
 
 -- refutes one that writes before it refuses
 pub one-short : into (9 ∷ 9 ∷ 9 ∷ []) ≡ outcome (refusal 11) (room 1 (9 ∷ 9 ∷ 9 ∷ []))
-unfolding square edgeColoring cornerCount firstCorner direction sub dot cross divScalar squaredLength lengthOf normalize sqrtOf toStored fromStored Ieee.add Ieee.sub Ieee.mul Ieee.div Ieee.neg Ieee.ne Ieee.le Ieee.lt Ieee.ofBits
+unfolding squareOutline edgeColoring cornerCount firstCorner direction sub dot cross divScalar squaredLength lengthOf normalize sqrtOf toStored fromStored
+    Ieee.add Ieee.sub Ieee.mul Ieee.div Ieee.neg Ieee.ne Ieee.le Ieee.lt Ieee.ofBits
 one-short = refl
 
 -- ---- teardrops

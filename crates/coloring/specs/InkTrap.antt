@@ -56,7 +56,12 @@ measureCorners contour = measureFrom 0 f0 (contour .edges) (contour .corners)
 -- the first corner's estimate goes on over the end of the contour
 abbrev pub closed : Float → InkTrapCorner → InkTrapCorner
 closed splineLength k =
-    record { index = k .index; «prev_edge_length_estimate» = Ieee.add binary64 (k .«prev_edge_length_estimate») splineLength; minor = k .minor; color = k .color }
+    record {
+        index = k .index;
+        «prev_edge_length_estimate» = Ieee.add binary64 (k .«prev_edge_length_estimate») splineLength;
+        minor = k .minor;
+        color = k .color
+    }
 
 unfoldable pub closeFirst : Float → List InkTrapCorner → List InkTrapCorner
 closeFirst splineLength [] = []

@@ -21,7 +21,7 @@ abbrev pub distancesValid : List Float → Bool
 distancesValid distances = all validDistance distances
 
 -- what is coloured: at most 64 splines, and a distance for each pair of them
-pub record Distances (n : ℕ) (distances : List Float) : Type 0 where
+pub record ValidDistances (n : ℕ) (distances : List Float) : Type 0 where
   pub few : n ≤ 64
   pub count : length distances ≡ n * (n - 1) / 2
   pub valid : distancesValid distances ≡ true

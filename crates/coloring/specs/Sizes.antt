@@ -111,7 +111,8 @@ module _ (contour : Cornered) where
   pub split-length : length (splitContour contour .edges) ≡ 3 * length (contour .edges)
   unfolding splitContour
   split-length =
-      thirds-length (rotate (firstCorner (contour .corners)) (contour .edges)) ∙ ap (λ n. 3 * n) (length-rotate (firstCorner (contour .corners)) (contour .edges))
+      thirds-length (rotate (firstCorner (contour .corners)) (contour .edges))
+          ∙ ap (λ n. 3 * n) (length-rotate (firstCorner (contour .corners)) (contour .edges))
 
   module _ (l : length (contour .corners) ≡ length (contour .edges)) where
     by-split : (b : Bool) → splits (contour .corners) ≡ b → length (layout contour .edges) ≡ resultEdges (contour .corners)
@@ -123,7 +124,8 @@ module _ (contour : Cornered) where
 
     flags-by-split : (b : Bool) → splits (contour .corners) ≡ b → length (layout contour .corners) ≡ length (layout contour .edges)
     unfolding splitContour firstOnly
-    flags-by-split true e = rw (layout-split e) (length-map (range 0 (length (splitContour contour .edges))) (λ i. eqb i 0) ∙ length-range 0 (length (splitContour contour .edges)))
+    flags-by-split true e =
+        rw (layout-split e) (length-map (range 0 (length (splitContour contour .edges))) (λ i. eqb i 0) ∙ length-range 0 (length (splitContour contour .edges)))
     flags-by-split false e = rw (layout-same e) l
 
     pub layout-flagged : length (layout contour .corners) ≡ length (layout contour .edges)
@@ -205,7 +207,8 @@ few-most : (contours edges out : ℕ) → Few contours edges out → out ≤ edg
 few-most contours edges out (all-split h k) = omega arith
 few-most contours edges out (one-not h) = omega arith
 
-few-more : (flags : List Bool) (contours edges out : ℕ) (b : Bool) → splits flags ≡ b → Few contours edges out → Few (suc contours) (length flags + edges) (resultEdges flags + out)
+few-more : (flags : List Bool) (contours edges out : ℕ) (b : Bool) → splits flags ≡ b
+    → Few contours edges out → Few (suc contours) (length flags + edges) (resultEdges flags + out)
 few-more flags contours edges out true h (all-split k l) = all-split (omega (arith, split-few flags h)) (omega (arith, edges-split flags h))
 few-more flags contours edges out true h (one-not k) = one-not (omega (arith, split-few flags h, edges-split flags h))
 few-more flags contours edges out false h few = one-not (omega (arith, edges-same flags h, few-most contours edges out few))
@@ -219,7 +222,8 @@ by-few : (contours edges out : ℕ) → Few contours edges out → contours ≤ 
 by-few contours edges out (all-split h k) c e = omega arith
 by-few contours edges out (one-not h) c e = omega arith
 
-pub edges-most : (contours : List (List Bool)) → length contours ≤ maxContours → total (sizes contours) ≤ maxEdges → total (map resultEdges contours) ≤ maxResultEdges
+pub edges-most : (contours : List (List Bool)) → length contours ≤ maxContours
+    → total (sizes contours) ≤ maxEdges → total (map resultEdges contours) ≤ maxResultEdges
 edges-most contours c e = by-few (length contours) (total (sizes contours)) (total (map resultEdges contours)) (few contours) c e
 
 -- ---- a whole result
@@ -241,7 +245,8 @@ pub record Sized (result : Result) (contours edges : ℕ) : Type 0 where
   pub points-long : length (result .points) ≡ 8 * edges
   pub colors-long : length (result .colors) ≡ edges
 
-pub encoded-sized : (edges : List (List EdgeSegment)) (bytes : List (List ℕ)) → sizes bytes ≡ sizes edges → Sized (encode edges bytes) (length edges) (length (flatten edges))
+pub encoded-sized : (edges : List (List EdgeSegment)) (bytes : List (List ℕ))
+    → sizes bytes ≡ sizes edges → Sized (encode edges bytes) (length edges) (length (flatten edges))
 unfolding encode
 encoded-sized edges bytes e =
     record {

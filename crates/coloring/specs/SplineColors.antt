@@ -11,9 +11,9 @@ use lib.ListN.{length, replicate}
 use Rattle.math.specs.Scalar.{f0}
 use Rattle.coloring.specs.Limits.{maxSplines, maxDistances}
 use Rattle.coloring.specs.Answers.{Answer, refusal, Check, allPass, unless, inOrder}
-use Rattle.coloring.specs.SplineTable.{Table, tableOf, enter, sound}
+use Rattle.coloring.specs.SplineTable.{Table, tableOf, enterPair, sound}
 use Rattle.coloring.specs.Sequence.{Pair, Run, run}
-use Rattle.coloring.specs.PairOrder.{distancesValid, Distances, SplinePair, pairOrder}
+use Rattle.coloring.specs.PairOrder.{distancesValid, ValidDistances, SplinePair, pairOrder}
 use Rattle.coloring.specs.PairNumbers.{Each, Below, Two, pairAt, InOrder}
 use Rattle.coloring.specs.SecondDegree.{colorSecondDegreeGraph}
 
@@ -38,7 +38,7 @@ otherPairs (p ∷ order) = elim (isZero p) [ true ↦ otherPairs order | false �
 -- each pair entered, without an offer
 unfoldable pub enterPairs : ℕ → List Pair → List ℕ → List ℕ
 enterPairs n [] edgeMatrix = edgeMatrix
-enterPairs n (p ∷ pairs) edgeMatrix = enterPairs n pairs (enter n edgeMatrix (p .a) (p .b) 1)
+enterPairs n (p ∷ pairs) edgeMatrix = enterPairs n pairs (enterPair n edgeMatrix (p .a) (p .b) 1)
 
 -- ---- the colours
 
@@ -103,7 +103,7 @@ pub record OfferableAll (coloring edgeMatrix codes order : List ℕ) : Type 0 wh
 
 -- where the splines are coloured: the order of the pairs, and no pair entered
 pub record Ordered (n : ℕ) (edgeMatrix codes order : List ℕ) (distances : List Float) : Type 0 where
-  pub given : Distances n distances
+  pub given : ValidDistances n distances
   pub inOrder : InOrder n codes order distances
   pub sameCount : length codes ≡ length distances
   pub none : edgeMatrix ≡ replicate (n * n) 0

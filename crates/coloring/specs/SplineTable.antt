@@ -46,15 +46,15 @@ abbrev pub entry : ℕ → List ℕ → ℕ → ℕ → ℕ
 entry n edgeMatrix i j = getD edgeMatrix (i * n + j) 0
 
 -- the entries of a pair, both set to e
-abbrev pub enter : ℕ → List ℕ → ℕ → ℕ → ℕ → List ℕ
-enter n edgeMatrix a b e = set (set edgeMatrix (a * n + b) e) (b * n + a) e
+abbrev pub enterPair : ℕ → List ℕ → ℕ → ℕ → ℕ → List ℕ
+enterPair n edgeMatrix a b e = set (set edgeMatrix (a * n + b) e) (b * n + a) e
 
 -- ---- the rule
 
 -- what a walk leaves: its colours, with the pair entered; or the colours as they were, without it
 abbrev pub settled : Walk → List ℕ → List ℕ → ℕ → ℕ → Offered
 settled (recolored after step) coloring edgeMatrix a b = outcome (kept step) after edgeMatrix
-settled (stopped step) coloring edgeMatrix a b = outcome (declined step) coloring (enter (length coloring) edgeMatrix a b 0)
+settled (stopped step) coloring edgeMatrix a b = outcome (declined step) coloring (enterPair (length coloring) edgeMatrix a b 0)
 
 -- the same of the walk for a and b
 unfoldable pub walkedOn : List ℕ → List ℕ → ℕ → ℕ → Offered
@@ -67,7 +67,7 @@ unfolding row vertexPossibleColors firstPossibleColor walkedOn
 tryAddEdge t a b =
     let n = length (t .coloring) in
     let coloring = t .coloring in
-    let edgeMatrix = enter n (t .edgeMatrix) a b 1 in
+    let edgeMatrix = enterPair n (t .edgeMatrix) a b 1 in
     let possible = vertexPossibleColors coloring (row n edgeMatrix b) in
     elim (eqb (getD coloring a 0) (getD coloring b 0)) [
       | false ↦ outcome (kept 0) coloring edgeMatrix

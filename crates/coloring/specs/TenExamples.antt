@@ -16,7 +16,8 @@ use Rattle.coloring.specs.SplineTable.{kept, declined}
 use Rattle.coloring.specs.SplineColors.{offerSplines, colorSplines}
 use Rattle.coloring.specs.SplineColorsExamples.{squareDistances, square-colors, square-answers}
 use Rattle.coloring.specs.EdgeColoring.{edgeColoringSimple, edgeColoringInkTrap, collectSplines, edgeColoringByDistance}
-use Rattle.coloring.specs.Examples.{trichotomies, trichotomy-of-3, trichotomy-of-5, trichotomy-of-47, afterCyan, switches-of-cyan, square, fourEdges, eighth, simple-square, ink-trap-square}
+use Rattle.coloring.specs.Examples.{trichotomies, trichotomy-of-3, trichotomy-of-5, trichotomy-of-47, afterCyan, switches-of-cyan}
+use Rattle.coloring.specs.Examples.{squareOutline, fourEdges, eighth, simple-square, ink-trap-square}
 use Rattle.coloring.specs.ByDistanceExamples.{square-edges}
 
 pub record TenExamples : Type 0 where
@@ -30,16 +31,16 @@ pub record TenExamples : Type 0 where
   pub p5 : (afterCyan 0 ≡ Magenta) × (afterCyan 1 ≡ Yellow)
   -- the square, seed 0, threshold 0.125, simple and ink trap: 5, 3, 6, 3
   pub p6 :
-      (edgeColoringSimple square eighth 0 fourEdges .buffers .colors ≡ (5 ∷ 3 ∷ 6 ∷ 3 ∷ []))
-      × (edgeColoringInkTrap square eighth 0 fourEdges .buffers .colors ≡ (5 ∷ 3 ∷ 6 ∷ 3 ∷ []))
+      (edgeColoringSimple squareOutline eighth 0 fourEdges .buffers .colors ≡ (5 ∷ 3 ∷ 6 ∷ 3 ∷ []))
+      × (edgeColoringInkTrap squareOutline eighth 0 fourEdges .buffers .colors ≡ (5 ∷ 3 ∷ 6 ∷ 3 ∷ []))
   -- its four splines, distance 0 beside and 1 across, seed 0: spline colours 0, 1, 2, 1; pair (0, 2) kept, (1, 3)
   -- declined with counter 16; edges 3, 6, 5, 6
   pub p7 :
-      (collectSplines square eighth fourEdges .buffers .colors ≡ (0 ∷ 1 ∷ 2 ∷ 3 ∷ []))
+      (collectSplines squareOutline eighth fourEdges .buffers .colors ≡ (0 ∷ 1 ∷ 2 ∷ 3 ∷ []))
       × (colorSplines 4 squareDistances 0 ≡ (0 ∷ 1 ∷ 2 ∷ 1 ∷ []))
       × (offerSplines 4 squareDistances 0 .pairs ≡ (record { a = 0; b = 2 } ∷ record { a = 1; b = 3 } ∷ []))
       × (offerSplines 4 squareDistances 0 .ends .answers ≡ (kept 0 ∷ declined 16 ∷ []))
-      × (edgeColoringByDistance square eighth 0 squareDistances fourEdges .buffers .colors ≡ (3 ∷ 6 ∷ 5 ∷ 6 ∷ []))
+      × (edgeColoringByDistance squareOutline eighth 0 squareDistances fourEdges .buffers .colors ≡ (3 ∷ 6 ∷ 5 ∷ 6 ∷ []))
   -- the line (0, 0) to (3, 0) splits at x = 1 and 2 exactly; a line from (−0, 0) to (3, 0) splits with first x +0
   pub p8 : splitInThirds (Line (new n0 n0) (new n3 n0)) ≡ unitLines
   pub p9 : splitInThirds (Line (new negative0 n0) (new n3 n0)) ≡ unitLines

@@ -2,7 +2,6 @@
 -- colours that their distances give.
 use Prim.Native.Nat.{ℕ, _-_}
 use mathlib.Core.Bool.{true, false}
-use mathlib.Core.Path.{_≡_}
 use mathlib.Core.List.{List, [], _∷_, _++_, map}
 use lib.ListN.{getD}
 use lib.Dec.{leb, ltb}

@@ -19,7 +19,7 @@ pub fn collect_splines(
     out_points: &mut [f64],
     out_splines: &mut [u8],
 ) -> Colored
-    ensures { λ r. ⌜ outcome (coloredAnswer r) (atExit «out_lengths» «out_kinds» «out_points» «out_splines») 
+    ensures { λ r. ⌜ outcome (coloredAnswer r) (atExit «out_lengths» «out_kinds» «out_points» «out_splines»)
         ≡ collectSplines (given lengths kinds points) threshold (atEntry «out_lengths» «out_kinds» «out_points» «out_splines») ⌝ }
 {
     let settings = Settings {
@@ -52,7 +52,7 @@ pub fn edge_coloring_by_distance(
     out_points: &mut [f64],
     out_colors: &mut [u8],
 ) -> Colored
-    ensures { λ r. ⌜ outcome (coloredAnswer r) (atExit «out_lengths» «out_kinds» «out_points» «out_colors») 
+    ensures { λ r. ⌜ outcome (coloredAnswer r) (atExit «out_lengths» «out_kinds» «out_points» «out_colors»)
         ≡ edgeColoringByDistance (given lengths kinds points) threshold seed (now (distances .entry))
         (atEntry «out_lengths» «out_kinds» «out_points» «out_colors») ⌝ }
 {

@@ -27,7 +27,7 @@ pub(crate) fn edge_coloring(
     out_points: &mut [f64],
     out_colors: &mut [u8],
 ) -> Colored
-    ensures { λ r. ⌜ outcome (coloredAnswer r) (atExit «out_lengths» «out_kinds» «out_points» «out_colors») 
+    ensures { λ r. ⌜ outcome (coloredAnswer r) (atExit «out_lengths» «out_kinds» «out_points» «out_colors»)
         ≡ edgeColoring settings (given lengths kinds points) (now (distances .entry)) (atEntry «out_lengths» «out_kinds» «out_points» «out_colors») ⌝ }
 {
     if distances.len() > MAX_DISTANCES {
@@ -66,7 +66,7 @@ pub fn edge_coloring_simple(
     out_points: &mut [f64],
     out_colors: &mut [u8],
 ) -> Colored
-    ensures { λ r. ⌜ outcome (coloredAnswer r) (atExit «out_lengths» «out_kinds» «out_points» «out_colors») 
+    ensures { λ r. ⌜ outcome (coloredAnswer r) (atExit «out_lengths» «out_kinds» «out_points» «out_colors»)
         ≡ edgeColoringSimple (given lengths kinds points) threshold seed (atEntry «out_lengths» «out_kinds» «out_points» «out_colors») ⌝ }
 {
     let settings = Settings {
@@ -98,7 +98,7 @@ pub fn edge_coloring_ink_trap(
     out_points: &mut [f64],
     out_colors: &mut [u8],
 ) -> Colored
-    ensures { λ r. ⌜ outcome (coloredAnswer r) (atExit «out_lengths» «out_kinds» «out_points» «out_colors») 
+    ensures { λ r. ⌜ outcome (coloredAnswer r) (atExit «out_lengths» «out_kinds» «out_points» «out_colors»)
         ≡ edgeColoringInkTrap (given lengths kinds points) threshold seed (atEntry «out_lengths» «out_kinds» «out_points» «out_colors») ⌝ }
 {
     let settings = Settings {

@@ -15,7 +15,8 @@ ghost use Rattle.coloring.specs.Limits.{maxEdges};
 ghost use Rattle.coloring.specs.Places.{rotate};
 ghost use Rattle.coloring.specs.Corners.{cornered};
 ghost use Rattle.coloring.specs.Layout.{thirds, splits, firstOnly, layout, resultEdges};
-ghost use Rattle.coloring.specs.Outline.{edgesOf, kindStored, placesStored, Matching, Cut, whole, Part, part, Stored, Laid, LaidFrom, ResultRoom, LaidOut};
+ghost use Rattle.coloring.specs.Outline.{edgesOf, kindStored, placesStored, Matching, Cut, whole, Part};
+ghost use Rattle.coloring.specs.Outline.{part, Stored, Laid, LaidFrom, ResultRoom, LaidOut};
 
 // ---- one contour
 
@@ -182,7 +183,7 @@ pub(crate) fn lay_out(
 {
     let mut at: usize = 0;
     let mut to: usize = 0;
-    let mut i = 0; // contours laid out
+    let mut i: usize = 0;
     while i < lengths.len() {
         let end = at + lengths[i] as usize;
         let edges = part_edges(flags, at, end);

@@ -8,7 +8,7 @@ ghost use mathlib.Core.List.{map};
 ghost use Prim.Native.Nat.{_<_, _≤_};
 ghost use lib.ListN.{length, getD, take, drop};
 ghost use Rattle.coloring.specs.Lists.{range};
-ghost use Rattle.coloring.specs.PairOrder.{validDistance, distancesValid, Distances, pairsFrom, sortBy};
+ghost use Rattle.coloring.specs.PairOrder.{validDistance, distancesValid, ValidDistances, pairsFrom, sortBy};
 ghost use Rattle.coloring.specs.PairNumbers.{distanceOf, takesSecond, mergeBy};
 ghost use Rattle.coloring.specs.PairNumbers.{Below, Numbers, Merging, Sorting, code, InOrder};
 
@@ -144,7 +144,7 @@ fn count_up(order: &mut [u16])
 
 // The codes of the pairs of n splines, by i then j, and the pairs' numbers in the order of their distances.
 pub(crate) fn order_pairs(codes: &mut [u16], order: &mut [u16], distances: &[f64], n: usize)
-    requires { ⌜ Distances n (now distances) × (length (now codes) ≡ length (now distances)) × (length (now order) ≡ length (now distances)) ⌝ }
+    requires { ⌜ ValidDistances n (now distances) × (length (now codes) ≡ length (now distances)) × (length (now order) ≡ length (now distances)) ⌝ }
     ensures { λ r. ⌜ InOrder n (now (codes .exit)) (now (order .exit)) (now (distances .entry)) ⌝ }
 {
     fill_pairs(codes, n);

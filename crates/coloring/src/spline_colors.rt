@@ -18,7 +18,7 @@ ghost use Prim.Native.Nat.{_*_, _-_, _/_, _<_, _≤_};
 ghost use lib.ListN.{length, getD, drop};
 ghost use Rattle.coloring.specs.SplineTable.{tableOf};
 ghost use Rattle.coloring.specs.Sequence.{run};
-ghost use Rattle.coloring.specs.PairOrder.{Distances, pairOrder};
+ghost use Rattle.coloring.specs.PairOrder.{ValidDistances, pairOrder};
 ghost use Rattle.coloring.specs.PairNumbers.{Below, pairAt};
 ghost use Rattle.coloring.specs.Answers.{checkedAnswer, firstRefusal};
 ghost use Rattle.coloring.specs.Limits.{maxSplines};
@@ -105,7 +105,7 @@ fn color_in_order(
 
 // The colours of splines whose distances passed the checks.
 fn color_valid(distances: &[f64], seed: u64, coloring: &mut [u8])
-    requires { ⌜ Distances (length (now coloring)) (now distances) ⌝ }
+    requires { ⌜ ValidDistances (length (now coloring)) (now distances) ⌝ }
     ensures { λ r. ⌜ now (coloring .exit) ≡ colorSplines (length (now (coloring .entry))) (now (distances .entry)) seed ⌝ }
 {
     let n = coloring.len();

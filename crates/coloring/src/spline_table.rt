@@ -12,7 +12,7 @@ ghost use Prim.Native.Nat.{_+_, _*_, _<_};
 ghost use lib.ListN.{length};
 ghost use Rattle.coloring.specs.Recolor.{Offerable};
 ghost use Rattle.coloring.specs.SplineTable as defined;
-ghost use Rattle.coloring.specs.SplineTable.{offerAnswer, tableOf, outcome, walkedOn, enter, tryAddEdge, atMost, mirrored, symmetric, sound, offer};
+ghost use Rattle.coloring.specs.SplineTable.{offerAnswer, tableOf, outcome, walkedOn, enterPair, tryAddEdge, atMost, mirrored, symmetric, sound, offer};
 
 // What became of an offer. The number is the counter of the walk, 0 where there was none.
 pub enum Offer {
@@ -24,7 +24,7 @@ pub enum Offer {
 // Sets both entries of a pair to e.
 pub(crate) fn enter_pair(edge_matrix: &mut [u8], n: usize, a: usize, b: usize, e: u8)
     requires { ⌜ (a * n + b < length (now «edge_matrix»)) × (b * n + a < length (now «edge_matrix»)) ⌝ }
-    ensures { λ r. ⌜ now («edge_matrix» .exit) ≡ enter n (now («edge_matrix» .entry)) a b e ⌝ }
+    ensures { λ r. ⌜ now («edge_matrix» .exit) ≡ enterPair n (now («edge_matrix» .entry)) a b e ⌝ }
 {
     edge_matrix[a * n + b] = e;
     edge_matrix[b * n + a] = e;

@@ -108,13 +108,13 @@ pub(crate) fn paint_contours(
 {
     let mut at: usize = 0;
     let mut from: usize = 0;
-    let mut i = 0; // contours painted
+    let mut i: usize = 0;
     while i < lengths.len() {
         let end = at + lengths[i] as usize;
         let to = from + part_splines(flags, at, end);
         paint_part(flags, at, end, middle, values, from, to, out);
         at = end;
         from = to;
-        i += 1; // on to the next contour
+        i += 1; // the next contour begins where this one ends
     }
 }

@@ -101,7 +101,7 @@ fn shape_colors(
     let mut pen = init_color(seed);
     let mut at: usize = 0;
     let mut to: usize = 0;
-    let mut i = 0; // contours coloured
+    let mut i: usize = 0;
     while i < lengths.len() {
         let end = at + lengths[i] as usize;
         let next = to + part_splines(flags, at, end);
@@ -119,7 +119,7 @@ fn shape_colors(
         );
         at = end;
         to = next;
-        i += 1; // on to the next contour
+        i += 1;
     }
 }
 

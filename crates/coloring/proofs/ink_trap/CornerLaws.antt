@@ -22,7 +22,8 @@ use Rattle.coloring.specs.declared.switching.Pen.{Pen}
 use Rattle.coloring.specs.declared.ink_trap.InkTrapCorner.{InkTrapCorner}
 use Rattle.coloring.specs.Switching.{shared, switchColorBanned, bannedBefore, SplineColors, ColorsHeld}
 use Rattle.coloring.specs.Corners.{Cornered}
-use Rattle.coloring.specs.InkTrap.{withMinor, withColor, noCorner, closed, closeFirst, around, isMinor, Measured, markMinors, majorCount, isBlack, Inked, colorMajors, colorMinors, measureCorners, colorCorners, inkTrapColors}
+use Rattle.coloring.specs.InkTrap.{withMinor, withColor, noCorner, closed, closeFirst, around, isMinor, Measured, markMinors}
+use Rattle.coloring.specs.InkTrap.{majorCount, isBlack, Inked, colorMajors, colorMinors, measureCorners, colorCorners, inkTrapColors}
 use Rattle.coloring.proofs.Lists.{range-snoc}
 
 -- ---- minor corners
@@ -282,7 +283,8 @@ module _ (initial : EdgeColor) (left : ℕ) (pen : Pen) where
     unfolding going
     going-minor e cs-is left-is pen-is initial-is =
         rw (cs-is, left-is, pen-is, initial-is)
-        (rw (ahead-cons i n cs h fits, majors-minor initial left pen (getD cs i noCorner) (drop (i + 1) (take n cs)) e, add-one i, take-suc cs i noCorner (omega arith), append-snoc))
+        (rw (ahead-cons i n cs h fits, majors-minor initial left pen (getD cs i noCorner) (drop (i + 1) (take n cs)) e,
+            add-one i, take-suc cs i noCorner (omega arith), append-snoc))
 
 pub going-begins : (n : ℕ) (initial : EdgeColor) (left : ℕ) (pen : Pen) (cs : List InkTrapCorner)
     → colorMajors initial left pen (take n cs) ≡ going 0 n initial left pen cs
@@ -317,14 +319,16 @@ abbrev pub colorOf : InkTrapCorner → EdgeColor
 colorOf corner = corner .color
 
 -- those up to place k are stored, and the next is, the colour `last` of its corner, which is stored too or as it was
-module _ (k : ℕ) (cs : List InkTrapCorner) (bytes : List ℕ) (h : k < length cs) (l : k < length bytes) (e : take k bytes ≡ map bitsOf (map colorOf (take k cs))) where
+module _ (k : ℕ) (cs : List InkTrapCorner) (bytes : List ℕ) (h : k < length cs)
+    (l : k < length bytes) (e : take k bytes ≡ map bitsOf (map colorOf (take k cs))) where
   pub bytes-set : (corner : InkTrapCorner) {byte : ℕ} {last : EdgeColor} {cs' : List InkTrapCorner} → byte ≡ bitsOf last
       → last ≡ colorOf corner → cs' ≡ set cs k corner → take (k + 1) (set bytes k byte) ≡ map bitsOf (map colorOf (take (k + 1) cs'))
   bytes-set corner b c s = rw (b, c, s, add-one k, take-suc-set bytes k (bitsOf (colorOf corner)) l, take-suc-set cs k corner h, map-append, map-append, e)
 
   pub bytes-same : {byte : ℕ} {last : EdgeColor} {cs' : List InkTrapCorner} → byte ≡ bitsOf last
       → last ≡ colorOf (getD cs k noCorner) → cs' ≡ cs → take (k + 1) (set bytes k byte) ≡ map bitsOf (map colorOf (take (k + 1) cs'))
-  bytes-same b c s = rw (b, c, s, add-one k, take-suc-set bytes k (bitsOf (colorOf (getD cs k noCorner))) l, take-suc cs k noCorner h, map-append, map-append, e)
+  bytes-same b c s =
+      rw (b, c, s, add-one k, take-suc-set bytes k (bitsOf (colorOf (getD cs k noCorner))) l, take-suc cs k noCorner h, map-append, map-append, e)
 
 module _ (k : ℕ) (cs : List InkTrapCorner) where
   before-next : k + 1 - 1 ≡ k
@@ -359,6 +363,7 @@ pub drawn : (contour : Cornered) (pen ink : Pen) (cs : List InkTrapCorner) (byte
 unfolding inkTrapColors
 drawn contour pen ink cs bytes last e b l =
     let whole : inkTrapColors contour pen ≡ splines (record { corners = cs; pen = ink }) = ap splines e in
-    let color : last ≡ getD (map colorOf cs) (length (map colorOf cs) - 1) Black = l ∙ rw (length-map cs colorOf, List·getD-map colorOf cs (length cs - 1) noCorner) in
+    let color : last ≡ getD (map colorOf cs) (length (map colorOf cs) - 1) Black =
+        l ∙ rw (length-map cs colorOf, List·getD-map colorOf cs (length cs - 1) noCorner) in
     subst (λ (all : SplineColors). ColorsHeld all bytes (record { color = last; seed = ink .seed })) (sym whole)
     (record { colors-are = b; pen-is = ap (λ (c : EdgeColor). record { color = c; seed = ink .seed }) color })

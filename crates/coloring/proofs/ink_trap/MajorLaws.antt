@@ -16,7 +16,8 @@ use Rattle.coloring.specs.declared.ink_trap.InkTrapCorner.{InkTrapCorner
 use Rattle.coloring.specs.Switching.{SplineColors, switchColor, switchColorBanned, bannedBefore, turnLeft, shared}
 use Rattle.coloring.specs.Simple.{simpleColors, simpleFrom}
 use Rattle.coloring.specs.Corners.{Cornered, cornerCount}
-use Rattle.coloring.specs.InkTrap.{around, noCorner, withColor, isBlack, majorCount, Inked, colorMajors, colorMinors, measureCorners, colorCorners, inkTrapColors}
+use Rattle.coloring.specs.InkTrap.{around, noCorner, isBlack, majorCount, Inked}
+use Rattle.coloring.specs.InkTrap.{colorMajors, colorMinors, measureCorners, colorCorners, inkTrapColors}
 use Rattle.coloring.proofs.ink_trap.MeasureLaws.{measured-count, measured-majors}
 use Rattle.coloring.proofs.ink_trap.CornerLaws.{colorOf, majors-most, mark-few, major-here, majors-major, colored, splines}
 
@@ -143,7 +144,8 @@ few (k ∷ cs) s pen e h l =
     let simple = all-simple k cs pen e in
     let inked = colorMajors Black (length (k ∷ cs)) pen (k ∷ cs) in
     ap splines (colored _ pen (k ∷ cs) (length (k ∷ cs)) inked (length (k ∷ cs)) (sym (mark-few s (k ∷ cs) l)) (sym e) refl refl)
-    ∙ rw (no-minors (inked .corners) (simple .majors) 0 (length (k ∷ cs)) (inked .pen .color), one-less (length cs)) (splines-simple inked (length cs) pen simple)
+    ∙ rw (no-minors (inked .corners) (simple .majors) 0 (length (k ∷ cs)) (inked .pen .color), one-less (length cs))
+        (splines-simple inked (length cs) pen simple)
 
 pub few-simple : (contour : Cornered) (pen : Pen) → length (contour .corners) ≡ length (contour .edges)
     → 0 < cornerCount (contour .corners) → cornerCount (contour .corners) ≤ 3

@@ -44,7 +44,8 @@ module _ (count index : ℕ) (s : Float) (array : List InkTrapCorner) (edges : L
     unfolding measuring measureFrom
     measuring-corner r t k array-is s-is count-is estimate-is =
         rw (array-is, s-is, count-is, estimate-is, k)
-        (rw (drop-cons edges index anyEdge h, drop-cons flags index false l, t, add-one count, add-one index, take-suc-set array count (cornerAt index s) r, append-snoc))
+        (rw (drop-cons edges index anyEdge h, drop-cons flags index false l, t,
+            add-one count, add-one index, take-suc-set array count (cornerAt index s) r, append-snoc))
 
     pub measuring-edge : {array' : List InkTrapCorner} {count' : ℕ} {s' estimate : Float} → getD flags index false ≡ false
         → array' ≡ array → s' ≡ s → count' ≡ count → estimate ≡ estimateEdgeLength (getD edges index anyEdge)
@@ -64,7 +65,8 @@ from-count index s (e ∷ edges) [] l = absurd (omega arith)
 from-count index s (e ∷ edges) (true ∷ flags) l = ap suc (from-count (suc index) (longer f0 e) edges flags (omega arith))
 from-count index s (e ∷ edges) (false ∷ flags) l = from-count (suc index) (longer s e) edges flags (omega arith)
 
-pub measured-count : (contour : Cornered) → length (contour .corners) ≡ length (contour .edges) → length (measureCorners contour .corners) ≡ cornerCount (contour .corners)
+pub measured-count : (contour : Cornered) → length (contour .corners) ≡ length (contour .edges)
+    → length (measureCorners contour .corners) ≡ cornerCount (contour .corners)
 unfolding measureCorners cornerCount cornersOf
 measured-count contour l = from-count 0 f0 (contour .edges) (contour .corners) l
 

@@ -85,11 +85,14 @@ module _ (lengths : List ℕ) (xs : List EdgeSegment) (flags : List Bool) (edges
         lengths-so-far = s .lengths-so-far ∙ rw (step, next .0, long) (over-next i k _ outLengths r);
         kinds-so-far =
             s .kinds-so-far
-            ∙ rw (step, next .1) (over-more to k (map kindStored (layout here .edges)) _ outKinds (length-map (layout here .edges) kindStored ∙ long) (omega (arith, s .counted)));
+            ∙ rw (step, next .1)
+                (over-more to k (map kindStored (layout here .edges)) _ outKinds
+                (length-map (layout here .edges) kindStored ∙ long) (omega (arith, s .counted)));
         points-so-far =
             s .points-so-far
             ∙ rw (step, next .2)
-            (over-more (8 * to) (8 * k) (flatten (map placesStored (layout here .edges))) _ outPoints (points-length (layout here .edges) ∙ ap (λ n. 8 * n) long) (omega (arith, s .counted)) ∙ rw eight);
+            (over-more (8 * to) (8 * k) (flatten (map placesStored (layout here .edges))) _ outPoints
+                (points-length (layout here .edges) ∙ ap (λ n. 8 * n) long) (omega (arith, s .counted)) ∙ rw eight);
         flags-so-far =
             s .flags-so-far
             ∙ rw (step, next .3) (over-more to k (layout here .corners) _ outFlags (layout-flagged here flagged ∙ long) (omega (arith, s .counted)));

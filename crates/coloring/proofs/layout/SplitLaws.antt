@@ -1,15 +1,14 @@
 -- What a split leaves as it is: the number of corners, the splines, and the value of each spline.
 use mathlib.Core.Path.{_≡_, refl, sym, ap, _∙_}
 use mathlib.Core.Bool.{Bool, true, false}
-use mathlib.Core.List.{List, [], _∷_, _++_, map}
-use Prim.Native.Nat.{ℕ, zero, suc, _*_, _<_}
+use mathlib.Core.List.{List, [], _∷_, map}
+use Prim.Native.Nat.{ℕ, zero, suc, _<_}
 use native.Mathlib.Omega.{arith}
 use lib.Dec.{eqb}
 use lib.Ieee.{Float}
 use lib.ListN.{length}
 use borrow.Author.Tests.{ne-eqb}
 use Rattle.geometry.specs.EdgeColor.{bitsOf}
-use Rattle.geometry.specs.declared.edge_color.EdgeColor.{EdgeColor}
 use Rattle.coloring.specs.Lists.{range}
 use Rattle.coloring.specs.SplineColors.{colorSplines}
 use Rattle.coloring.specs.declared.switching.Pen.{Pen}
@@ -17,7 +16,7 @@ use Rattle.coloring.specs.declared.settings.Strategy.{Strategy}
 use Rattle.coloring.specs.declared.settings.Marking.{Marking}
 use Rattle.coloring.specs.declared.settings.Marking.the-variants.{Colors, Numbers, Distances}
 use Rattle.coloring.specs.Places.{total}
-use Rattle.coloring.specs.Switching.{SplineColors, initColor, switchEach}
+use Rattle.coloring.specs.Switching.{initColor, switchEach}
 use Rattle.coloring.specs.Corners.{Cornered, cornersFrom, cornersOf, cornerCount, flagsIn}
 use Rattle.coloring.specs.Layout.{splits, firstOnly, splitContour, layout}
 use Rattle.coloring.specs.Splines.{splineCount, splineTotal}
@@ -68,7 +67,8 @@ module _ (contour : Cornered) (l : length (contour .corners) ≡ length (contour
   splines-by true e = rw (layout-split contour e) (splines-split e)
   splines-by false e = rw (layout-same contour e)
 
-  colors-by : (b : Bool) → splits (contour .corners) ≡ b → (strategy : Strategy) (pen : Pen) → splineColors strategy pen (layout contour) ≡ splineColors strategy pen contour
+  colors-by : (b : Bool) → splits (contour .corners) ≡ b → (strategy : Strategy) (pen : Pen)
+      → splineColors strategy pen (layout contour) ≡ splineColors strategy pen contour
   colors-by true e strategy pen = rw (layout-split contour e) (colors-split e strategy pen)
   colors-by false e strategy pen = rw (layout-same contour e)
 
@@ -83,7 +83,8 @@ pub total-laid : (found : List Cornered) → Flagged found → splineTotal (map 
 unfolding splineTotal
 total-laid found f = ap total (splines-laid found f)
 
-colors-laid : (strategy : Strategy) (pen : Pen) (found : List Cornered) → Flagged found → shapeColors strategy pen (map layout found) ≡ shapeColors strategy pen found
+colors-laid : (strategy : Strategy) (pen : Pen) (found : List Cornered) → Flagged found
+    → shapeColors strategy pen (map layout found) ≡ shapeColors strategy pen found
 unfolding shapeColors Flagged
 colors-laid strategy pen [] f = refl
 colors-laid strategy pen (contour ∷ found) f =

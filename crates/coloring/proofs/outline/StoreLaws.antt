@@ -40,7 +40,8 @@ storing-all edges kinds points k p =
     }
 
 -- some edges from place i on
-pub storing-part : (edges : List EdgeSegment) (i : ℕ) (kinds : List ℕ) (points : List Float) → i + length edges ≤ length kinds → length points ≡ 8 * length kinds
+pub storing-part : (edges : List EdgeSegment) (i : ℕ) (kinds : List ℕ) (points : List Float)
+    → i + length edges ≤ length kinds → length points ≡ 8 * length kinds
     → Storing (overFrom i (map kindStored edges) kinds) (overFrom (8 * i) (flatten (map placesStored edges)) points) i kinds points edges
 storing-part edges i kinds points h p = record { room = h; eightfold = p; kinds-so-far = refl; points-so-far = refl }
 
@@ -57,10 +58,12 @@ module _ {allKinds : List ℕ} {allPoints : List Float} {i : ℕ} {kinds : List 
       record {
         room = rw kept (omega arith);
         eightfold = rw (kept, over-length (8 * i) (8 * n) (flatten (map placesStored edges)) points plong (omega (arith, s .eightfold))) (s .eightfold);
-        kinds-so-far = s .kinds-so-far ∙ rw (map-append kindStored edges rest, over-more i n (map kindStored edges) (map kindStored rest) kinds klong (omega arith), q);
+        kinds-so-far =
+            s .kinds-so-far ∙ rw (map-append kindStored edges rest, over-more i n (map kindStored edges) (map kindStored rest) kinds klong (omega arith), q);
         points-so-far =
             s .points-so-far
-            ∙ rw (points-append edges rest, over-more (8 * i) (8 * n) (flatten (map placesStored edges)) (flatten (map placesStored rest)) points plong (omega (arith, s .eightfold)), eight);
+            ∙ rw (points-append edges rest, over-more (8 * i) (8 * n) (flatten (map placesStored edges))
+                (flatten (map placesStored rest)) points plong (omega (arith, s .eightfold)), eight);
       }
 
   -- one edge is stored
@@ -71,11 +74,13 @@ module _ {allKinds : List ℕ} {allPoints : List Float} {i : ℕ} {kinds : List 
       let eight : 8 * i + 8 ≡ 8 * m = omega arith in
       record {
         room = simp length-set (omega (arith, s .room));
-        eightfold = rw (over-length (8 * i) 8 (placesStored e) points (places-length e) (omega (arith, s .room, s .eightfold))) (simp length-set (s .eightfold));
+        eightfold =
+            rw (over-length (8 * i) 8 (placesStored e) points (places-length e) (omega (arith, s .room, s .eightfold))) (simp length-set (s .eightfold));
         kinds-so-far = s .kinds-so-far ∙ rw (over-next i (kindStored e) (map kindStored rest) kinds (omega (arith, s .room)), q);
         points-so-far =
             s .points-so-far
-            ∙ rw (over-more (8 * i) 8 (placesStored e) (flatten (map placesStored rest)) points (places-length e) (omega (arith, s .room, s .eightfold)), eight);
+            ∙ rw (over-more (8 * i) 8 (placesStored e) (flatten (map placesStored rest)) points (places-length e) (omega (arith, s .room, s .eightfold)),
+                eight);
       }
 
   pub storing-ends : Storing allKinds allPoints i kinds points [] → (kinds ≡ allKinds) × (points ≡ allPoints)

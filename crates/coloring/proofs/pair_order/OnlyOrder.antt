@@ -11,7 +11,8 @@ use native.Mathlib.Omega.{arith}
 use lib.Ieee.{Float, lt}
 use Rattle.coloring.specs.Lists.{all}
 use Rattle.coloring.specs.Sequence.{Pair}
-use Rattle.coloring.specs.PairOrder.{validDistance, distancesValid, Distances, pairsWith, pairsFrom, SplinePair, withDistances, insertBy, sortBy, pairOrder}
+use Rattle.coloring.specs.PairOrder.{validDistance, distancesValid, ValidDistances, pairsWith, pairsFrom}
+use Rattle.coloring.specs.PairOrder.{SplinePair, withDistances, insertBy, sortBy, pairOrder}
 use Rattle.coloring.specs.Bools.{and-left, and-right, split}
 use Rattle.coloring.proofs.pair_order.DistanceLaws.{lt-asym, not-lt-trans}
 use Rattle.coloring.proofs.pair_order.MergeLaws.{insert-here, insert-later}
@@ -91,7 +92,9 @@ one-sequence (x ∷ l) (y ∷ m) v s t to from =
     same : x ≡ y
     same =
         ⊎-elim (λ e. e)
-        (λ i. ⊎-elim sym (λ j. absurd (before-asym x y (v x x-in) (v y (List·Memᴰ·head refl)) (s .0 y j) (t .0 x i))) (List·Memᴰ·cases-cons (from y (List·Memᴰ·head refl))))
+        (λ i.
+            ⊎-elim sym (λ j. absurd (before-asym x y (v x x-in) (v y (List·Memᴰ·head refl)) (s .0 y j) (t .0 x i)))
+            (List·Memᴰ·cases-cons (from y (List·Memᴰ·head refl))))
         (List·Memᴰ·cases-cons x-in)
 
     not-self : (q : SplinePair) → List·Memᴰ q l → q ≡ x → ⊥
@@ -166,7 +169,8 @@ append-sequence : (xs ys : List Pair) → Sequence BeforePair xs → Sequence Be
 unfolding Sequence
 append-sequence [] ys s t h = t
 append-sequence (x ∷ xs) ys s t h =
-    (λ q m. ⊎-elim (λ l. s .0 q l) (λ r. h x q (List·Memᴰ·head refl) r) (List·Memᴰ·append-cases xs m), append-sequence xs ys (s .1) t (λ p q l r. h p q (List·Memᴰ·tail l) r))
+    (λ q m. ⊎-elim (λ l. s .0 q l) (λ r. h x q (List·Memᴰ·head refl) r) (List·Memᴰ·append-cases xs m),
+        append-sequence xs ys (s .1) t (λ p q l r. h p q (List·Memᴰ·tail l) r))
 
 from-sequence : (i k : ℕ) → Sequence BeforePair (pairsFrom i k)
 unfolding Sequence pairsFrom
@@ -199,7 +203,7 @@ distances-sequence (p ∷ pairs) (d ∷ distances) s = (λ q m. s .0 (q .pair) (
 
 -- ---- the theorems
 
-module _ (n : ℕ) (distances : List Float) (given : Distances n distances) where
+module _ (n : ℕ) (distances : List Float) (given : ValidDistances n distances) where
   -- the order is a rearrangement of the pairs, each before all that follow it
   pub order-fits : List·Permᴰ (pairOrder n distances) (withDistances (pairsFrom 0 n) distances) × Sequence Before (pairOrder n distances)
   unfolding pairOrder

@@ -11,7 +11,7 @@ use lib.ListN.{length, set, length-append, length-set, length-map}
 use lib.Ieee.{Float, lt}
 use Rattle.coloring.specs.Lists.{range, overFrom}
 use Rattle.coloring.specs.Sequence.{Pair}
-use Rattle.coloring.specs.PairOrder.{pairsWith, pairsFrom, withDistances, insertBy, sortBy, pairOrder, Distances}
+use Rattle.coloring.specs.PairOrder.{pairsWith, pairsFrom, withDistances, insertBy, sortBy, pairOrder, ValidDistances}
 use Rattle.coloring.specs.PairNumbers.{Each, Below, distanceOf, Two, code, decode, splinePairAt, InOrder}
 use Rattle.coloring.specs.Bools.{split}
 use Rattle.coloring.proofs.Writing.{over-next, over-nothing, over-all}
@@ -160,14 +160,14 @@ module _ {A B : Type 0} (f : A → B) (key : B → Float) where
   sort-map (x ∷ l) = insert-map x (sortBy (λ y. key (f y)) l) ∙ ap (insertBy key (f x)) (sort-map l)
 
 -- the numbers sorted by their distances are the pairs in order
-numbers-ordered : (n : ℕ) (distances : List Float) → Distances n distances
+numbers-ordered : (n : ℕ) (distances : List Float) → ValidDistances n distances
     → map (splinePairAt (map code (pairsFrom 0 n)) distances) (sortBy (distanceOf distances) (range 0 (length distances))) ≡ pairOrder n distances
 unfolding pairOrder
 numbers-ordered n distances d =
     sort-map (splinePairAt (map code (pairsFrom 0 n)) distances) (λ p. p .distance) (range 0 (length distances))
     ∙ ap (sortBy (λ p. p .distance)) (numbered n (d .few) (pairsFrom 0 n) distances (two-from n 0 n (omega arith)) (d .count ∙ sym (pairs-count n)))
 
-pub in-order : (n : ℕ) (distances : List Float) (codes order : List ℕ) → Distances n distances → codes ≡ map code (pairsFrom 0 n)
+pub in-order : (n : ℕ) (distances : List Float) (codes order : List ℕ) → ValidDistances n distances → codes ≡ map code (pairsFrom 0 n)
     → order ≡ sortBy (distanceOf distances) (range 0 (length distances)) → InOrder n codes order distances
 in-order n distances codes order d p q =
     record {

@@ -12,7 +12,8 @@ use lib.Dec.{eqb}
 use lib.ListN.{length, getD, set, length-set, length-append}
 use lib.Seq.{getD-set-same, getD-set-other}
 use borrow.Author.Tests.{eq-eqb, ne-eqb, eqb-true}
-use Rattle.coloring.specs.Recolor.{Recoloring, uncolored, joined, uncolorOne, uncolorFrom, uncolorSameNeighbors, force, Waiting, ring, recoloring, Uncoloring}
+use Rattle.coloring.specs.Recolor.{Recoloring, uncolored, joined, uncolorOne, uncolorFrom, uncolorSameNeighbors}
+use Rattle.coloring.specs.Recolor.{force, Waiting, ring, recoloring, Uncoloring}
 use Rattle.coloring.proofs.Lists.{getD-any}
 use Rattle.coloring.proofs.recolor.QueueLaws.{ring-length, ring-push, waiting-length, waiting-push}
 

@@ -10,7 +10,8 @@ use native.Mathlib.Decide.{ℕ-discrete, decLt}
 use native.Mathlib.Omega.{arith}
 use lib.ListN.{length, getD, set, length-set}
 use borrow.Author.Tests.{eq-eqb, ne-eqb, le-leb, lt-leb}
-use Rattle.coloring.specs.Recolor.{Recoloring, Walk, recolored, stopped, uncolored, joined, row, vertexPossibleColors, firstPossibleColor, force, forcedStep, walk, walkFuel, walkFrom}
+use Rattle.coloring.specs.Recolor.{Recoloring, Walk, recolored, stopped, uncolored, joined, row}
+use Rattle.coloring.specs.Recolor.{vertexPossibleColors, firstPossibleColor, force, forcedStep, walk, walkFuel, walkFrom}
 use Rattle.coloring.specs.Recolor.{ring, recoloring, Waiting, Uncoloring, Walking}
 use Rattle.coloring.proofs.recolor.RowLaws.{row-length}
 use Rattle.coloring.proofs.recolor.FreeColorLaws.{none-free, used-by, step-rises}
@@ -204,7 +205,7 @@ pub forced-same : (n : ℕ) (edgeMatrix : List ℕ) (i : ℕ) (coloring queue en
 forced-same n edgeMatrix i coloring queue entries s t cut e = rw (cut, e)
 
 -- a walk whose end is `whole` has come to these colours, this queue and this step
-pub record Goes (n : ℕ) (edgeMatrix : List ℕ) (a c : ℕ) (whole : Walk) (coloring places : List ℕ) (head waiting step : ℕ) : Type 0 where
+pub record WalkInvariant (n : ℕ) (edgeMatrix : List ℕ) (a c : ℕ) (whole : Walk) (coloring places : List ℕ) (head waiting step : ℕ) : Type 0 where
   pub few : n ≤ 64
   pub room : length places ≡ 64
   pub start : head < 64
@@ -213,10 +214,10 @@ pub record Goes (n : ℕ) (edgeMatrix : List ℕ) (a c : ℕ) (whole : Walk) (co
   pub going : Going n fuel step coloring (ring places head waiting)
   pub rest : walk n edgeMatrix a c fuel step coloring (ring places head waiting) ≡ whole
 
-pub goes-start : {edgeMatrix : List ℕ} (a c : ℕ) {coloring places : List ℕ} {waiting : ℕ} → Walking coloring places edgeMatrix a waiting
-    → Goes (length coloring) edgeMatrix a c (walkFrom edgeMatrix a c (recoloring coloring places 0 waiting)) coloring places 0 waiting 0
+pub walk-begins : {edgeMatrix : List ℕ} (a c : ℕ) {coloring places : List ℕ} {waiting : ℕ} → Walking coloring places edgeMatrix a waiting
+    → WalkInvariant (length coloring) edgeMatrix a c (walkFrom edgeMatrix a c (recoloring coloring places 0 waiting)) coloring places 0 waiting 0
 unfolding walkFrom
-goes-start a c {coloring} {places} {waiting} w =
+walk-begins a c {coloring} {places} {waiting} w =
     record {
       few = w .queued .few;
       room = w .queued .size;
@@ -228,10 +229,10 @@ goes-start a c {coloring} {places} {waiting} w =
     }
 
 module _ {n : ℕ} {edgeMatrix : List ℕ} {a c : ℕ} {whole : Walk} {coloring places : List ℕ} {head waiting step : ℕ}
-    (g : Goes n edgeMatrix a c whole coloring places head waiting step) where
-  pub goes-empty : waiting ≡ 0 → recolored coloring step ≡ whole
+    (g : WalkInvariant n edgeMatrix a c whole coloring places head waiting step) where
+  pub walk-done : waiting ≡ 0 → recolored coloring step ≡ whole
   unfolding ring walk
-  goes-empty e = go (g .fuel) (g .going .enough) (rw e at (g .rest))
+  walk-done e = go (g .fuel) (g .going .enough) (rw e at (g .rest))
     where
       go : (f : ℕ) → left n step (length (ring places head waiting)) < f → walk n edgeMatrix a c f step coloring [] ≡ whole → recolored coloring step ≡ whole
       go zero h r = absurd (omega arith)
@@ -257,19 +258,19 @@ module _ {n : ℕ} {edgeMatrix : List ℕ} {a c : ℕ} {whole : Walk} {coloring 
         go zero t r = absurd (omega (arith, t .enough))
         go (suc f) t r = record { fuel = f; going = t; rest = r }
 
-    pub goes-stop : 16 ≤ step → stopped step ≡ whole
-    goes-stop h = sym (turn-stop n edgeMatrix a c (turn .fuel) step coloring spline queue h) ∙ turn .rest
+    pub walk-stops : 16 ≤ step → stopped step ≡ whole
+    walk-stops h = sym (turn-stop n edgeMatrix a c (turn .fuel) step coloring spline queue h) ∙ turn .rest
 
     -- it is one of the splines
-    pub goes-first : spline < n
+    pub walk-first : spline < n
     unfolding Waiting
-    goes-first = omega (arith, uncolored-inside coloring spline (turn .going .waits .0), turn .going .size)
+    walk-first = omega (arith, uncolored-inside coloring spline (turn .going .waits .0), turn .going .size)
 
     -- it takes a free colour
-    pub goes-free : step < 16 → freeOf n edgeMatrix coloring spline ≢ 0
-        → Goes n edgeMatrix a c whole (set coloring spline (firstPossibleColor (freeOf n edgeMatrix coloring spline))) places ((head + 1) % 64)
+    pub walk-free : step < 16 → freeOf n edgeMatrix coloring spline ≢ 0
+        → WalkInvariant n edgeMatrix a c whole (set coloring spline (firstPossibleColor (freeOf n edgeMatrix coloring spline))) places ((head + 1) % 64)
         (waiting - 1) step
-    goes-free h p =
+    walk-free h p =
         record {
           few = g .few;
           room = g .room;
@@ -281,13 +282,13 @@ module _ {n : ℕ} {edgeMatrix : List ℕ} {a c : ℕ} {whole : Walk} {coloring 
         }
 
     -- it takes a forced colour x, and the neighbours that have it may lose it
-    pub goes-uncolor : length edgeMatrix ≡ n * n → (x : ℕ) → x < 3
+    pub walk-uncolors : length edgeMatrix ≡ n * n → (x : ℕ) → x < 3
         → Uncoloring (set coloring spline x) places (row n edgeMatrix spline) ((head + 1) % 64) (waiting - 1) x
-    goes-uncolor e x small =
+    walk-uncolors e x small =
         let free = going-free (turn .going) x in
         record {
           queued = record { few = omega (arith, g .few, free .size); size = g .room; start = omega arith; waits = free .waits };
-          row = row-length n spline edgeMatrix e goes-first ∙ sym (free .size);
+          row = row-length n spline edgeMatrix e walk-first ∙ sym (free .size);
           color = small;
         }
 
@@ -300,8 +301,8 @@ module _ {n : ℕ} {edgeMatrix : List ℕ} {a c : ℕ} {whole : Walk} {coloring 
       after : Going n (turn .fuel) (suc s') coloring' (ring places' ((head + 1) % 64) waiting')
       after = subst⁻¹ (λ (v : Recoloring). Going n (turn .fuel) (suc s') (v .coloring) (v .queue)) e (going-forced (turn .going) edgeMatrix a c h)
 
-      pub goes-forced : length places' ≡ length places → Goes n edgeMatrix a c whole coloring' places' ((head + 1) % 64) waiting' (suc s')
-      goes-forced l =
+      pub walk-forces : length places' ≡ length places → WalkInvariant n edgeMatrix a c whole coloring' places' ((head + 1) % 64) waiting' (suc s')
+      walk-forces l =
           record {
             few = g .few;
             room = l ∙ g .room;

@@ -51,7 +51,8 @@ unfolding cornered cut
 flags-cut [] xs flags = refl
 flags-cut (n ∷ lengths) xs flags = ap (λ l. take n flags ∷ l) (flags-cut lengths (drop n xs) (drop n flags))
 
-pub splines-cut : (lengths : List ℕ) (xs : List EdgeSegment) (flags : List Bool) → splineTotal (cornered lengths xs flags) ≡ total (map splineCount (cut lengths flags))
+pub splines-cut : (lengths : List ℕ) (xs : List EdgeSegment) (flags : List Bool)
+    → splineTotal (cornered lengths xs flags) ≡ total (map splineCount (cut lengths flags))
 unfolding splineTotal
 splines-cut lengths xs flags = ap (λ contours. total (map splineCount contours)) (flags-cut lengths xs flags)
 
@@ -64,7 +65,8 @@ cornered-length (n ∷ lengths) xs flags = ap suc (cornered-length lengths (drop
 
 -- whether four buffers have room for so many contours and edges
 abbrev pub hasRoom : ℕ → ℕ → Result → Bool
-hasRoom contours edges old = leb contours (length (old .lengths)) && leb edges (length (old .kinds)) && leb (8 * edges) (length (old .points)) && leb edges (length (old .colors))
+hasRoom contours edges old =
+    leb contours (length (old .lengths)) && leb edges (length (old .kinds)) && leb (8 * edges) (length (old .points)) && leb edges (length (old .colors))
 
 pub sized-fits : {written : Result} {contours edges : ℕ} (old : Result) → Sized written contours edges → resultFits written old ≡ hasRoom contours edges old
 unfolding resultFits
@@ -91,7 +93,8 @@ room-fits contours edges old e =
 abbrev pub laidOut : List ℕ → List EdgeSegment → List Bool → List Cornered
 laidOut lengths xs flags = map layout (cornered lengths xs flags)
 
-module _ (lengths : List ℕ) (xs : List EdgeSegment) (flags : List Bool) (counts : Counts) (same : length flags ≡ length xs) (counted : Counted lengths flags counts) where
+module _ (lengths : List ℕ) (xs : List EdgeSegment) (flags : List Bool) (counts : Counts)
+    (same : length flags ≡ length xs) (counted : Counted lengths flags counts) where
   abbrev found : List Cornered
   found = cornered lengths xs flags
 
@@ -128,7 +131,10 @@ module _ (lengths : List ℕ) (xs : List EdgeSegment) (flags : List Bool) (count
       (out : LaidOut laid lengths₀ kinds₀ points₀ flags₀ outLengths outKinds outPoints outFlags) where
     front-lengths : take (counts .contours) outLengths ≡ sizes (flagsIn laid)
     unfolding over encode
-    front-lengths = rw (out .lengths-are) (take-at _ _ (counts .contours) (length-map (edgesIn laid) _ ∙ length-map laid _ ∙ length-map found layout ∙ cornered-length lengths xs flags ∙ sym (counted .contours-are)) ∙ sym sizes-laid)
+    front-lengths = rw (out .lengths-are)
+        (take-at _ _ (counts .contours)
+        (length-map (edgesIn laid) _ ∙ length-map laid _ ∙ length-map found layout ∙ cornered-length lengths xs flags ∙ sym (counted .contours-are))
+        ∙ sym sizes-laid)
 
     front-flags : take (counts .edges) outFlags ≡ flatten (flagsIn laid)
     unfolding over

@@ -13,10 +13,10 @@ use Rattle.coloring.specs.declared.refusal.Checked.the-variants.{Passed}
 use Rattle.coloring.specs.Answers.{Answer, allPass, refusal, Check, checkedAnswer, firstRefusal}
 use Rattle.coloring.specs.Answers.{passed-both, all-passed, one-failed, in-order-part}
 use Rattle.coloring.specs.Bools.{and-left}
-use Rattle.coloring.specs.PairOrder.{Distances}
+use Rattle.coloring.specs.PairOrder.{ValidDistances}
 use Rattle.coloring.specs.SplineColors.{colorSplines, checkSplines, SplinesColored, splinesColored, colorSplinesInto}
 
-pub check-passed : (n : ℕ) (distances : List Float) → firstRefusal (checkSplines n distances) ≡ allPass → Distances n distances
+pub check-passed : (n : ℕ) (distances : List Float) → firstRefusal (checkSplines n distances) ≡ allPass → ValidDistances n distances
 check-passed n distances e =
     let few = passed-both 4 (leb n 64 && leb (length distances) 2016) _ e in
     let count = passed-both 8 _ _ (few .1) in

@@ -6,7 +6,7 @@ use Prim.Native.Nat.{ℕ, zero, suc, _+_, _*_, _<_, _≤_}
 use native.Mathlib.Omega.{arith}
 use lib.Ieee.{Float}
 use lib.ListN.{length, getD, drop, replicate, length-replicate, length-set, drop-of-length-le}
-use Rattle.coloring.specs.SplineTable.{Table, tableOf, enter, tryAddEdge}
+use Rattle.coloring.specs.SplineTable.{Table, tableOf, enterPair, tryAddEdge}
 use Rattle.coloring.specs.Sequence.{Pair, run}
 use Rattle.coloring.specs.PairOrder.{pairsFrom, SplinePair, withDistances, pairOrder}
 use Rattle.coloring.specs.PairNumbers.{Each, Two, decode, pairAt, splinePairAt, InOrder}
@@ -130,7 +130,7 @@ module _ (n : ℕ) (codes order : List ℕ) (distances : List Float) (before : L
     here : k < length order → splinePairs (drop k order) ≡ next ∷ splinePairs (drop (k + 1) order)
     here h = ap splinePairs (drop-next order k 0 h)
 
-    enter-one : k < length order → isZero next ≡ true → Entered (enter n edgeMatrix (next .pair .a) (next .pair .b) 1) (k + 1)
+    enter-one : k < length order → isZero next ≡ true → Entered (enterPair n edgeMatrix (next .pair .a) (next .pair .b) 1) (k + 1)
     unfolding enterPairs
     enter-one h z =
         let first = zero-first next (splinePairs (drop (k + 1) order)) z in
@@ -142,9 +142,9 @@ module _ (n : ℕ) (codes order : List ℕ) (distances : List Float) (before : L
         }
 
     pub enter-next : k < length order → isZero next ≡ true → (pair : ℕ) (after : List ℕ) → pair ≡ getD codes (getD order k 0) 0
-        → after ≡ enter n edgeMatrix (decode pair .a) (decode pair .b) 1 → Entered after (k + 1)
+        → after ≡ enterPair n edgeMatrix (decode pair .a) (decode pair .b) 1 → Entered after (k + 1)
     enter-next h z pair after p q =
-        subst (λ m. Entered m (k + 1)) (sym (q ∙ ap (λ (x : ℕ). enter n edgeMatrix (decode x .a) (decode x .b) 1) p)) (enter-one h z)
+        subst (λ m. Entered m (k + 1)) (sym (q ∙ ap (λ (x : ℕ). enterPair n edgeMatrix (decode x .a) (decode x .b) 1) p)) (enter-one h z)
 
     -- the first pair that is not at distance zero
     pub zeros-stop : InOrder n codes order distances → k < length order → isZero next ≡ false → ZerosEntered edgeMatrix k
@@ -152,7 +152,8 @@ module _ (n : ℕ) (codes order : List ℕ) (distances : List Float) (before : L
     zeros-stop o h z =
         let none = zero-not next (splinePairs (drop (k + 1) order)) z in (
           sym (ap (λ l. enterPairs n l edgeMatrix) (ap zeroPairs (here h) ∙ none .0)) ∙ e .zeros ∙ ap (λ l. enterPairs n (zeroPairs l) before) (o .ordered),
-          sym (map-pairs codes distances (drop k order)) ∙ ap pairsOf (here h) ∙ sym (ap otherPairs (here h) ∙ none .1) ∙ e .others ∙ ap otherPairs (o .ordered),
+          sym (map-pairs codes distances (drop k order)) ∙ ap pairsOf (here h)
+              ∙ sym (ap otherPairs (here h) ∙ none .1) ∙ e .others ∙ ap otherPairs (o .ordered),
         )
 
     -- all pairs are

@@ -12,12 +12,14 @@ use lib.ListN.{length, getD}
 use lib.Arith.{digits-lt}
 use borrow.Author.Tests.{ne-eqb}
 use Rattle.coloring.specs.Recolor.{Walk, recolored, stopped}
-use Rattle.coloring.specs.SplineTable.{Table, tableOf, OfferAnswer, kept, declined, refused, Offered, outcome, settled, entry, enter, sound, tryAddEdge, offer}
+use Rattle.coloring.specs.SplineTable.{Table, tableOf, kept, declined, Offered}
+use Rattle.coloring.specs.SplineTable.{outcome, settled, entry, enterPair, sound, tryAddEdge, offer}
 use Rattle.coloring.specs.Sequence.{Pair, KeptPair, NoClash, isKept, Names}
 use Rattle.coloring.proofs.recolor.RowLaws.{Matrix}
 use Rattle.coloring.proofs.recolor.FreeColorLaws.{possible-free}
 use Rattle.coloring.proofs.recolor.ProperLaws.{Proper, proper-color, proper-differ, Ends, take-free, recolor-ends}
-use Rattle.coloring.proofs.spline_table.TableLaws.{splines, sound-color, sound-matrix, matrix-sound, names?, enter-at, enter-other, enter-matrix, enter-undone}
+use Rattle.coloring.proofs.spline_table.TableLaws.{splines, sound-color, sound-matrix, matrix-sound, names?}
+use Rattle.coloring.proofs.spline_table.TableLaws.{enter-at, enter-other, enter-matrix, enter-undone}
 use Rattle.coloring.proofs.spline_table.OfferLaws.{Unrefused, entered, rule-cases, offer-rule, offer-cases}
 
 -- a sound table of n splines
@@ -67,7 +69,7 @@ joined-kept n t e m i j k =
 -- ---- kept and declined offers
 
 -- of an offer that passes the checks: the table is sound afterwards, and if there was no clash there is none
-record Outcome (t : Table) (p : Pair) (o : Offered) : Type 0 where
+record AfterOffer (t : Table) (p : Pair) (o : Offered) : Type 0 where
   after : Sound (splines t) (o .table)
   one : NoClash t → OneOffer t p o
 
@@ -98,7 +100,7 @@ module _ (t : Table) (p : Pair) (v : Unrefused t (p .a) (p .b)) where
   not-in-pair : (i j : ℕ) → i < n → j < n → (Names p i j → ⊥) → entry n with-pair i j ≡ entry n (t .edgeMatrix) i j
   not-in-pair = enter-other n (t .edgeMatrix) p (v .first) (v .second) (v .different) 1
 
-  if-kept : (step : ℕ) (coloring : List ℕ) → ProperBut n coloring → Outcome t p (outcome (kept step) coloring with-pair)
+  if-kept : (step : ℕ) (coloring : List ℕ) → ProperBut n coloring → AfterOffer t p (outcome (kept step) coloring with-pair)
   if-kept step coloring c =
       record {
         after =
@@ -151,7 +153,7 @@ module _ (t : Table) (p : Pair) (v : Unrefused t (p .a) (p .b)) where
           clear i j (joined-kept _ t refl was i j (record { first = hi; second = hj; there = rw (not-in-pair i j hi hj other) at e }))
 
   if-declined : (step : ℕ) → getD (t .coloring) (p .a) 0 ≡ getD (t .coloring) (p .b) 0
-      → Outcome t p (outcome (declined step) (t .coloring) (enter n with-pair (p .a) (p .b) 0))
+      → AfterOffer t p (outcome (declined step) (t .coloring) (enterPair n with-pair (p .a) (p .b) 0))
   if-declined step e =
       record {
         after =
@@ -174,9 +176,9 @@ module _ (t : Table) (p : Pair) (v : Unrefused t (p .a) (p .b)) where
 
   -- the colours differ and b keeps its own, or b takes a free one, or it takes the first that a has not and a walk
   -- follows
-  try-outcome : Outcome t p (tryAddEdge t (p .a) (p .b))
+  try-outcome : AfterOffer t p (tryAddEdge t (p .a) (p .b))
   try-outcome =
-      rule-cases t (p .a) (p .b) (Outcome t p) (λ d. if-kept 0 (t .coloring) (old-colors n (λ i j names x z. differ d i j names)))
+      rule-cases t (p .a) (p .b) (AfterOffer t p) (λ d. if-kept 0 (t .coloring) (old-colors n (λ i j names x z. differ d i j names)))
       (λ e f. if-kept 0 _ (take-free (NoClash t) n with-pair becomes (p .b) _ _ (possible-free _ _ (ne-eqb _ 0 f)) but-b))
       (λ e f w q. ends w e (subst (Ends (NoClash t) n with-pair) q (recolor-ends (NoClash t) n with-pair becomes (t .coloring) (p .a) (p .b) color but-b)))
     where
@@ -191,7 +193,7 @@ module _ (t : Table) (p : Pair) (v : Unrefused t (p .a) (p .b)) where
       differ e i j (inr (x, y)) q = e (rw (x, y) (sym q))
 
       ends : (w : Walk) → getD (t .coloring) (p .a) 0 ≡ getD (t .coloring) (p .b) 0 → Ends (NoClash t) n with-pair w
-          → Outcome t p (settled w (t .coloring) with-pair (p .a) (p .b))
+          → AfterOffer t p (settled w (t .coloring) with-pair (p .a) (p .b))
       ends (recolored after step) e c = if-kept step after c
       ends (stopped step) e c = if-declined step e
 

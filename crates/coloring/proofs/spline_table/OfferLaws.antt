@@ -11,8 +11,10 @@ use native.Mathlib.Omega.{arith}
 use lib.ListN.{length, getD, set, length-set}
 use lib.Dec.{leb, ltb, eqb}
 use borrow.Author.Tests.{leb-true, ltb-true, eqb-true, eqb-false, not-true, le-leb, lt-leb, lt-ltb, le-ltb, eq-eqb, ne-eqb}
-use Rattle.coloring.specs.Recolor.{row, vertexPossibleColors, firstPossibleColor, Walk, recolored, stopped, Waiting, walk, walkFuel, walkFrom, walkStart, recolor, Offerable}
-use Rattle.coloring.specs.SplineTable.{Table, OfferAnswer, kept, declined, refused, Offered, outcome, settled, walkedOn, enter, sound, tryAddEdge, checkOffer, offer}
+use Rattle.coloring.specs.Recolor.{row, vertexPossibleColors, firstPossibleColor, Walk, recolored, stopped, Waiting}
+use Rattle.coloring.specs.Recolor.{walk, walkFuel, walkFrom, walkStart, recolor, Offerable}
+use Rattle.coloring.specs.SplineTable.{Table, OfferAnswer, kept, declined, refused, Offered, outcome}
+use Rattle.coloring.specs.SplineTable.{settled, walkedOn, enterPair, sound, tryAddEdge, checkOffer, offer}
 use Rattle.coloring.specs.Answers.{inOrder}
 use Rattle.coloring.specs.Sequence.{Pair}
 use Rattle.coloring.specs.Bools.{and-left, and-right, split}
@@ -26,7 +28,7 @@ use Rattle.coloring.proofs.spline_table.TableLaws.{splines, sound-color
 module _ (t : Table) (a b : ℕ) where
   -- the entries with the pair in
   abbrev pub entered : List ℕ
-  entered = enter (splines t) (t .edgeMatrix) a b 1
+  entered = enterPair (splines t) (t .edgeMatrix) a b 1
 
   -- the colours that are then free for b
   abbrev pub freeOfB : ℕ
@@ -185,7 +187,7 @@ pub record OfferLaws (t : Table) (a b : ℕ) : Type 0 where
   -- a declined offer changes no colour; the pair's two entries become 0, and no other changes
   pub declinedColors : (k : ℕ) → offer t a b .answer ≡ declined k → offer t a b .table .coloring ≡ t .coloring
   pub declinedPairs : (k : ℕ) → offer t a b .answer ≡ declined k
-      → offer t a b .table .edgeMatrix ≡ enter (splines t) (t .edgeMatrix) a b 0
+      → offer t a b .table .edgeMatrix ≡ enterPair (splines t) (t .edgeMatrix) a b 0
   -- a refused offer changes nothing
   pub refusedSame : (number : ℕ) → offer t a b .answer ≡ refused number → offer t a b .table ≡ t
   -- the fuel of the walk is never used up: with any more of it the walk ends the same way
@@ -197,7 +199,7 @@ pub record OfferLaws (t : Table) (a b : ℕ) : Type 0 where
 Says : Table → ℕ → ℕ → OfferAnswer → Table → Type 0
 Says t a b (kept k) after = ((NeedsWalk t a b → ⊥) → k ≡ 0) × (k ≤ 15)
 Says t a b (declined k) after =
-    NeedsWalk t a b × ((k ≡ 16) ⊎ (k ≡ 17)) × (after .coloring ≡ t .coloring) × (after .edgeMatrix ≡ enter (splines t) (t .edgeMatrix) a b 0)
+    NeedsWalk t a b × ((k ≡ 16) ⊎ (k ≡ 17)) × (after .coloring ≡ t .coloring) × (after .edgeMatrix ≡ enterPair (splines t) (t .edgeMatrix) a b 0)
 Says t a b (refused n) after = after ≡ t
 
 two : (k : ℕ) → (16 ≤ k) × (k ≤ 17) → Dec (k ≡ 16) → (k ≡ 16) ⊎ (k ≡ 17)

@@ -14,7 +14,7 @@ use lib.Seq.{getD-set-same, getD-set-other, set-set, set-comm, set-getD}
 use lib.Arith.{digits-lt, digits-div, digits-mod}
 use lib.Dec.{leb, eqb}
 use borrow.Author.Tests.{leb-true, le-leb, eqb-true, eq-eqb}
-use Rattle.coloring.specs.SplineTable.{Table, tableOf, enter, allBelow, entry, sound, atMost, mirrored, symmetric}
+use Rattle.coloring.specs.SplineTable.{Table, tableOf, enterPair, allBelow, entry, sound, atMost, mirrored, symmetric}
 use Rattle.coloring.specs.Sequence.{Pair, Names}
 use Rattle.coloring.specs.Bools.{and-left, and-right, same-truth}
 use Rattle.coloring.proofs.recolor.RowLaws.{Matrix}
@@ -167,7 +167,7 @@ module _ (n : ℕ) (edgeMatrix : List ℕ) (p : Pair) (first : p .a < n) (second
   two-places e = different (place-injective second first e .0)
 
   -- both entries of the pair are as entered
-  pub enter-at : (e i j : ℕ) → length edgeMatrix ≡ n * n → Names p i j → entry n (enter n edgeMatrix (p .a) (p .b) e) i j ≡ e
+  pub enter-at : (e i j : ℕ) → length edgeMatrix ≡ n * n → Names p i j → entry n (enterPair n edgeMatrix (p .a) (p .b) e) i j ≡ e
   enter-at e i j size (inl (x, y)) =
       rw (← x, ← y, getD-set-other _ _ _ _ _ two-places) (getD-set-same edgeMatrix _ e 0 (rw size (digits-lt first second)))
   enter-at e i j size (inr (x, y)) =
@@ -175,12 +175,12 @@ module _ (n : ℕ) (edgeMatrix : List ℕ) (p : Pair) (first : p .a < n) (second
 
   -- and no other
   pub enter-other : (e i j : ℕ) → i < n → j < n → (Names p i j → ⊥)
-      → entry n (enter n edgeMatrix (p .a) (p .b) e) i j ≡ entry n edgeMatrix i j
+      → entry n (enterPair n edgeMatrix (p .a) (p .b) e) i j ≡ entry n edgeMatrix i j
   enter-other e i j hi hj s =
       getD-set-other (set edgeMatrix _ e) _ _ e 0 (λ q. let r = place-injective first hj (sym q) in s (inr (r .1, r .0)))
       ∙ getD-set-other edgeMatrix _ _ e 0 (λ q. s (inl (place-injective second hj (sym q))))
 
-  pub enter-matrix : (e : ℕ) → e ≤ 1 → Matrix n edgeMatrix → Matrix n (enter n edgeMatrix (p .a) (p .b) e)
+  pub enter-matrix : (e : ℕ) → e ≤ 1 → Matrix n edgeMatrix → Matrix n (enterPair n edgeMatrix (p .a) (p .b) e)
   enter-matrix e small m =
       record {
         size = simp length-set (m .size);
@@ -192,23 +192,23 @@ module _ (n : ℕ) (edgeMatrix : List ℕ) (p : Pair) (first : p .a < n) (second
       one : {i : ℕ} → (p .a ≡ i) × (p .b ≡ i) → ⊥
       one (x, y) = different (x ∙ sym y)
 
-      still : (i j : ℕ) → i < n → j < n → Dec (Names p i j) → entry n (enter n edgeMatrix (p .a) (p .b) e) i j ≤ 1
+      still : (i j : ℕ) → i < n → j < n → Dec (Names p i j) → entry n (enterPair n edgeMatrix (p .a) (p .b) e) i j ≤ 1
       still i j hi hj (yes s) = omega (arith, enter-at e i j (m .size) s)
       still i j hi hj (no s) = omega (arith, enter-other e i j hi hj s, m .low i j hi hj)
 
       both-ways : (i j : ℕ) → i < n → j < n → Dec (Names p i j)
-          → entry n (enter n edgeMatrix (p .a) (p .b) e) i j ≡ entry n (enter n edgeMatrix (p .a) (p .b) e) j i
+          → entry n (enterPair n edgeMatrix (p .a) (p .b) e) i j ≡ entry n (enterPair n edgeMatrix (p .a) (p .b) e) j i
       both-ways i j hi hj (yes s) = enter-at e i j (m .size) s ∙ sym (enter-at e j i (m .size) (names-swap s))
       both-ways i j hi hj (no s) =
           enter-other e i j hi hj s ∙ m .symmetric i j hi hj ∙ sym (enter-other e j i hj hi (λ r. s (names-swap r)))
 
   -- what is entered last counts
-  pub enter-again : (d e : ℕ) → enter n (enter n edgeMatrix (p .a) (p .b) d) (p .a) (p .b) e ≡ enter n edgeMatrix (p .a) (p .b) e
+  pub enter-again : (d e : ℕ) → enterPair n (enterPair n edgeMatrix (p .a) (p .b) d) (p .a) (p .b) e ≡ enterPair n edgeMatrix (p .a) (p .b) e
   enter-again d e = rw (set-comm {A = ℕ} _ _ _ d e (λ q. two-places (sym q)), set-set _ (p .b * n + p .a), set-set)
 
   -- a pair that was not there, entered and taken away again
   pub enter-undone : entry n edgeMatrix (p .a) (p .b) ≡ 0 → entry n edgeMatrix (p .b) (p .a) ≡ 0
-      → enter n (enter n edgeMatrix (p .a) (p .b) 1) (p .a) (p .b) 0 ≡ edgeMatrix
+      → enterPair n (enterPair n edgeMatrix (p .a) (p .b) 1) (p .a) (p .b) 0 ≡ edgeMatrix
   enter-undone x y = enter-again 1 0 ∙ rw (put _ x) (put _ y)
     where
       put : (k : ℕ) → getD edgeMatrix k 0 ≡ 0 → set edgeMatrix k 0 ≡ edgeMatrix

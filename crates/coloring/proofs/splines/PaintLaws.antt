@@ -2,7 +2,7 @@
 use mathlib.Core.Path.{_≡_, refl, _∙_}
 use mathlib.Core.Bool.{Bool, cond}
 use mathlib.Core.List.{List, [], _∷_, map}
-use Prim.Native.Nat.{ℕ, suc, _+_, _≤_, _<_}
+use Prim.Native.Nat.{suc, _+_, _≤_, _<_}
 use native.Mathlib.Decide.{decLt}
 use native.Mathlib.Omega.{arith}
 use lib.Dec.{ltb}
@@ -26,7 +26,8 @@ pub splines-many : (flags : List Bool) → 2 ≤ cornerCount flags → splineCou
 splines-many flags l = splines-some flags (omega (arith, corners-few flags)) ∙ rw (le-ltb (cornerCount flags) 2 l)
 
 pub splines-positive : (flags : List Bool) → 0 < length flags → 0 < splineCount flags
-splines-positive flags h = elim (decLt (cornerCount flags) 2) [ yes l ↦ omega (arith, splines-few flags h l) | no l ↦ omega (arith, splines-many flags (omega arith)) ]
+splines-positive flags h =
+    elim (decLt (cornerCount flags) 2) [ yes l ↦ omega (arith, splines-few flags h l) | no l ↦ omega (arith, splines-many flags (omega arith)) ]
 
 -- at most one an edge, and one more
 one-more : (flags : List Bool) → splineCount flags ≤ suc (length flags)

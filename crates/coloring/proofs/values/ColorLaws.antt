@@ -23,7 +23,8 @@ module _ (strategy : Strategy) (pen : Pen) (contour : Cornered) where
   unfolding splineColors
   colors-many h = branch-false (ltb (cornerCount (contour .corners)) 2) _ _ (le-ltb _ _ h)
 
-  pub colors-simple : strategy ≡ Simple → 2 ≤ cornerCount (contour .corners) → splineColors strategy pen contour ≡ simpleColors (cornerCount (contour .corners) - 1) pen
+  pub colors-simple : strategy ≡ Simple → 2 ≤ cornerCount (contour .corners)
+      → splineColors strategy pen contour ≡ simpleColors (cornerCount (contour .corners) - 1) pen
   colors-simple e h = colors-many h ∙ rw e
 
   pub colors-ink-trap : strategy ≡ InkTrap → 2 ≤ cornerCount (contour .corners) → splineColors strategy pen contour ≡ inkTrapColors contour pen

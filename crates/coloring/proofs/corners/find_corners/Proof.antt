@@ -23,10 +23,14 @@ Inv-loop lengths kinds points threshold flags₀ at₀ i₀ flags at i =
 abbrev μ-loop : tie.MeasureT-loop
 μ-loop lengths kinds points threshold flags₀ at₀ i₀ flags at i = length lengths - i
 
+-- where the function began, from the head of the loop
+abbrev begun : tie.At-loop Inv-loop μ-loop → tie.Start Inv-loop μ-loop
+begun at = at .before .before .before .before .before
+
 -- the next contour lies within the edges
 module _ (c : tie.In-loop Inv-loop μ-loop) where
   abbrev start : tie.Start Inv-loop μ-loop
-  start = c .before .before .before .before .before .before
+  start = begun (c .before)
 
   abbrev n : ℕ
   n = getD (start .args .lengths .now) (c .before .loop .i) 0
@@ -41,7 +45,8 @@ loop-holds c =
     let edges = edgesOf (a .kinds .now) (a .points .now) in
     let l = edges-length (a .kinds .now) (a .points .now) in
     let long = all-length (a .threshold) (a .lengths .now) edges (omega (arith, start .pre .whole)) in
-    (along-starts _ _ (start .pre .whole), start .pre .matching .flagged, sym (over-all (allFlags (a .threshold) (a .lengths .now) edges) (a .flags .now) (omega (arith, start .pre .matching .flagged, start .pre .whole))))
+    (along-starts _ _ (start .pre .whole), start .pre .matching .flagged,
+        sym (over-all (allFlags (a .threshold) (a .lengths .now) edges) (a .flags .now) (omega (arith, start .pre .matching .flagged, start .pre .whole))))
 
 mul-end : tie.Need-mul-end Inv-loop μ-loop
 mul-end c = omega arith
@@ -81,7 +86,8 @@ loop-again c =
     rw m at (c .before .before .identify-part .ensures) in
     let inside = room turn in
     let long : length (cornerFlags (a .threshold) contour) ≡ n =
-    flags-length (a .threshold) contour ∙ length-take-le n (drop (at .at) edges) (omega (arith, length-drop (at .at) edges, edges-length (a .kinds .now) (a .points .now))) in (
+    flags-length (a .threshold) contour
+        ∙ length-take-le n (drop (at .at) edges) (omega (arith, length-drop (at .at) edges, edges-length (a .kinds .now) (a .points .now))) in (
       along-next _ _ _ _ (at .inv .0) h,
       c .before .before .identify-part .kept .1 .1 .1 .1 .1 .0 ∙ at .inv .1,
       at .inv .2
@@ -95,7 +101,7 @@ same-length c = omega arith
 returns : tie.Need-returns Inv-loop μ-loop
 unfolding contours
 returns c =
-    let start = c .before .before .before .before .before .before in
+    let start = begun (c .before) in
     let a = start .args in
     let at = c .before .loop in
     let edges = edgesOf (a .kinds .now) (a .points .now) in

@@ -25,7 +25,8 @@ shared-slice-read-if1 c = omega arith
 returns : tie.Need-returns Inv-loop μ-loop
 unfolding firstCorner
 returns c =
-    sym (ap (λ (places : List ℕ). getD places 0 0) (c .before .before .before .loop .inv .1 ∙ places-corner _ _ (c .before .before .loop-test .taken) (c .if1 .taken)))
+    sym (ap (λ (places : List ℕ). getD places 0 0)
+        (c .before .before .before .loop .inv .1 ∙ places-corner _ _ (c .before .before .loop-test .taken) (c .if1 .taken)))
 
 add-i : tie.Need-add-i Inv-loop μ-loop
 add-i c = omega arith

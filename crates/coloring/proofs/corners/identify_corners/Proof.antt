@@ -36,6 +36,10 @@ sub-edge-at c = omega arith
 edge-at-requires : tie.Need-edge-at-requires Inv-loop μ-loop
 edge-at-requires c κs = (omega arith, c .before .before .before .before .pre .places)
 
+-- where the function began, from the last edge's reading
+abbrev begun : tie.After-edge-at Inv-loop μ-loop → tie.Start Inv-loop μ-loop
+begun c = c .before .before .before .before .before
+
 direction-requires : tie.Need-direction-requires Inv-loop μ-loop
 direction-requires c κs = search needs
 
@@ -44,7 +48,7 @@ normalize-requires c κs = search needs
 
 loop-holds : tie.Need-loop-holds Inv-loop μ-loop
 loop-holds c =
-    let start = c .before .before .before .before .before .before .before in
+    let start = begun (c .before .before) in
     let edges = edgesOf (start .args .kinds .now) (start .args .points .now) in
     let l = edges-length (start .args .kinds .now) (start .args .points .now) in
     let long : length (start .args .flags .now) ≡ length (cornerFlags (start .args .threshold) edges) =
@@ -52,7 +56,8 @@ loop-holds c =
       refl,
       omega arith,
       start .pre .flagged,
-      rw (c .normalize .ensures, c .before .direction .ensures, c .before .before .edge-at .ensures, ← flags-start (start .args .threshold) edges (length (start .args .kinds .now)) anyEdge l (omega arith))
+      rw (c .normalize .ensures, c .before .direction .ensures, c .before .before .edge-at .ensures,
+          ← flags-start (start .args .threshold) edges (length (start .args .kinds .now)) anyEdge l (omega arith))
           (sym (over-all (cornerFlags (start .args .threshold) edges) (start .args .flags .now) long)),
     )
 
@@ -82,17 +87,20 @@ loop-less c = omega arith
 
 loop-again : tie.Need-loop-again Inv-loop μ-loop
 loop-again c =
-    let start = c .before .before .before .before .before .before .before .before .before .before .before .before .before .before in
-    let at = c .before .before .before .before .before .before .loop in
+    let corner = c .before in
+    let read = corner .before .before .before in
+    let head = read .before .before in
+    let at = head .loop in
+    let start = begun (head .before .before .before) in
     let edges = edgesOf (start .args .kinds .now) (start .args .points .now) in
     let h : at .i < length edges = omega (arith, edges-length (start .args .kinds .now) (start .args .points .now)) in
-    let corner = c .before in
-    let e = corner .before .before .before .edge-at2 .ensures in (
+    let e = read .edge-at2 .ensures in (
       at .inv .0,
       omega arith,
       simp length-set (at .inv .2),
       at .inv .3
-          ∙ rw (c .end-direction .ensures, corner .is-corner .ensures, corner .before .normalize2 .ensures, corner .before .before .direction2 .ensures, e, flags-next (start .args .threshold) (at .prev) edges (at .i) anyEdge h)
+          ∙ rw (c .end-direction .ensures, corner .is-corner .ensures, corner .before .normalize2 .ensures,
+              corner .before .before .direction2 .ensures, e, flags-next (start .args .threshold) (at .prev) edges (at .i) anyEdge h)
           (over-next (at .i) _ _ (at .flags) (omega arith)),
     )
 
@@ -101,7 +109,7 @@ same-length c = omega arith
 
 returns-2 : tie.Need-returns-2 Inv-loop μ-loop
 returns-2 c =
-    let start = c .before .before .before .before .before .before .before .before .before in
+    let start = begun (c .before .before .before .before) in
     let at = c .before .loop in
     let edges = edgesOf (start .args .kinds .now) (start .args .points .now) in
     sym

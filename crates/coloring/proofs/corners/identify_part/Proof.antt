@@ -48,9 +48,13 @@ part-identify-corners-start-3 c = search needs
 part-identify-corners-end-3 : tie.Need-part-identify-corners-end-3
 part-identify-corners-end-3 c = search needs
 
+-- where the function began, from the first part taken
+abbrev begun : tie.After-identify-corners-arg → tie.Start
+begun c = c .before .before .before .before
+
 identify-corners-requires : tie.Need-identify-corners-requires
 identify-corners-requires c κs =
-    let start = c .before .before .before .before .before .before in
+    let start = begun (c .before .before) in
     part-matching (start .pre)
 
 same-length : tie.Need-same-length
@@ -58,12 +62,13 @@ same-length c = search needs
 
 returns : tie.Need-returns
 returns c =
-    let start = c .before .before .before .before .before .before .before .before .before in
+    let called = c .before .before in
+    let start = begun (called .before .before .before) in
     let a = start .args in
     let contour = take (a .end - a .at) (drop (a .at) (edgesOf (a .kinds .now) (a .points .now))) in
     let long : length (cornerFlags (a .threshold) contour) ≡ a .end - a .at =
     flags-length (a .threshold) contour ∙ simp (length-take, length-drop) (omega (arith, start .pre .inside, edges-length (a .kinds .now) (a .points .now))) in
-    rw (c .before .before .identify-corners .ensures, edges-between (a .at) (a .end) (a .kinds .now) (a .points .now) (start .pre .start))
+    rw (called .identify-corners .ensures, edges-between (a .at) (a .end) (a .kinds .now) (a .points .now) (start .pre .start))
     (over-part (a .at) (a .end - a .at) (cornerFlags (a .threshold) contour) (a .flags .now) long)
 
 pub identify-part-spec : {M : Type 1} → statement M

@@ -1,5 +1,5 @@
 -- `next_length` meets its contract: equal vectors have one length.
-use mathlib.Core.Path.{_≡_, sym, _∙_}
+use mathlib.Core.Path.{sym, _∙_}
 use borrow.Author.Needs.{needs}
 use Rattle.coloring.proofs.corners.LengthLaws.{length-same}
 use Rattle.coloring.proofs.corners.next_length.Statement.{statement}

@@ -17,8 +17,12 @@ use Rattle.coloring.specs.Corners.{Cornered, cornerCount, estimateEdgeLe
 use Rattle.coloring.specs.Outline.{edgesOf, whole}
 use Rattle.coloring.specs.InkTrap.{Measured, measureCorners, noCorner, markMinors, majorCount, colorMajors, colorMinors, colorCorners}
 use Rattle.coloring.proofs.outline.EdgeLaws.{edges-length}
-use Rattle.coloring.proofs.ink_trap.MeasureLaws.{measuring, measuring-begins, measuring-corner, measuring-edge, measuring-ends, measured-count, measured-majors}
-use Rattle.coloring.proofs.ink_trap.CornerLaws.{close-first, marking, marking-none, mark-turn, marks-many, majors-more, majors-same, going, going-begins, going-major, going-minor, going-ends, majors-fall, left-falls, left-stays, minor-turn, major-turn, minors-done, colorOf, bytes-set, bytes-same, last-set, last-same, colored, drawn}
+use Rattle.coloring.proofs.ink_trap.MeasureLaws.{measuring, measuring-begins, measuring-corner, measuring-edge}
+use Rattle.coloring.proofs.ink_trap.MeasureLaws.{measuring-ends, measured-count}
+use Rattle.coloring.proofs.ink_trap.CornerLaws.{close-first, marking, marking-none, mark-turn, marks-many, majors-more, majors-same}
+use Rattle.coloring.proofs.ink_trap.CornerLaws.{going, going-begins, going-major, going-minor, going-ends, majors-fall, left-falls}
+use Rattle.coloring.proofs.ink_trap.CornerLaws.{left-stays, minor-turn, major-turn, minors-done, colorOf, bytes-set, bytes-same}
+use Rattle.coloring.proofs.ink_trap.CornerLaws.{last-set, last-same, colored, drawn}
 use Rattle.coloring.proofs.ink_trap.colors_by_length.Statement.{statement}
 use Rattle.coloring.proofs.ink_trap.colors_by_length.Tie as tie
 
@@ -137,13 +141,15 @@ module _ (c : tie.After-majors Inv-measure μ-measure Inv-mark μ-mark Inv-major
       ≡ record { corners = take (count (measured marks)) (c .before .majors .corners); pen = c .before .majors .ink }
   inked =
       let at = c .before .majors in
-      at .inv .3 ∙ going-ends (at .j) (count (measured marks)) (at .initial) (at .left) (at .ink) (at .corners) (at .inv .0) (c .majors-test .left) (omega (arith, few (measured marks)))
+      at .inv .3 ∙ going-ends (at .j) (count (measured marks)) (at .initial) (at .left)
+          (at .ink) (at .corners) (at .inv .0) (c .majors-test .left) (omega (arith, few (measured marks)))
 
 corner-at-requires : tie.Need-corner-at-requires Inv-measure μ-measure Inv-mark μ-mark Inv-majors μ-majors Inv-minors μ-minors
 corner-at-requires c κs = search needs
 
 measure-holds : tie.Need-measure-holds Inv-measure μ-measure Inv-mark μ-mark Inv-majors μ-majors Inv-minors μ-minors
-measure-holds c = (omega arith, omega arith, length-replicate 256 (c .corner-at .result), measuring-begins _ (contour (c .before .before .before .before .before)))
+measure-holds c =
+    (omega arith, omega arith, length-replicate 256 (c .corner-at .result), measuring-begins _ (contour (c .before .before .before .before .before)))
 
 shared-slice-read-if1 : tie.Need-shared-slice-read-if1 Inv-measure μ-measure Inv-mark μ-mark Inv-majors μ-majors Inv-minors μ-minors
 shared-slice-read-if1 c = omega arith
@@ -462,7 +468,8 @@ returns c =
     let corners : colorCorners (measureCorners (contour start)) (start .args .pen) ≡ record { corners = take n (at .corners); pen = ink } =
     colored _ _ (markedCorners marks) (marks .before .mark .left) _ n (marked marks) (majors marks) (inked done)
     (length-take-le n (marks .before .mark .corners) (omega (arith, marks .before .mark .inv .1, few measured)))
-    ∙ ap (λ (cs : List InkTrapCorner). record { corners = cs; pen = ink }) (at .inv .3 ∙ minors-done (at .k) n (at .color) (at .corners) (c .minors-test .left)) in
+    ∙ ap (λ (cs : List InkTrapCorner). record { corners = cs; pen = ink })
+        (at .inv .3 ∙ minors-done (at .k) n (at .color) (at .corners) (c .minors-test .left)) in
     drawn (contour start) (start .args .pen) ink (take n (at .corners)) (at .colors) (at .last) corners
     (sym (take-all n (at .colors) (omega (arith, at .inv .2))) ∙ rw last at (at .inv .4)) (rw all (rw last at (at .inv .5)))
 

@@ -1,5 +1,5 @@
 -- `ink_trap_colors` meets its contract: with two or three splines by the law that simple colouring gives the same.
-use mathlib.Core.Path.{_≡_, sym, _∙_}
+use mathlib.Core.Path.{sym, _∙_}
 use native.Mathlib.Omega.{arith}
 use borrow.Author.Needs.{needs}
 use Rattle.coloring.specs.Outline.{whole}
@@ -16,10 +16,12 @@ same-length c = search needs
 
 returns : tie.Need-returns
 returns c =
-    let start = c .before .before .before .before .before .before .before .before .before in
+    let called = c .before .before in
+    let branch = called .before .before in
+    let start = branch .before .before .before .before .before in
     let contour = whole (start .args .kinds .now) (start .args .points .now) (start .args .flags .now) in
     let long = start .pre .0 .flagged ∙ sym (edges-length (start .args .kinds .now) (start .args .points .now)) in
-    rw (few-simple contour (start .args .pen) long (omega arith) (omega (arith, start .pre .2)), ← start .pre .2) (c .before .before .simple-colors .ensures)
+    rw (few-simple contour (start .args .pen) long (omega arith) (omega (arith, start .pre .2)), ← start .pre .2) (called .simple-colors .ensures)
 
 colors-by-length-requires : tie.Need-colors-by-length-requires
 colors-by-length-requires c κs = search needs

@@ -26,7 +26,8 @@ over-laid found lengths kinds points flags =
     record { lengths = over (all .lengths) lengths; kinds = over (all .kinds) kinds; points = over (all .points) points; flags = over (all .flags) flags }
 
 -- each buffer keeps its length
-record Kept (lengths₀ kinds₀ : List ℕ) (points₀ : List Float) (flags₀ : List Bool) (lengths kinds : List ℕ) (points : List Float) (flags : List Bool) : Type 0 where
+record Kept (lengths₀ kinds₀ : List ℕ) (points₀ : List Float) (flags₀ : List Bool)
+    (lengths kinds : List ℕ) (points : List Float) (flags : List Bool) : Type 0 where
   pub lengths-kept : length lengths ≡ length lengths₀
   pub kinds-kept : length kinds ≡ length kinds₀
   pub points-kept : length points ≡ length points₀
@@ -40,7 +41,8 @@ Inv-loop lengths kinds points flags out-lengths₀ out-kinds₀ out-points₀ ou
     out-lengths out-kinds out-points out-flags at to i
 
 abbrev μ-loop : tie.MeasureT-loop
-μ-loop lengths kinds points flags out-lengths₀ out-kinds₀ out-points₀ out-flags₀ at₀ to₀ i₀ out-lengths out-kinds out-points out-flags at to i = length lengths - i
+μ-loop lengths kinds points flags out-lengths₀ out-kinds₀ out-points₀ out-flags₀ at₀ to₀ i₀ out-lengths out-kinds out-points out-flags at to i =
+    length lengths - i
 
 abbrev start-at : tie.At-loop Inv-loop μ-loop → tie.Start Inv-loop μ-loop
 start-at c =
@@ -145,7 +147,8 @@ lay-out-part-requires c κs =
     let kept = at .inv .0 in
     let enough = fit edges in (
       (record { matching = pre .0 .matching; start = omega arith; inside = room turn }, ap (λ k. at .to + k) (edges .part-edges .ensures)),
-      (omega (arith, enough, kept .kinds-kept, pre .1 .kinds-fit), omega (arith, enough, kept .points-kept, pre .1 .points-fit), omega (arith, enough, kept .flags-kept, pre .1 .flags-fit)),
+      (omega (arith, enough, kept .kinds-kept, pre .1 .kinds-fit),
+          omega (arith, enough, kept .points-kept, pre .1 .points-fit), omega (arith, enough, kept .flags-kept, pre .1 .flags-fit)),
     )
 
 -- the next contour is laid out
@@ -182,8 +185,10 @@ loop-again c =
         points-kept = size .1 .0 ∙ kept .points-kept;
         flags-kept = size .1 .1 .0 ∙ kept .flags-kept;
       },
-      laying-next _ _ _ _ _ _ _ _ _ _ _ _ (at .inv .1) (pre .0 .matching .flagged ∙ sym (edges-length (a .kinds .now) (a .points .now))) (turn .loop-test .taken)
-          (omega (arith, kept .lengths-kept, pre .1 .lengths-fit)) (omega (arith, kept .kinds-kept, pre .1 .kinds-fit)) (omega (arith, kept .points-kept, pre .1 .points-fit))
+      laying-next _ _ _ _ _ _ _ _ _ _ _ _ (at .inv .1)
+          (pre .0 .matching .flagged ∙ sym (edges-length (a .kinds .now) (a .points .now))) (turn .loop-test .taken)
+          (omega (arith, kept .lengths-kept, pre .1 .lengths-fit)) (omega (arith, kept .kinds-kept, pre .1 .kinds-fit))
+          (omega (arith, kept .points-kept, pre .1 .points-fit))
           (omega (arith, kept .flags-kept, pre .1 .flags-fit)) (counted (counting laid-out)) stored,
     )
 

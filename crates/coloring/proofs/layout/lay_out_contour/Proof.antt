@@ -7,7 +7,7 @@ use native.Mathlib.Omega.{arith}
 use lib.ListN.{length}
 use Rattle.coloring.specs.Corners.{Cornered}
 use Rattle.coloring.specs.Layout.{splits, firstOnly, splitContour}
-use Rattle.coloring.specs.Outline.{whole, edgesOf}
+use Rattle.coloring.specs.Outline.{whole}
 use Rattle.coloring.specs.Sizes.{edges-split, edges-same, layout-split, layout-same, split-length, split-few}
 use Rattle.coloring.proofs.corners.FlagLaws.{first-within}
 use Rattle.coloring.proofs.outline.EdgeLaws.{edges-length}
@@ -123,7 +123,8 @@ returns-2 c =
     let points = flags .before .before .before in
     let edges = points .before .before .before in
     let branch = edges .before .before .before in
-    rw (layout-same (contour (start (branch .before))) (same branch)) (record { edges-are = edges .copy-edges .ensures; flags-are = flags .copy-flags .ensures })
+    rw (layout-same (contour (start (branch .before))) (same branch))
+        (record { edges-are = edges .copy-edges .ensures; flags-are = flags .copy-flags .ensures })
 
 pub lay-out-contour-spec : {M : Type 1} → statement M
 lay-out-contour-spec =

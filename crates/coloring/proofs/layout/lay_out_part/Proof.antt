@@ -128,10 +128,12 @@ returns c =
     simp (length-take, length-drop) (omega (arith, start .pre .0 .0 .matching .flagged, edges-length (a .kinds .now) (a .points .now))) in
     let long : length (result .edges) ≡ a .next - a .to = layout-length contour flagged ∙ omega (arith, start .pre .0 .1) in
     record {
-      kinds-are = rw (done .edges-are .kinds-are) (over-part (a .to) (a .next - a .to) (map kindStored (result .edges)) (a .out-kinds .now) (length-map (result .edges) kindStored ∙ long));
+      kinds-are = rw (done .edges-are .kinds-are)
+          (over-part (a .to) (a .next - a .to) (map kindStored (result .edges)) (a .out-kinds .now) (length-map (result .edges) kindStored ∙ long));
       points-are =
           rw (done .edges-are .points-are, eight)
-          (over-part (8 * a .to) (8 * (a .next - a .to)) (flatten (map placesStored (result .edges))) (a .out-points .now) (points-length (result .edges) ∙ ap (λ n. 8 * n) long));
+          (over-part (8 * a .to) (8 * (a .next - a .to)) (flatten (map placesStored (result .edges)))
+              (a .out-points .now) (points-length (result .edges) ∙ ap (λ n. 8 * n) long));
       flags-are = rw (done .flags-are) (over-part (a .to) (a .next - a .to) (result .corners) (a .out-flags .now) (layout-flagged contour flagged ∙ long));
     }
 

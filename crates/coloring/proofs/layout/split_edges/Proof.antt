@@ -20,7 +20,8 @@ use Rattle.coloring.proofs.layout.split_edges.Tie as tie
 
 -- the edge after i steps from the corner, in thirds, and those after it
 thirds-next : (edges : List EdgeSegment) (corner i m : ℕ) → length edges ≡ m → corner ≤ m → i < m
-    → flatten (map thirds (drop i (rotate corner edges))) ≡ thirds (getD edges ((corner + i) % m) anyEdge) ++ flatten (map thirds (drop (i + 1) (rotate corner edges)))
+    → flatten (map thirds (drop i (rotate corner edges)))
+        ≡ thirds (getD edges ((corner + i) % m) anyEdge) ++ flatten (map thirds (drop (i + 1) (rotate corner edges)))
 unfolding flatten
 thirds-next edges corner i m l s h =
     rw (
@@ -33,11 +34,16 @@ thirds-next edges corner i m l s h =
 abbrev Inv-loop : tie.InvT-loop
 Inv-loop kinds points corner out-kinds₀ out-points₀ m i₀ out-kinds out-points i =
     (m ≡ length kinds) × (i ≤ m) × (length out-kinds ≡ 3 * m)
-    × Storing (map kindStored (flatten (map thirds (rotate corner (edgesOf kinds points))))) (flatten (map placesStored (flatten (map thirds (rotate corner (edgesOf kinds points))))))
+    × Storing (map kindStored (flatten (map thirds (rotate corner (edgesOf kinds points)))))
+        (flatten (map placesStored (flatten (map thirds (rotate corner (edgesOf kinds points))))))
     (3 * i) out-kinds out-points (flatten (map thirds (drop i (rotate corner (edgesOf kinds points)))))
 
 abbrev μ-loop : tie.MeasureT-loop
 μ-loop kinds points corner out-kinds₀ out-points₀ m i₀ out-kinds out-points i = m - i
+
+-- where the function began, from the head of the loop
+abbrev begun : tie.At-loop Inv-loop μ-loop → tie.Start Inv-loop μ-loop
+begun at = at .before .before .before .before .before
 
 loop-holds : tie.Need-loop-holds Inv-loop μ-loop
 loop-holds c =
@@ -56,7 +62,7 @@ rem-edge-at c = omega arith
 
 edge-at-requires : tie.Need-edge-at-requires Inv-loop μ-loop
 edge-at-requires c κs =
-    let start = c .before .before .before .before .before .before in
+    let start = begun (c .before) in
     (mod-lt _ (omega arith), start .pre .0 .0)
 
 mul-write-thirds : tie.Need-mul-write-thirds Inv-loop μ-loop
@@ -76,18 +82,21 @@ loop-less c = omega arith
 loop-again : tie.Need-loop-again Inv-loop μ-loop
 unfolding thirds
 loop-again c =
-    let turn = c .before .before .before .before .before .before .before .before .before in
-    let edge-at = c .before .before .before .before .before .before .before in
-    let start = c .before .before .before .before .before .before .before .before .before .before .before .before .before .before in
-    let at = turn .loop in
+    let stored = c .before .before .before .before in
+    let read = stored .before .before .before in
+    let head = read .before .before in
+    let start = begun head in
+    let at = head .loop in
     let m = length (start .args .kinds .now) in
     let edges = edgesOf (start .args .kinds .now) (start .args .points .now) in
-    let written = c .before .before .before .before .write-thirds in
-    let next = thirds-next edges (start .args .corner) (at .i) m (edges-length (start .args .kinds .now) (start .args .points .now)) (omega arith) (omega arith) in (
+    let written = stored .write-thirds in
+    let next =
+        thirds-next edges (start .args .corner) (at .i) m (edges-length (start .args .kinds .now) (start .args .points .now)) (omega arith) (omega arith) in (
       at .inv .0,
       omega arith,
       written .kept .1 .1 .0 ∙ at .inv .2,
-      rw (written .ensures .0, written .ensures .1, edge-at .edge-at .ensures) (storing-many (thirds _) _ 3 (3 * (at .i + 1)) refl (omega arith) (rw next at (at .inv .3))),
+      rw (written .ensures .0, written .ensures .1, read .edge-at .ensures)
+          (storing-many (thirds _) _ 3 (3 * (at .i + 1)) refl (omega arith) (rw next at (at .inv .3))),
     )
 
 same-length : tie.Need-same-length Inv-loop μ-loop
@@ -99,10 +108,11 @@ same-length-2 c = omega arith
 returns : tie.Need-returns Inv-loop μ-loop
 unfolding flatten
 returns c =
-    let start = c .before .before .before .before .before .before in
+    let start = begun (c .before) in
     let at = c .before .loop in
     let edges = edgesOf (start .args .kinds .now) (start .args .points .now) in
-    let none = drop-of-length-le (rotate (start .args .corner) edges) {i = at .i} (rw length-rotate (omega (arith, edges-length (start .args .kinds .now) (start .args .points .now)))) in
+    let none = drop-of-length-le (rotate (start .args .corner) edges) {i = at .i}
+        (rw length-rotate (omega (arith, edges-length (start .args .kinds .now) (start .args .points .now)))) in
     let ends = storing-ends (rw none at (at .inv .3)) in
     record { kinds-are = ends .0; points-are = ends .1 }
 

@@ -37,10 +37,13 @@ same-length-2 c = search needs
 returns : tie.Need-returns
 unfolding thirds
 returns c =
-    let start = c .before .before .before .before .before .before .before .before .before .before .before .before .before .before .before .before .before .before .before .before .before .before .before .before in
     let third = c .before .before .before .before in
-    let second = third .before .before .before .before .before .before .before in
-    let first = second .before .before .before .before .before .before .before in
+    let to-second = third .before .before .before in
+    let second = to-second .before .before .before .before in
+    let to-first = second .before .before .before in
+    let first = to-first .before .before .before .before in
+    let split = first .before .before .before in
+    let start = split .before .before .before in
     let e = start .args .e in
     let i = start .args .i in
     let parts = splitInThirds e in
@@ -55,7 +58,7 @@ returns c =
       second .write-edge2 .ensures .1,
       first .write-edge .ensures .0,
       first .write-edge .ensures .1,
-      first .before .before .before .split-in-thirds .ensures,
+      split .split-in-thirds .ensures,
     )
     (storing-ends three)
 

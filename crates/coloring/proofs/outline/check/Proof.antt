@@ -14,12 +14,17 @@ use borrow.Author.Needs.{needs}
 use Rattle.coloring.proofs.outline.check.Statement.{statement}
 use Rattle.coloring.proofs.outline.check.Tie as tie
 
+-- where the function began, from where the edges are counted
+abbrev begun : tie.After-total → tie.Start
+begun c = c .before .before .before .before .before
+
 module _ (c : tie.Else2) where
   abbrev start : tie.Start
-  start = c .before .before .before .before .before .before
+  start = begun (c .before)
 
   few : (leb (length (start .args .lengths .now)) 64 && leb (total (start .args .lengths .now)) 256) ≡ true
-  few = rw (le-leb (length (start .args .lengths .now)) 64 (c .before .before .if1 .left), ← c .before .total .ensures, le-leb (c .before .total .result) 256 (c .if2 .left))
+  few = rw (le-leb (length (start .args .lengths .now)) 64 (c .before .before .if1 .left),
+      ← c .before .total .ensures, le-leb (c .before .total .result) 256 (c .if2 .left))
 
 returns : tie.Need-returns
 unfolding check firstRefusal
@@ -31,8 +36,9 @@ total-requires c κs = search needs
 returns-2 : tie.Need-returns-2
 unfolding check firstRefusal
 returns-2 c =
-    let start = c .before .before .before .before .before .before in
-    rw (le-leb (length (start .args .lengths .now)) 64 (c .before .before .if1 .left), ← c .before .total .ensures, lt-leb (c .before .total .result) 256 (c .if2 .taken))
+    let start = begun (c .before) in
+    rw (le-leb (length (start .args .lengths .now)) 64 (c .before .before .if1 .left),
+        ← c .before .total .ensures, lt-leb (c .before .total .result) 256 (c .if2 .taken))
 
 returns-3 : tie.Need-returns-3
 unfolding check firstRefusal
@@ -48,7 +54,8 @@ unfolding check firstRefusal
 returns-4 c =
     let counted = c .before .before .before .total in
     let a = start (c .before .before) .args in
-    rw (few (c .before .before), ← counted .ensures, eq-eqb (length (a .kinds .now)) (counted .result) (c .before .if3 .left), ne-eqb (length (a .points .now)) (8 * counted .result) (c .if4 .taken))
+    rw (few (c .before .before), ← counted .ensures, eq-eqb (length (a .kinds .now)) (counted .result) (c .before .if3 .left),
+        ne-eqb (length (a .points .now)) (8 * counted .result) (c .if4 .taken))
 
 module _ (c : tie.Else4) where
   abbrev within : tie.Else2
@@ -59,14 +66,16 @@ module _ (c : tie.Else4) where
   agree =
       let counted = within .before .total in
       let a = start within .args in
-      rw (← counted .ensures, eq-eqb (length (a .kinds .now)) (counted .result) (c .before .if3 .left), eq-eqb (length (a .points .now)) (8 * counted .result) (c .if4 .left))
+      rw (← counted .ensures, eq-eqb (length (a .kinds .now)) (counted .result) (c .before .if3 .left),
+          eq-eqb (length (a .points .now)) (8 * counted .result) (c .if4 .left))
 
 kinds-known-requires : tie.Need-kinds-known-requires
 kinds-known-requires c κs = search needs
 
 returns-5 : tie.Need-returns-5
 unfolding check firstRefusal
-returns-5 c = rw (few (within (c .before .before)), agree (c .before .before), ← c .before .kinds-known .ensures, not-true (c .before .kinds-known .result) (c .if5 .taken))
+returns-5 c = rw (few (within (c .before .before)), agree (c .before .before),
+    ← c .before .kinds-known .ensures, not-true (c .before .kinds-known .result) (c .if5 .taken))
 
 module _ (c : tie.Else5) where
   abbrev agreeing : tie.Else4
@@ -83,7 +92,8 @@ unfolding check firstRefusal
 returns-6 c =
     let known-kinds = c .before .before in
     let agreeing = agreeing known-kinds in
-    rw (few (within agreeing), agree agreeing, known known-kinds, ← c .before .coordinates-fit .ensures, not-true (c .before .coordinates-fit .result) (c .if6 .taken))
+    rw (few (within agreeing), agree agreeing, known known-kinds,
+        ← c .before .coordinates-fit .ensures, not-true (c .before .coordinates-fit .result) (c .if6 .taken))
 
 fit : (c : tie.Else6)
     → let a = start (within (agreeing (c .before .before))) .args in
@@ -98,14 +108,16 @@ unfolding check firstRefusal
 returns-7 c =
     let known-kinds = c .before .before .before .before in
     let agreeing = agreeing known-kinds in
-    rw (few (within agreeing), agree agreeing, known known-kinds, fit (c .before .before), ← c .before .between .ensures, not-true (c .before .between .result) (c .if7 .taken))
+    rw (few (within agreeing), agree agreeing, known known-kinds, fit (c .before .before),
+        ← c .before .between .ensures, not-true (c .before .between .result) (c .if7 .taken))
 
 returns-8 : tie.Need-returns-8
 unfolding check firstRefusal
 returns-8 c =
     let known-kinds = c .before .before .before .before in
     let agreeing = agreeing known-kinds in
-    rw (few (within agreeing), agree agreeing, known known-kinds, fit (c .before .before), ← c .before .between .ensures, not-false (c .before .between .result) (c .if7 .left))
+    rw (few (within agreeing), agree agreeing, known known-kinds, fit (c .before .before),
+        ← c .before .between .ensures, not-false (c .before .between .result) (c .if7 .left))
 
 pub check-spec : {M : Type 1} → statement M
 check-spec =

@@ -32,8 +32,9 @@ used-places-requires c κs = kind-at _ _ (c .before .before .before .before .bef
 -- an edge uses at most its eight places
 used : (c : tie.After-used-places Inv-loop μ-loop) → c .used-places .result ≤ 8
 used c =
-    let start = c .before .before .before .before .before .before in
-    omega (arith, kind-at (start .args .kinds .now) (c .before .before .before .loop .i) (start .pre .1) (c .before .before .loop-test .taken))
+    let turn = c .before .before in
+    let start = turn .before .before .before .before in
+    omega (arith, kind-at (start .args .kinds .now) (turn .before .loop .i) (start .pre .1) (turn .loop-test .taken))
 
 add-end : tie.Need-add-end Inv-loop μ-loop
 add-end c = omega (arith, used c)

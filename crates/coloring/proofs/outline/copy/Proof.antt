@@ -37,7 +37,9 @@ loop-less : tie.Need-loop-less Inv-loop μ-loop
 loop-less c = omega arith
 
 loop-again : tie.Need-loop-again Inv-loop μ-loop
-loop-again c = (omega arith, simp length-set (c .before .before .loop .inv .1), c .before .before .loop .inv .2 ∙ over-step _ _ _ nan (c .before .loop-test .taken) (omega arith))
+loop-again c =
+    let at = c .before .before .loop in
+    (omega arith, simp length-set (at .inv .1), at .inv .2 ∙ over-step _ _ _ nan (c .before .loop-test .taken) (omega arith))
 
 same-length : tie.Need-same-length Inv-loop μ-loop
 same-length c = omega arith

@@ -20,16 +20,24 @@ Inv-loop kinds points out-kinds₀ out-points₀ i₀ out-kinds out-points i =
 abbrev μ-loop : tie.MeasureT-loop
 μ-loop kinds points out-kinds₀ out-points₀ i₀ out-kinds out-points i = length kinds - i
 
+-- where the function began, from the head of the loop
+abbrev begun : tie.At-loop Inv-loop μ-loop → tie.Start Inv-loop μ-loop
+begun at = at .before .before .before .before .before
+
 loop-holds : tie.Need-loop-holds Inv-loop μ-loop
-loop-holds c = (omega arith, c .before .before .before .before .pre .0 .1, storing-all _ _ _ (c .before .before .before .before .pre .0 .1 ∙ sym (edges-length (c .before .before .before .before .args .kinds .now) (c .before .before .before .before .args .points .now))) (omega (arith, edges-length (c .before .before .before .before .args .kinds .now) (c .before .before .before .before .args .points .now))))
+loop-holds c =
+    let start = c .before .before .before .before in
+    let counted = edges-length (start .args .kinds .now) (start .args .points .now) in
+    (omega arith, start .pre .0 .1, storing-all _ _ _ (start .pre .0 .1 ∙ sym counted) (omega (arith, counted)))
 
 edge-at-requires : tie.Need-edge-at-requires Inv-loop μ-loop
 edge-at-requires c κs = omega arith
 
 write-edge-requires : tie.Need-write-edge-requires Inv-loop μ-loop
 write-edge-requires c κs =
-    let start = c .before .before .before .before .before .before .before .before .before in
-    omega (arith, edges-length (start .args .kinds .now) (start .args .points .now), c .before .before .before .loop-test .taken)
+    let turn = c .before .before .before in
+    let start = begun (turn .before) in
+    omega (arith, edges-length (start .args .kinds .now) (start .args .points .now), turn .loop-test .taken)
 
 add-i : tie.Need-add-i Inv-loop μ-loop
 add-i c = omega arith
@@ -39,14 +47,16 @@ loop-less c = omega arith
 
 loop-again : tie.Need-loop-again Inv-loop μ-loop
 loop-again c =
-    let start = c .before .before .before .before .before .before .before .before .before .before .before .before .before .before in
-    let turn = c .before .before .before .before .before .before .before .before .before in
-    let edge-at = c .before .before .before .before .before .before .before in
+    let written = c .before .before .before .before in
+    let read = written .before .before .before in
+    let at = read .before .before in
+    let start = begun at in
     let edges = edgesOf (start .args .kinds .now) (start .args .points .now) in
-    let i = turn .loop .i in
-    let next : drop i edges ≡ edge-at .edge-at .result ∷ drop (i + 1) edges =
-    rw (add-one, edge-at .edge-at .ensures) (drop-cons edges i anyEdge (omega (arith, edges-length (start .args .kinds .now) (start .args .points .now)))) in
-    (omega arith, c .before .before .before .before .write-edge .kept .1 .1 .0 ∙ turn .loop .inv .1, rw (c .before .before .before .before .write-edge .ensures .0, c .before .before .before .before .write-edge .ensures .1) (storing-one _ (drop (i + 1) edges) (i + 1) refl (rw next at (turn .loop .inv .2))))
+    let i = at .loop .i in
+    let next : drop i edges ≡ read .edge-at .result ∷ drop (i + 1) edges =
+    rw (add-one, read .edge-at .ensures) (drop-cons edges i anyEdge (omega (arith, edges-length (start .args .kinds .now) (start .args .points .now)))) in
+    (omega arith, written .write-edge .kept .1 .1 .0 ∙ at .loop .inv .1,
+    rw (written .write-edge .ensures .0, written .write-edge .ensures .1) (storing-one _ (drop (i + 1) edges) (i + 1) refl (rw next at (at .loop .inv .2))))
 
 same-length : tie.Need-same-length Inv-loop μ-loop
 same-length c = omega arith
@@ -56,9 +66,10 @@ same-length-2 c = omega arith
 
 returns : tie.Need-returns Inv-loop μ-loop
 returns c =
-    let start = c .before .before .before .before .before .before in
+    let start = begun (c .before) in
     let edges = edgesOf (start .args .kinds .now) (start .args .points .now) in
-    let none : drop (c .before .loop .i) edges ≡ [] = drop-of-length-le edges {i = c .before .loop .i} (omega (arith, edges-length (start .args .kinds .now) (start .args .points .now))) in
+    let none : drop (c .before .loop .i) edges ≡ [] =
+        drop-of-length-le edges {i = c .before .loop .i} (omega (arith, edges-length (start .args .kinds .now) (start .args .points .now))) in
     let ends = storing-ends (rw none at (c .before .loop .inv .2)) in
     record { kinds-are = ends .0; points-are = ends .1 }
 

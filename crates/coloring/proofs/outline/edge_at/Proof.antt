@@ -54,14 +54,17 @@ zero-requires-2 c κs = search needs
 
 -- what was decoded is the edge at place i
 module _ (c : tie.After-from-stored) where
+  abbrev copied : tie.After-copy
+  copied = c .before .before .before
+
   abbrev start : tie.Start
-  start = c .before .before .before .before .before .before .before .before
+  start = copied .before .before .before .before .before
 
   stands : decoded (decodedAnswer (c .from-stored .result)) ≡ getD (edgesOf (start .args .kinds .now) (start .args .points .now)) (start .args .i) anyEdge
   unfolding edgeStored
   stands =
       let i = start .args .i in
-      let copy = c .before .before .before .copy in
+      let copy = copied .copy in
       let eight : 8 * i + 8 - 8 * i ≡ 8 = omega arith in
       let places : copy .last .1 .0 ≡ take 8 (drop (8 * i) (start .args .points .now)) = copy .ensures ∙ rw eight in
       ap decoded (c .from-stored .ensures) ∙ ap (edgeStored (getD (start .args .kinds .now) i 0)) places ∙ sym (edges-at _ _ i anyEdge (start .pre .0))
@@ -70,7 +73,8 @@ returns : tie.Need-returns
 returns c = sym (ap (λ r. decoded (decodedAnswer r)) (c .before .e .given .1)) ∙ stands (c .before .before .before)
 
 returns-2 : tie.Need-returns-2
-returns-2 c = rw (c .before .zero .ensures, c .zero2 .ensures) (sym (ap (λ r. decoded (decodedAnswer r)) (c .before .before .enum-told .given .1)) ∙ stands (c .before .before .before .before))
+returns-2 c = rw (c .before .zero .ensures, c .zero2 .ensures)
+    (sym (ap (λ r. decoded (decodedAnswer r)) (c .before .before .enum-told .given .1)) ∙ stands (c .before .before .before .before))
 
 pub edge-at-spec : {M : Type 1} → statement M
 edge-at-spec =

@@ -27,7 +27,9 @@ known-kind-requires : tie.Need-known-kind-requires Inv-loop μ-loop
 known-kind-requires c κs = search needs
 
 returns : tie.Need-returns Inv-loop μ-loop
-returns c = scan-fail knownKind 0 _ _ (c .before .before .before .before .loop .inv .1) (c .before .before .before .loop-test .taken) (sym (c .before .known-kind .ensures) ∙ not-true _ (c .if1 .taken))
+returns c =
+    let turn = c .before .before .before in
+    scan-fail knownKind 0 _ _ (turn .before .loop .inv .1) (turn .loop-test .taken) (sym (c .before .known-kind .ensures) ∙ not-true _ (c .if1 .taken))
 
 add-i : tie.Need-add-i Inv-loop μ-loop
 add-i c = omega arith
@@ -36,7 +38,10 @@ loop-less : tie.Need-loop-less Inv-loop μ-loop
 loop-less c = omega arith
 
 loop-again : tie.Need-loop-again Inv-loop μ-loop
-loop-again c = (omega arith, scan-more knownKind 0 _ _ (c .before .before .before .before .loop .inv .1) (c .before .before .before .loop-test .taken) (sym (c .before .known-kind .ensures) ∙ not-false _ (c .if1 .left)))
+loop-again c =
+    let turn = c .before .before .before in
+    (omega arith,
+    scan-more knownKind 0 _ _ (turn .before .loop .inv .1) (turn .loop-test .taken) (sym (c .before .known-kind .ensures) ∙ not-false _ (c .if1 .left)))
 
 returns-2 : tie.Need-returns-2 Inv-loop μ-loop
 returns-2 c = scan-end knownKind 0 _ _ (c .before .loop .inv .1) (c .loop-test .left)

@@ -50,11 +50,12 @@ same-length-2 c = search needs
 
 returns : tie.Need-returns
 returns c =
-    let start = c .before .before .before .before .before .before .before .before .before in
-    let to-stored = c .before .before .before .before .before .before in
+    let copied = c .before .before in
+    let encoded = copied .before .before .before .before in
+    let start = encoded .before .before .before in
     let i = start .args .i in
     let eight : 8 * i + 8 - 8 * i ≡ 8 = omega arith in
-    (rw (to-stored .to-stored .ensures), rw (eight, c .before .before .copy .ensures, to-stored .to-stored .ensures) (over-part (8 * i) 8 _ _ (places-length _)))
+    (rw (encoded .to-stored .ensures), rw (eight, copied .copy .ensures, encoded .to-stored .ensures) (over-part (8 * i) 8 _ _ (places-length _)))
 
 pub write-edge-spec : {M : Type 1} → statement M
 write-edge-spec =

@@ -17,7 +17,8 @@ abbrev merged : tie.After-copy → tie.After-merge
 merged c = c .before .before .before .before .before
 
 -- the part from `half` on is the rest
-second : (c : tie.Start) → take (length (c .args .order .now) - c .args .half) (drop (c .args .half) (c .args .order .now)) ≡ drop (c .args .half) (c .args .order .now)
+second : (c : tie.Start)
+    → take (length (c .args .order .now) - c .args .half) (drop (c .args .half) (c .args .order .now)) ≡ drop (c .args .half) (c .args .order .now)
 second c = take-all (length (c .args .order .now) - c .args .half) (drop (c .args .half) (c .args .order .now)) (simp length-drop (omega arith))
 
 slice-aggregate-merge : tie.Need-slice-aggregate-merge

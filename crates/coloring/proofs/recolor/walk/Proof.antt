@@ -14,7 +14,8 @@ use borrow.Author.Tests.{not-true, not-false}
 use Rattle.coloring.specs.Recolor.{joined, forcedStep, row, force, vertexPossibleColors, firstPossibleColor, walkFrom, ring, recoloring}
 use Rattle.coloring.proofs.recolor.RowLaws.{row-length}
 use Rattle.coloring.proofs.recolor.FreeColorLaws.{possible-below, forced-here, forced-next, step-rises}
-use Rattle.coloring.proofs.recolor.WalkLaws.{left, left-free, freeOf, stepOf, forced, Goes, goes-start, goes-empty, goes-stop, goes-first, goes-free, goes-uncolor, goes-forced, less-forced, forced-same}
+use Rattle.coloring.proofs.recolor.WalkLaws.{left, left-free, freeOf, stepOf, forced, WalkInvariant, walk-begins, walk-done}
+use Rattle.coloring.proofs.recolor.WalkLaws.{walk-stops, walk-first, walk-free, walk-uncolors, walk-forces, less-forced, forced-same}
 use Rattle.coloring.proofs.recolor.walk.Statement.{statement}
 use Rattle.coloring.proofs.recolor.walk.Tie as tie
 
@@ -27,7 +28,7 @@ abbrev μ-loop : tie.MeasureT-loop
 
 abbrev Inv-walk : tie.InvT-walk
 Inv-walk coloring₀ queue₀ edge-matrix a c first n head₀ waiting₀ step₀ coloring queue head waiting step =
-    Goes n edge-matrix a c (walkFrom edge-matrix a c (recoloring coloring₀ queue₀ 0 first)) coloring queue head waiting step
+    WalkInvariant n edge-matrix a c (walkFrom edge-matrix a c (recoloring coloring₀ queue₀ 0 first)) coloring queue head waiting step
 
 abbrev μ-walk : tie.MeasureT-walk
 μ-walk coloring₀ queue₀ edge-matrix a c first n head₀ waiting₀ step₀ coloring queue head waiting step = left n step waiting
@@ -54,7 +55,7 @@ module _ (c : tie.After-slice-known3 Inv-loop μ-loop Inv-walk μ-walk) where
   some = c .before .walk-test .taken
 
   first : spline < n
-  first = goes-first (at .walk .inv) some
+  first = walk-first (at .walk .inv) some
 
 -- ---- its row and its free colours
 
@@ -164,7 +165,7 @@ ring-kept : (c : tie.At-walk Inv-loop μ-loop Inv-walk μ-walk) → length (c .w
 ring-kept c = c .walk .inv .room ∙ sym (c .before .before .before .before .pre .queued .size)
 
 walk-holds : tie.Need-walk-holds Inv-loop μ-loop Inv-walk μ-walk
-walk-holds c = let start = c .before .before .before in goes-start (start .args .a) (start .args .c) (start .pre)
+walk-holds c = let start = c .before .before .before in walk-begins (start .args .a) (start .args .c) (start .pre)
 
 slice-read-i : tie.Need-slice-read-i Inv-loop μ-loop Inv-walk μ-walk
 slice-read-i c = omega (arith, at c .walk .inv .room, at c .walk .inv .start)
@@ -203,7 +204,7 @@ walk-again c =
     let f = low .before in
     let t = taken f in
     let color = c .first-possible-color .ensures ∙ ap firstPossibleColor (free f) in
-    rw color (goes-free (at t .walk .inv) (some t) (low .if1 .left) (λ e. c .before .if2 .taken (free f ∙ e)))
+    rw color (walk-free (at t .walk .inv) (some t) (low .if1 .left) (λ e. c .before .if2 .taken (free f ∙ e)))
 
 shared-slice-read-joined : tie.Need-shared-slice-read-joined Inv-loop μ-loop Inv-walk μ-walk
 shared-slice-read-joined c = let f = c .before .before .before in omega (arith, cut-size (cut-out f), start (taken f) .pre .inside)
@@ -238,7 +239,7 @@ uncolor-same-neighbors-requires :
 uncolor-same-neighbors-requires c κs =
     let tested = c .before .before .before in
     let t = forcing tested .before in (
-      rw (cut (forcing tested)) (goes-uncolor (at t .walk .inv) (some t) (start t .pre .entries) (tested .before .loop .step % 3) (omega arith)),
+      rw (cut (forcing tested)) (walk-uncolors (at t .walk .inv) (some t) (start t .pre .entries) (tested .before .loop .step % 3) (omega arith)),
       rw length-set (omega (arith, first t, at t .walk .inv .going .size)),
     )
 
@@ -253,7 +254,7 @@ walk-again-2 : tie.Need-walk-again-2 Inv-loop μ-loop Inv-walk μ-walk
 walk-again-2 c =
     let u = c .before .before .before .before in
     rw (next-step u)
-    (goes-forced (at (off u) .walk .inv) (some (off u)) (low (tested u) .if1 .left) (none u) (now-coloring u) (now-queue u)
+    (walk-forces (at (off u) .walk .inv) (some (off u)) (low (tested u) .if1 .left) (none u) (now-coloring u) (now-queue u)
     (u .uncolor-same-neighbors .result) (moved u) (u .uncolor-same-neighbors .kept .1 .0))
 
 same-length : tie.Need-same-length Inv-loop μ-loop Inv-walk μ-walk
@@ -263,7 +264,7 @@ same-length-2 : tie.Need-same-length-2 Inv-loop μ-loop Inv-walk μ-walk
 same-length-2 c = ring-kept (c .before .before)
 
 returns : tie.Need-returns Inv-loop μ-loop Inv-walk μ-walk
-returns c = goes-empty (c .before .before .walk .inv) (c .if5 .taken)
+returns c = walk-done (c .before .before .walk .inv) (c .if5 .taken)
 
 same-length-3 : tie.Need-same-length-3 Inv-loop μ-loop Inv-walk μ-walk
 same-length-3 c = c .before .before .walk .inv .going .size
@@ -274,7 +275,7 @@ same-length-4 c = ring-kept (c .before .before)
 returns-2 : tie.Need-returns-2 Inv-loop μ-loop Inv-walk μ-walk
 returns-2 c =
     let at-end = c .before .before in
-    ⊎-elim (λ w. absurd (c .if5 .left (omega (arith, w .left)))) (λ w. goes-stop (at-end .walk .inv) (w .0 .taken) (w .5 .taken)) (c .before .walk-test .came)
+    ⊎-elim (λ w. absurd (c .if5 .left (omega (arith, w .left)))) (λ w. walk-stops (at-end .walk .inv) (w .0 .taken) (w .5 .taken)) (c .before .walk-test .came)
 
 pub walk-spec : {M : Type 1} → statement M
 walk-spec =

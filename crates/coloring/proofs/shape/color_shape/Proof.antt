@@ -2,7 +2,6 @@
 -- result.
 use borrow.Author.Needs.{needs}
 use mathlib.Core.Path.{_≡_, sym, ap, _∙_}
-use mathlib.Core.Bool.{Bool}
 use mathlib.Core.List.{List, _++_, map}
 use Prim.Native.Nat.{ℕ, _≤_}
 use native.Mathlib.Omega.{arith}
@@ -10,7 +9,6 @@ use lib.ListN.{length, take, drop, replicate, length-append}
 use lib.Seq.{length-take-le, take-at}
 use Rattle.geometry.specs.declared.edge_segment.EdgeSegment.{EdgeSegment}
 use Rattle.coloring.specs.Answers.{checkedAnswer, firstRefusal}
-use Rattle.coloring.specs.declared.outline.Counts.{Counts}
 use Rattle.coloring.specs.declared.settings.Marking.{Marking}
 use Rattle.coloring.specs.Limits.{maxShapeSplines}
 use Rattle.coloring.specs.Corners.{Cornered, cornered}
@@ -74,7 +72,8 @@ module _ (c : tie.After-spline-values) where
 
   answer : checkedAnswer (c .spline-values .result) ≡ firstRefusal (checkMarking marking (splineTotal (map layout (found s))) (s .args .distances .now))
   answer =
-      let total = splines-counted (s .args .lengths .now) (edges s) (s .args .flags .now) (counted .count-shape .result) (flagged s) (counted .count-shape .ensures) in
+      let total =
+          splines-counted (s .args .lengths .now) (edges s) (s .args .flags .now) (counted .count-shape .result) (flagged s) (counted .count-shape .ensures) in
       c .spline-values .ensures .0 ∙ ap (λ (n : ℕ). firstRefusal (checkMarking marking n (s .args .distances .now))) (long counted ∙ sym total)
 
   abbrev values : List ℕ
@@ -151,7 +150,8 @@ returns-2 c =
     let valued = told .before .before .before in
     let s = s valued in
     let passed = told .enum-told .given .1 in
-    let split = values-laid (marking valued) (s .args .distances .now) (found s) (cut-flagged (s .args .lengths .now) (edges s) (s .args .flags .now) (flagged s)) in
+    let split =
+        values-laid (marking valued) (s .args .distances .now) (found s) (cut-flagged (s .args .lengths .now) (edges s) (s .args .flags .now) (flagged s)) in
     painted .paint-shape .ensures
     ∙ values-passed (marking valued) (s .args .distances .now) (found s) (old s) (sym (answer valued) ∙ ap checkedAnswer passed)
     (front valued ∙ valued .spline-values .ensures .1 passed ∙ sym split)

@@ -40,7 +40,8 @@ module _ (c : tie.In-loop Inv-loop μ-loop) where
   step : (count : List Bool → ℕ)
       → let s = c .before .loop in
       left count (start .args .lengths .now) (start .args .flags .now) (s .i) (s .at)
-      ≡ count (take (s .at + n - s .at) (drop (s .at) (start .args .flags .now))) + left count (start .args .lengths .now) (start .args .flags .now) (s .i + 1) (s .at + n)
+      ≡ count (take (s .at + n - s .at) (drop (s .at) (start .args .flags .now)))
+      + left count (start .args .lengths .now) (start .args .flags .now) (s .i + 1) (s .at + n)
   step count =
       let s = c .before .loop in
       let whole : s .at + n - s .at ≡ n = omega arith in

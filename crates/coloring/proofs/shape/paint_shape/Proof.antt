@@ -15,7 +15,8 @@ use Rattle.coloring.specs.Outline.{Result, edgesOf, result, resultFits}
 use Rattle.coloring.specs.Shape.{painted}
 use Rattle.coloring.proofs.outline.EdgeLaws.{edges-length}
 use Rattle.coloring.specs.DeliverLaws.{deliver-short}
-use Rattle.coloring.proofs.shape.DeliverLaws.{laidOut, sized-fits, room-fits, counted-sized, front-total, front-length, front-splines, painted-delivered}
+use Rattle.coloring.proofs.shape.DeliverLaws.{laidOut, sized-fits, room-fits, counted-sized}
+use Rattle.coloring.proofs.shape.DeliverLaws.{front-total, front-length, front-splines, painted-delivered}
 use Rattle.coloring.proofs.shape.paint_shape.Statement.{statement}
 use Rattle.coloring.proofs.shape.paint_shape.Tie as tie
 
@@ -47,7 +48,8 @@ module _ (c : tie.After-has-room) where
   fit : resultFits (written start) (old start) ≡ c .has-room .result
   fit =
       let a = start .args in
-      sized-fits (old start) (counted-sized (a .lengths .now) (edges start) (a .flags .now) (a .counts) (flagged start) (start .pre .1 .0) _ _) ∙ sym (c .has-room .ensures)
+      sized-fits (old start) (counted-sized (a .lengths .now) (edges start) (a .flags .now) (a .counts) (flagged start) (start .pre .1 .0) _ _)
+          ∙ sym (c .has-room .ensures)
 
 -- there is room
 module _ (c : tie.Else1) where

@@ -46,7 +46,8 @@ loop-holds c =
     let n = length (c .before .before .before .args .colors .now) in
     let first = c .before .switch-color .result in
     let l : length (all first (n - 1) .colors) ≡ n = omega (arith, from-length (first .color) (n - 1) first) in
-    (omega arith, omega arith, rw (c .bits .ensures) (drawing-next _ _ _ (omega arith) (drawing-starts (all first (n - 1)) (c .before .before .before .args .colors .now) l)))
+    (omega arith, omega arith,
+        rw (c .bits .ensures) (drawing-next _ _ _ (omega arith) (drawing-starts (all first (n - 1)) (c .before .before .before .args .colors .now) l)))
 
 sub-banned-before : tie.Need-sub-banned-before Inv-loop μ-loop
 sub-banned-before c = omega arith
@@ -75,13 +76,15 @@ loop-less c = omega arith
 loop-again : tie.Need-loop-again Inv-loop μ-loop
 unfolding simpleFrom
 loop-again c =
-    let start = c .before .before .before .before .before .before .before .before in
-    let at = c .before .before .before .before .loop in
+    let head = c .before .before .before .before in
+    let start = head .before .before .before .before in
+    let at = head .loop in
     let n = length (start .args .colors .now) in
     let h : at .i < n = omega (arith, at .inv .2 .long) in
     let e : n - at .i ≡ suc (n - (at .i + 1)) = omega arith in
     let left : n - 1 - at .i ≡ n - (at .i + 1) = omega arith in
-    (omega arith, omega arith, rw (c .bits2 .ensures, c .before .switch-color-banned .ensures, c .before .before .banned-before .ensures, left) (drawing-next _ _ _ h (rw e at (at .inv .2))))
+    (omega arith, omega arith, rw (c .bits2 .ensures, c .before .switch-color-banned .ensures, c .before .before .banned-before .ensures, left)
+        (drawing-next _ _ _ h (rw e at (at .inv .2))))
 
 same-length : tie.Need-same-length Inv-loop μ-loop
 same-length c = c .before .loop .inv .2 .long

@@ -24,18 +24,22 @@ enum-told-2 c = search needs
 
 color-valid-requires : tie.Need-color-valid-requires
 color-valid-requires c κs =
-    let a = c .before .before .before .before .before .before .args in
-    check-passed (length (a .coloring .now)) (a .distances .now) (sym (c .before .before .before .check-splines .ensures) ∙ ap checkedAnswer (c .before .enum-told2 .given .1))
+    let checked = c .before .before .before in
+    let a = checked .before .before .before .args in
+    check-passed (length (a .coloring .now)) (a .distances .now)
+        (sym (checked .check-splines .ensures) ∙ ap checkedAnswer (c .before .enum-told2 .given .1))
 
 same-length : tie.Need-same-length
 same-length c = search needs
 
 returns-2 : tie.Need-returns-2
 returns-2 c =
-    let checked = c .before .before .before .before .before .before in
+    let called = c .before .before in
+    let passed = called .before .before in
+    let checked = passed .before .before in
     let a = checked .before .before .before .args in
-    let passed = c .before .before .before .before .enum-told2 .given .1 in
-    splines-passed (a .distances .now) (a .seed) (a .coloring .now) (ap checkedAnswer passed) (checked .check-splines .ensures) (c .before .before .color-valid .ensures)
+    splines-passed (a .distances .now) (a .seed) (a .coloring .now) (ap checkedAnswer (passed .enum-told2 .given .1))
+        (checked .check-splines .ensures) (called .color-valid .ensures)
 
 pub color-splines-spec : {M : Type 1} → statement M
 color-splines-spec =

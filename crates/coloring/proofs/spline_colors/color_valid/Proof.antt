@@ -61,7 +61,8 @@ module _ (c : tie.After-order-pairs) where
   front l e = take-at l (drop (m start) zeros) (m start) e
 
   ordered :
-      Ordered (n start) (take (n start * n start) (replicate 4096 0)) (take (m start) (codes ++ drop (m start) zeros)) (take (m start) (order ++ drop (m start) zeros))
+      Ordered (n start) (take (n start * n start) (replicate 4096 0))
+          (take (m start) (codes ++ drop (m start) zeros)) (take (m start) (order ++ drop (m start) zeros))
       (start .args .distances .now)
   ordered =
       record {

@@ -6,7 +6,8 @@ use native.Mathlib.Omega.{arith}
 use borrow.Author.Tests.{leb-true, leb-false, eqb-true, eqb-false, not-true, not-false}
 use Rattle.coloring.specs.SplineTable.{Table, tableOf}
 use Rattle.coloring.proofs.recolor.RowLaws.{square-below}
-use Rattle.coloring.proofs.spline_table.OfferLaws.{Unrefused, unrefused-offerable, offer-many, offer-lengths, offer-unsound, offer-first, offer-second, offer-equal, offer-rule}
+use Rattle.coloring.proofs.spline_table.OfferLaws.{Unrefused, unrefused-offerable, offer-many, offer-lengths, offer-unsound}
+use Rattle.coloring.proofs.spline_table.OfferLaws.{offer-first, offer-second, offer-equal, offer-rule}
 use borrow.Author.Needs.{needs}
 use Rattle.coloring.proofs.spline_table.try_add_edge.Statement.{statement}
 use Rattle.coloring.proofs.spline_table.try_add_edge.Tie as tie

@@ -30,7 +30,8 @@ shared-slice-read-value c = omega arith
 loop-holds : tie.Need-loop-holds Inv-loop μ-loop
 loop-holds c =
     let a = c .before .args in
-    (omega arith, omega arith, c .before .pre .1, sym (over-all (spread _ (a .values .now) (a .flags .now)) (a .out .now) (c .before .pre .1 ∙ sym (spread-length _ (a .values .now) (a .flags .now)))))
+    (omega arith, omega arith, c .before .pre .1,
+        sym (over-all (spread _ (a .values .now) (a .flags .now)) (a .out .now) (c .before .pre .1 ∙ sym (spread-length _ (a .values .now) (a .flags .now)))))
 
 shared-slice-read-if1 : tie.Need-shared-slice-read-if1 Inv-loop μ-loop
 shared-slice-read-if1 c = omega arith
@@ -63,14 +64,16 @@ loop-again c =
       omega arith,
       omega (arith, w .4),
       simp length-set (at .inv .2),
-      at .inv .3 ∙ rw (w .3, w .4, spread-corner (at .value) values flags (at .next) (at .i) h 0 (w .0 .taken) (w .1 .taken)) (over-next (at .i) _ _ (at .out) room),
+      at .inv .3
+          ∙ rw (w .3, w .4, spread-corner (at .value) values flags (at .next) (at .i) h 0 (w .0 .taken) (w .1 .taken)) (over-next (at .i) _ _ (at .out) room),
     ))
     (⊎-elim
     (λ w. (
       omega arith,
       omega (arith, w .3),
       simp length-set (at .inv .2),
-      at .inv .3 ∙ rw (w .2, w .3, spread-beyond (at .value) values flags (at .next) (at .i) h (w .0 .taken) (w .1 .left)) (over-next (at .i) _ _ (at .out) room),
+      at .inv .3
+          ∙ rw (w .2, w .3, spread-beyond (at .value) values flags (at .next) (at .i) h (w .0 .taken) (w .1 .left)) (over-next (at .i) _ _ (at .out) room),
     ))
     (λ w. (
       omega arith,
@@ -87,7 +90,8 @@ returns : tie.Need-returns Inv-loop μ-loop
 returns c =
     let at = c .before .loop in
     let a = c .before .before .before .args in
-    sym (at .inv .3 ∙ rw (spread-end (at .value) (drop (at .next) (a .values .now)) (a .flags .now) (at .i) (c .loop-test .left)) (over-nothing (at .i) (at .out)))
+    sym (at .inv .3
+        ∙ rw (spread-end (at .value) (drop (at .next) (a .values .now)) (a .flags .now) (at .i) (c .loop-test .left)) (over-nothing (at .i) (at .out)))
 
 pub spread-spec : {M : Type 1} → statement M
 spread-spec =

@@ -19,7 +19,8 @@ module _ (pen : Pen) (banned : EdgeColor) (bits banned-bits : ℕ) (b : bits ≡
   combined : bitAnd bits banned-bits ≡ shared (pen .color) banned
   combined = rw (b, b′) (and-shared (pen .color) banned)
 
-  fires : flag ≡ true → (color : EdgeColor) → color ≡ fromBits (bitXor (bitAnd bits banned-bits) 7) → record { color = color; seed = pen .seed } ≡ switchColorBanned banned pen
+  fires : flag ≡ true → (color : EdgeColor) → color ≡ fromBits (bitXor (bitAnd bits banned-bits) 7)
+      → record { color = color; seed = pen .seed } ≡ switchColorBanned banned pen
   unfolding switchColorBanned
   fires taken color e =
       let below : bitAnd bits banned-bits < 8 = omega (arith, and-le-r bits banned-bits, bits-below banned) in
@@ -56,7 +57,8 @@ returns-2 : tie.Need-returns-2
 returns-2 c =
     let start = c .before .before .before .before .before in
     let one = c .before .before .before .before in
-    c .switch-color .ensures ∙ draws (start .args .pen) (start .args .banned) (one .bits .result) (c .before .before .before .bits2 .result) (one .bits .ensures)
+    c .switch-color .ensures
+        ∙ draws (start .args .pen) (start .args .banned) (one .bits .result) (c .before .before .before .bits2 .result) (one .bits .ensures)
     (c .before .before .before .bits2 .ensures) (c .before .before .one-channel .result) (c .before .before .one-channel .ensures) (c .before .if1 .left)
 
 pub switch-color-banned-spec : {M : Type 1} → statement M

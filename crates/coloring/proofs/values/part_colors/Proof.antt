@@ -80,9 +80,12 @@ returns c =
     let splines = splineColors (a .strategy) (a .pen) (part (a .kinds .now) (a .points .now) (a .flags .now) (a .at) (a .end)) in
     let held = rw (edges-between (a .at) (a .end) (a .kinds .now) (a .points .now) (start .pre .0 .start)) at (called .spline-colors .ensures) in
     let part-long = mid-len (a .to) (a .next) (a .colors .now) (start .pre .1 .1) in
-    let long : length (map bitsOf (splines .colors)) ≡ a .next - a .to = sym (ap length (held .colors-are)) ∙ called .spline-colors .kept .1 .1 .1 .1 .1 .0 ∙ part-long in
+    let long : length (map bitsOf (splines .colors)) ≡ a .next - a .to =
+        sym (ap length (held .colors-are)) ∙ called .spline-colors .kept .1 .1 .1 .1 .1 .0 ∙ part-long in
     record {
-      colors-are = rw (held .colors-are) (part-front (a .to) (a .next - a .to) (a .next) (map bitsOf (splines .colors)) _ (a .colors .now) long (omega (arith, start .pre .1 .1)) (omega (arith, start .pre .1 .0)));
+      colors-are = rw (held .colors-are)
+          (part-front (a .to) (a .next - a .to) (a .next) (map bitsOf (splines .colors)) _
+          (a .colors .now) long (omega (arith, start .pre .1 .1)) (omega (arith, start .pre .1 .0)));
       pen-is = held .pen-is;
     }
 

@@ -25,7 +25,8 @@ abbrev colorBytes : Strategy → Pen → List Cornered → List ℕ
 colorBytes strategy pen contours = map bitsOf (shapeColors strategy pen contours)
 
 -- i contours, with their edges before `at`, have their colours in the places before `to`
-record Coloring (strategy : Strategy) (lengths : List ℕ) (xs : List EdgeSegment) (flags : List Bool) (pen₀ : Pen) (n m : ℕ) (colors : List ℕ) (pen : Pen) (at to i : ℕ) : Type 0 where
+record Coloring (strategy : Strategy) (lengths : List ℕ) (xs : List EdgeSegment) (flags : List Bool)
+    (pen₀ : Pen) (n m : ℕ) (colors : List ℕ) (pen : Pen) (at to i : ℕ) : Type 0 where
   pub along : Along lengths n at i
   pub long : length colors ≡ m
   pub splines : to + left splineCount lengths flags i at ≡ m
@@ -47,7 +48,9 @@ module _ (strategy : Strategy) (lengths : List ℕ) (xs : List EdgeSegment) (fla
         along = along-next _ _ _ _ (s .along) h;
         long = same ∙ s .long;
         splines = omega (arith, counted, s .splines, left-step splineCount lengths flags i at h);
-        bytes = s .bytes ∙ rw (cornered-step lengths xs flags i at h, held .colors-are, held .pen-is, map-append bitsOf (splineColors strategy pen here .colors) _, append-assoc);
+        bytes = s .bytes
+            ∙ rw (cornered-step lengths xs flags i at h, held .colors-are, held .pen-is,
+            map-append bitsOf (splineColors strategy pen here .colors) _, append-assoc);
       }
 
 abbrev Inv-loop : tie.InvT-loop

@@ -3,7 +3,6 @@ use borrow.Author.Needs.{needs}
 use mathlib.Core.Path.{_≡_, refl, sym, ap, _∙_}
 use mathlib.Core.List.{List, map}
 use Prim.Native.Nat.{ℕ, _≤_, _<_}
-use native.Mathlib.Omega.{arith}
 use lib.Ieee.{Float}
 use lib.ListN.{length}
 use borrow.Author.Tests.{le-leb, lt-leb}
@@ -11,9 +10,9 @@ use Rattle.geometry.specs.EdgeColor.{bitsOf}
 use Rattle.coloring.specs.declared.refusal.Refusal.the-variants.{TooMany}
 use Rattle.coloring.specs.declared.refusal.Checked.{Checked}
 use Rattle.coloring.specs.declared.refusal.Checked.the-variants.{Passed, Failed}
-use Rattle.coloring.specs.Answers.{Answer, checkedAnswer, firstRefusal}
+use Rattle.coloring.specs.Answers.{checkedAnswer, firstRefusal}
 use Rattle.coloring.specs.Lists.{range}
-use Rattle.coloring.specs.SplineColors.{colorSplines, checkSplines, splinesColored, colorSplinesInto}
+use Rattle.coloring.specs.SplineColors.{colorSplines, splinesColored, colorSplinesInto}
 use Rattle.coloring.specs.declared.settings.Strategy.{Strategy}
 use Rattle.coloring.specs.declared.settings.Marking.{Marking}
 use Rattle.coloring.specs.declared.settings.Marking.the-variants.{Colors, Numbers, Distances}
@@ -33,7 +32,8 @@ module _ (distances : List Float) (found : List Cornered) (n : ℕ) (sized : n �
   Valued marking r values = (checkedAnswer r ≡ firstRefusal (checkMarking marking n distances)) × (r ≡ Passed → values ≡ splineValues marking distances found)
 
   module _ {marking : Marking} {values : List ℕ} where
-    by-colors : {strategy : Strategy} {seed : ℕ} → marking ≡ Colors strategy seed → values ≡ map bitsOf (shapeColors strategy (initColor seed) found) → Valued marking Passed values
+    by-colors : {strategy : Strategy} {seed : ℕ} → marking ≡ Colors strategy seed
+        → values ≡ map bitsOf (shapeColors strategy (initColor seed) found) → Valued marking Passed values
     unfolding splineValues firstRefusal
     by-colors m e = rw m (refl, λ p. e)
 
@@ -51,7 +51,9 @@ module _ (distances : List Float) (found : List Cornered) (n : ℕ) (sized : n �
     unfolding splineValues
     by-distances old {seed} {r} {coloring} m long colors e =
         let outcome = splines-told distances seed old r coloring colors in
-        rw m (rw long at (outcome .0), λ p. e ∙ ap (map (λ color. bitsOf (splineColor color))) (outcome .1 p ∙ ap (λ (k : ℕ). colorSplines k distances seed) (long ∙ sized)))
+        rw m
+            (rw long at (outcome .0),
+            λ p. e ∙ ap (map (λ color. bitsOf (splineColor color))) (outcome .1 p ∙ ap (λ (k : ℕ). colorSplines k distances seed) (long ∙ sized)))
 
 module _ (c : tie.After-slice-known) where
   abbrev start : tie.Start
