@@ -34,7 +34,7 @@ place-cases start k m s h =
 place-other : (start k i m : ℕ) → start ≤ m → k < i → i < m → (start + k) % m ≡ (start + i) % m → ⊥
 place-other start k i m s h l e =
     ⊎-elim (λ a. ⊎-elim (λ b. omega arith) (λ b. omega arith) (place-cases start i m s l))
-        (λ a. ⊎-elim (λ b. omega arith) (λ b. omega arith) (place-cases start i m s l))
+    (λ a. ⊎-elim (λ b. omega arith) (λ b. omega arith) (place-cases start i m s l))
     (place-cases start k m s (omega arith))
 
 -- each place is reached

@@ -27,8 +27,8 @@ use Rattle.coloring.specs.Examples.{squareOutline, fourEdges, eighth}
 pub square-edges :
     (collectSplines squareOutline eighth fourEdges .buffers .colors ≡ (0 ∷ 1 ∷ 2 ∷ 3 ∷ []))
     × (edgeColoringByDistance squareOutline eighth 0 squareDistances fourEdges .buffers .colors ≡ (3 ∷ 6 ∷ 5 ∷ 6 ∷ []))
-unfolding squareOutline edgeColoring validDistance cornerCount firstCorner offerSplines offer direction sub dot cross divScalar squaredLength lengthOf normalize sqrtOf toStored fromStored
-    Ieee.add Ieee.sub Ieee.mul Ieee.div Ieee.neg Ieee.ne Ieee.le Ieee.lt Ieee.eq Ieee.ofBits
+unfolding squareOutline edgeColoring validDistance cornerCount firstCorner offerSplines offer direction sub dot cross divScalar squaredLength lengthOf normalize
+    sqrtOf toStored fromStored Ieee.add Ieee.sub Ieee.mul Ieee.div Ieee.neg Ieee.ne Ieee.le Ieee.lt Ieee.eq Ieee.ofBits
 square-edges = (refl, refl)
 
 -- ---- numbers and colours

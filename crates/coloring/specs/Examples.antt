@@ -85,19 +85,19 @@ abbrev pub eighth : Float
 eighth = fin false 1 (negsuc 2)
 
 pub simple-square : edgeColoringSimple squareOutline eighth 0 fourEdges .buffers .colors ≡ (5 ∷ 3 ∷ 6 ∷ 3 ∷ [])
-unfolding squareOutline edgeColoring cornerCount firstCorner direction sub dot cross divScalar squaredLength lengthOf normalize sqrtOf toStored fromStored
-    Ieee.add Ieee.sub Ieee.mul Ieee.div Ieee.neg Ieee.ne Ieee.le Ieee.lt Ieee.ofBits
+unfolding squareOutline edgeColoring cornerCount firstCorner direction sub dot cross divScalar squaredLength lengthOf normalize
+    sqrtOf toStored fromStored Ieee.add Ieee.sub Ieee.mul Ieee.div Ieee.neg Ieee.ne Ieee.le Ieee.lt Ieee.ofBits
 simple-square = refl
 
 pub ink-trap-square : edgeColoringInkTrap squareOutline eighth 0 fourEdges .buffers .colors ≡ (5 ∷ 3 ∷ 6 ∷ 3 ∷ [])
-unfolding squareOutline edgeColoring cornerCount firstCorner direction point vmix add sub mulScalar dot cross divScalar squaredLength lengthOf normalize sqrtOf toStored fromStored
-    Ieee.add Ieee.sub Ieee.mul Ieee.div Ieee.neg Ieee.ne Ieee.le Ieee.lt Ieee.ofBits
+unfolding squareOutline edgeColoring cornerCount firstCorner direction point vmix add sub mulScalar dot cross divScalar squaredLength lengthOf normalize
+    sqrtOf toStored fromStored Ieee.add Ieee.sub Ieee.mul Ieee.div Ieee.neg Ieee.ne Ieee.le Ieee.lt Ieee.ofBits
 ink-trap-square = refl
 
 -- refutes one that colours the first contour only, or begins each with a new pen
 pub two-squares : edgeColoringSimple (squares 2) eighth 0 (room 2 (replicate 8 9)) .buffers .colors ≡ (5 ∷ 3 ∷ 6 ∷ 3 ∷ 6 ∷ 5 ∷ 3 ∷ 5 ∷ [])
-unfolding squares edgeColoring cornerCount firstCorner direction sub dot cross divScalar squaredLength lengthOf normalize sqrtOf toStored fromStored
-    Ieee.add Ieee.sub Ieee.mul Ieee.div Ieee.neg Ieee.ne Ieee.le Ieee.lt Ieee.ofBits
+unfolding squares edgeColoring cornerCount firstCorner direction sub dot cross divScalar squaredLength lengthOf normalize
+    sqrtOf toStored fromStored Ieee.add Ieee.sub Ieee.mul Ieee.div Ieee.neg Ieee.ne Ieee.le Ieee.lt Ieee.ofBits
 two-squares = refl
 
 -- the square into buffers with room for so many colours
@@ -108,14 +108,14 @@ into colors = edgeColoringSimple squareOutline eighth 0 (room 1 colors)
 pub exactly-fits :
     (into (9 ∷ 9 ∷ 9 ∷ 9 ∷ 8 ∷ []) .answer ≡ gives (record { contours = 1; edges = 4; splines = 4 }))
     × (into (9 ∷ 9 ∷ 9 ∷ 9 ∷ 8 ∷ []) .buffers .colors ≡ (5 ∷ 3 ∷ 6 ∷ 3 ∷ 8 ∷ []))
-unfolding squareOutline edgeColoring cornerCount firstCorner direction sub dot cross divScalar squaredLength lengthOf normalize sqrtOf toStored fromStored
-    Ieee.add Ieee.sub Ieee.mul Ieee.div Ieee.neg Ieee.ne Ieee.le Ieee.lt Ieee.ofBits
+unfolding squareOutline edgeColoring cornerCount firstCorner direction sub dot cross divScalar squaredLength lengthOf normalize
+    sqrtOf toStored fromStored Ieee.add Ieee.sub Ieee.mul Ieee.div Ieee.neg Ieee.ne Ieee.le Ieee.lt Ieee.ofBits
 exactly-fits = (refl, refl)
 
 -- refutes one that writes before it refuses
 pub one-short : into (9 ∷ 9 ∷ 9 ∷ []) ≡ outcome (refusal 11) (room 1 (9 ∷ 9 ∷ 9 ∷ []))
-unfolding squareOutline edgeColoring cornerCount firstCorner direction sub dot cross divScalar squaredLength lengthOf normalize sqrtOf toStored fromStored
-    Ieee.add Ieee.sub Ieee.mul Ieee.div Ieee.neg Ieee.ne Ieee.le Ieee.lt Ieee.ofBits
+unfolding squareOutline edgeColoring cornerCount firstCorner direction sub dot cross divScalar squaredLength lengthOf normalize
+    sqrtOf toStored fromStored Ieee.add Ieee.sub Ieee.mul Ieee.div Ieee.neg Ieee.ne Ieee.le Ieee.lt Ieee.ofBits
 one-short = refl
 
 -- ---- teardrops

@@ -57,10 +57,10 @@ measureCorners contour = measureFrom 0 f0 (contour .edges) (contour .corners)
 abbrev pub closed : Float → InkTrapCorner → InkTrapCorner
 closed splineLength k =
     record {
-        index = k .index;
-        «prev_edge_length_estimate» = Ieee.add binary64 (k .«prev_edge_length_estimate») splineLength;
-        minor = k .minor;
-        color = k .color
+      index = k .index;
+      «prev_edge_length_estimate» = Ieee.add binary64 (k .«prev_edge_length_estimate») splineLength;
+      minor = k .minor;
+      color = k .color;
     }
 
 unfoldable pub closeFirst : Float → List InkTrapCorner → List InkTrapCorner

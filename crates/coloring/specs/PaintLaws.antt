@@ -39,7 +39,7 @@ module _ {A B : Type 0} (f : A → B) where
 
   each-third : (first middle last : A) (m : ℕ) (places : List ℕ)
       → map f (map (λ i. thirdOf first middle last (symmetricalTrichotomy i m)) places)
-          ≡ map (λ i. thirdOf (f first) (f middle) (f last) (symmetricalTrichotomy i m)) places
+      ≡ map (λ i. thirdOf (f first) (f middle) (f last) (symmetricalTrichotomy i m)) places
   each-third first middle last m [] = refl
   each-third first middle last m (i ∷ places) = rw (third-map first middle last (symmetricalTrichotomy i m), each-third first middle last m places)
 
@@ -60,8 +60,12 @@ module _ {A B : Type 0} (f : A → B) where
         rw (paint-one middle values flags e, paint-one (f middle) (map f values) flags e, List·getD-map f values 0 middle, List·getD-map f values 1 middle)
         (map-byPlace (firstCorner flags) _ ∙ rw runs-map)
     map-by-count false e =
-        rw (paint-spread middle values flags e, paint-spread (f middle) (map f values) flags e,
-            length-map values f, List·getD-map f values (length values - 1) middle)
+        rw (
+          paint-spread middle values flags e,
+          paint-spread (f middle) (map f values) flags e,
+          length-map values f,
+          List·getD-map f values (length values - 1) middle,
+        )
         (spread-map _ values flags)
 
     pub paint-map : map f (paint middle values flags) ≡ paint (f middle) (map f values) flags

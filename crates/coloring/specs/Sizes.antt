@@ -112,7 +112,7 @@ module _ (contour : Cornered) where
   unfolding splitContour
   split-length =
       thirds-length (rotate (firstCorner (contour .corners)) (contour .edges))
-          ∙ ap (λ n. 3 * n) (length-rotate (firstCorner (contour .corners)) (contour .edges))
+      ∙ ap (λ n. 3 * n) (length-rotate (firstCorner (contour .corners)) (contour .edges))
 
   module _ (l : length (contour .corners) ≡ length (contour .edges)) where
     by-split : (b : Bool) → splits (contour .corners) ≡ b → length (layout contour .edges) ≡ resultEdges (contour .corners)

@@ -9,8 +9,7 @@ ghost use Prim.Native.Nat.{_<_, _≤_};
 ghost use lib.ListN.{length, getD, take, drop};
 ghost use Rattle.coloring.specs.Lists.{range};
 ghost use Rattle.coloring.specs.PairOrder.{validDistance, distancesValid, ValidDistances, pairsFrom, sortBy};
-ghost use Rattle.coloring.specs.PairNumbers.{distanceOf, takesSecond, mergeBy};
-ghost use Rattle.coloring.specs.PairNumbers.{Below, Numbers, Merging, Sorting, code, InOrder};
+ghost use Rattle.coloring.specs.PairNumbers.{distanceOf, takesSecond, mergeBy, Below, Numbers, Merging, Sorting, code, InOrder};
 
 // Whether a distance is finite and not below zero; -0 passes.
 fn valid_distance(d: f64) -> bool

@@ -32,7 +32,7 @@ square-same (fin s m e) (inf t) h = absurd (false≢true h)
 square-same (fin s m e) (fin t n d) h =
     rw (like-itself s, like-itself t)
     (round-same binary64 false (m * up e * (m * up e)) (down e * down e) (n * up d * (n * up d))
-        (down d * down d) (mul-pos (down-pos e) (down-pos e)) (mul-pos (down-pos d) (down-pos d))
+    (down d * down d) (mul-pos (down-pos e) (down-pos e)) (mul-pos (down-pos d) (down-pos d))
     (squares (m * up e) (n * up d) (down e) (down d) (eqb→eq _ _ (passes _ (and-left (eqb (m * up e * down d) (n * up d * down e)) _ h)))))
 
 pub length-same : (v w : Vector2) → vector.eq v w ≡ true → vector.lengthOf v ≡ vector.lengthOf w

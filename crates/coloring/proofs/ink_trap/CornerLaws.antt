@@ -283,8 +283,13 @@ module _ (initial : EdgeColor) (left : ℕ) (pen : Pen) where
     unfolding going
     going-minor e cs-is left-is pen-is initial-is =
         rw (cs-is, left-is, pen-is, initial-is)
-        (rw (ahead-cons i n cs h fits, majors-minor initial left pen (getD cs i noCorner) (drop (i + 1) (take n cs)) e,
-            add-one i, take-suc cs i noCorner (omega arith), append-snoc))
+        (rw (
+          ahead-cons i n cs h fits,
+          majors-minor initial left pen (getD cs i noCorner) (drop (i + 1) (take n cs)) e,
+          add-one i,
+          take-suc cs i noCorner (omega arith),
+          append-snoc,
+        ))
 
 pub going-begins : (n : ℕ) (initial : EdgeColor) (left : ℕ) (pen : Pen) (cs : List InkTrapCorner)
     → colorMajors initial left pen (take n cs) ≡ going 0 n initial left pen cs
@@ -364,6 +369,6 @@ unfolding inkTrapColors
 drawn contour pen ink cs bytes last e b l =
     let whole : inkTrapColors contour pen ≡ splines (record { corners = cs; pen = ink }) = ap splines e in
     let color : last ≡ getD (map colorOf cs) (length (map colorOf cs) - 1) Black =
-        l ∙ rw (length-map cs colorOf, List·getD-map colorOf cs (length cs - 1) noCorner) in
+    l ∙ rw (length-map cs colorOf, List·getD-map colorOf cs (length cs - 1) noCorner) in
     subst (λ (all : SplineColors). ColorsHeld all bytes (record { color = last; seed = ink .seed })) (sym whole)
     (record { colors-are = b; pen-is = ap (λ (c : EdgeColor). record { color = c; seed = ink .seed }) color })

@@ -16,8 +16,8 @@ use Rattle.coloring.specs.declared.ink_trap.InkTrapCorner.{InkTrapCorner
 use Rattle.coloring.specs.Switching.{SplineColors, switchColor, switchColorBanned, bannedBefore, turnLeft, shared}
 use Rattle.coloring.specs.Simple.{simpleColors, simpleFrom}
 use Rattle.coloring.specs.Corners.{Cornered, cornerCount}
-use Rattle.coloring.specs.InkTrap.{around, noCorner, isBlack, majorCount, Inked}
-use Rattle.coloring.specs.InkTrap.{colorMajors, colorMinors, measureCorners, colorCorners, inkTrapColors}
+use Rattle.coloring.specs.InkTrap.{around, noCorner, isBlack, majorCount, Inked, colorMajors, colorMinors, measureCorners, colorCorners, inkTrapColors}
+use Rattle.coloring.proofs.switching.DrawLaws.{simple-length}
 use Rattle.coloring.proofs.ink_trap.MeasureLaws.{measured-count, measured-majors}
 use Rattle.coloring.proofs.ink_trap.CornerLaws.{colorOf, majors-most, mark-few, major-here, majors-major, colored, splines}
 
@@ -120,11 +120,6 @@ all-simple k cs pen e =
 
 -- ---- the splines' colours
 
-simple-length : (initial : EdgeColor) (k : ℕ) (pen : Pen) → length (simpleFrom initial k pen .colors) ≡ k
-unfolding simpleFrom
-simple-length initial zero pen = refl
-simple-length initial (suc k) pen = ap suc (simple-length initial k (switchColorBanned (bannedBefore initial k) pen))
-
 -- the last colour is the pen's
 last-color : (initial : EdgeColor) (k : ℕ) (pen : Pen) → getD (pen .color ∷ simpleFrom initial k pen .colors) k Black ≡ simpleFrom initial k pen .pen .color
 unfolding simpleFrom
@@ -145,7 +140,7 @@ few (k ∷ cs) s pen e h l =
     let inked = colorMajors Black (length (k ∷ cs)) pen (k ∷ cs) in
     ap splines (colored _ pen (k ∷ cs) (length (k ∷ cs)) inked (length (k ∷ cs)) (sym (mark-few s (k ∷ cs) l)) (sym e) refl refl)
     ∙ rw (no-minors (inked .corners) (simple .majors) 0 (length (k ∷ cs)) (inked .pen .color), one-less (length cs))
-        (splines-simple inked (length cs) pen simple)
+    (splines-simple inked (length cs) pen simple)
 
 pub few-simple : (contour : Cornered) (pen : Pen) → length (contour .corners) ≡ length (contour .edges)
     → 0 < cornerCount (contour .corners) → cornerCount (contour .corners) ≤ 3

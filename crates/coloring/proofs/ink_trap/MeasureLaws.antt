@@ -44,8 +44,15 @@ module _ (count index : ℕ) (s : Float) (array : List InkTrapCorner) (edges : L
     unfolding measuring measureFrom
     measuring-corner r t k array-is s-is count-is estimate-is =
         rw (array-is, s-is, count-is, estimate-is, k)
-        (rw (drop-cons edges index anyEdge h, drop-cons flags index false l, t,
-            add-one count, add-one index, take-suc-set array count (cornerAt index s) r, append-snoc))
+        (rw (
+          drop-cons edges index anyEdge h,
+          drop-cons flags index false l,
+          t,
+          add-one count,
+          add-one index,
+          take-suc-set array count (cornerAt index s) r,
+          append-snoc,
+        ))
 
     pub measuring-edge : {array' : List InkTrapCorner} {count' : ℕ} {s' estimate : Float} → getD flags index false ≡ false
         → array' ≡ array → s' ≡ s → count' ≡ count → estimate ≡ estimateEdgeLength (getD edges index anyEdge)

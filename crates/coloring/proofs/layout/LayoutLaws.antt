@@ -15,7 +15,7 @@ use Rattle.coloring.specs.Layout.{layout, resultEdges}
 use Rattle.coloring.specs.Outline.{kindStored, placesStored, encode, LaidFrom}
 use Rattle.coloring.specs.Sizes.{layout-length, layout-flagged, points-length}
 use Rattle.coloring.proofs.outline.StoreLaws.{points-append}
-use Rattle.coloring.proofs.outline.CutLaws.{Along, along-room, along-next, cornered-step, cornered-end, left, left-step}
+use Rattle.coloring.proofs.outline.CutLaws.{ContoursPassed, next-fits, next-passed, cornered-step, cornered-end, left, left-step}
 
 -- four buffers of laid out contours
 pub record Buffers : Type 0 where
@@ -45,7 +45,7 @@ laid-next contour rest = (refl, map-append kindStored (layout contour .edges) _,
 -- four buffers on the way to hold the whole, over what stood there
 pub record Laying (lengths : List ℕ) (xs : List EdgeSegment) (flags : List Bool) (edges : ℕ) (whole : Buffers)
     (outLengths outKinds : List ℕ) (outPoints : List Float) (outFlags : List Bool) (at to i : ℕ) : Type 0 where
-  pub along : Along lengths (length xs) at i
+  pub passed : ContoursPassed lengths (length xs) at i
   pub counted : to + left resultEdges lengths flags i at ≡ edges
   pub lengths-so-far : whole .lengths ≡ overFrom i (toLay lengths xs flags at i .lengths) outLengths
   pub kinds-so-far : whole .kinds ≡ overFrom to (toLay lengths xs flags at i .kinds) outKinds
@@ -71,7 +71,7 @@ module _ (lengths : List ℕ) (xs : List EdgeSegment) (flags : List Bool) (edges
   laying-next l h r kinds-fit points-fit flags-fit k-is stored = rw (k-is, stored .kinds-are, stored .points-are, stored .flags-are)
       (
       let k = resultEdges (here .corners) in
-      let room = along-room lengths (length xs) at i (s .along) h in
+      let room = next-fits lengths (length xs) at i (s .passed) h in
       let flagged : length (here .corners) ≡ length (here .edges) =
       length-take-le n (drop at flags) (omega (arith, length-drop at flags)) ∙ sym (length-take-le n (drop at xs) (omega (arith, length-drop at xs))) in
       let long : length (layout here .edges) ≡ k = layout-length here flagged in
@@ -80,19 +80,19 @@ module _ (lengths : List ℕ) (xs : List EdgeSegment) (flags : List Bool) (edges
       let left = left-step resultEdges lengths flags i at h in
       let eight : 8 * to + 8 * k ≡ 8 * (to + k) = omega arith in
       record {
-        along = along-next lengths (length xs) at i (s .along) h;
+        passed = next-passed lengths (length xs) at i (s .passed) h;
         counted = omega (arith, s .counted);
         lengths-so-far = s .lengths-so-far ∙ rw (step, next .0, long) (over-next i k _ outLengths r);
         kinds-so-far =
             s .kinds-so-far
             ∙ rw (step, next .1)
-                (over-more to k (map kindStored (layout here .edges)) _ outKinds
-                (length-map (layout here .edges) kindStored ∙ long) (omega (arith, s .counted)));
+            (over-more to k (map kindStored (layout here .edges)) _ outKinds
+            (length-map (layout here .edges) kindStored ∙ long) (omega (arith, s .counted)));
         points-so-far =
             s .points-so-far
             ∙ rw (step, next .2)
             (over-more (8 * to) (8 * k) (flatten (map placesStored (layout here .edges))) _ outPoints
-                (points-length (layout here .edges) ∙ ap (λ n. 8 * n) long) (omega (arith, s .counted)) ∙ rw eight);
+            (points-length (layout here .edges) ∙ ap (λ n. 8 * n) long) (omega (arith, s .counted)) ∙ rw eight);
         flags-so-far =
             s .flags-so-far
             ∙ rw (step, next .3) (over-more to k (layout here .corners) _ outFlags (layout-flagged here flagged ∙ long) (omega (arith, s .counted)));

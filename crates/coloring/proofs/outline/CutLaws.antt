@@ -15,21 +15,21 @@ use Rattle.coloring.specs.Sizes.{sizes}
 use Rattle.coloring.proofs.outline.CheckLaws.{total-step}
 
 -- i contours are passed, and they end before the edge `at` of n
-pub record Along (lengths : List ℕ) (n at i : ℕ) : Type 0 where
+pub record ContoursPassed (lengths : List ℕ) (n at i : ℕ) : Type 0 where
   pub to-come : i ≤ length lengths
   pub left : at + total (drop i lengths) ≡ n
 
 module _ (lengths : List ℕ) (n : ℕ) where
-  pub along-starts : total lengths ≡ n → Along lengths n 0 0
-  along-starts h = record { to-come = omega arith; left = omega arith }
+  pub none-passed : total lengths ≡ n → ContoursPassed lengths n 0 0
+  none-passed h = record { to-come = omega arith; left = omega arith }
 
-  module _ (at i : ℕ) (s : Along lengths n at i) (h : i < length lengths) where
+  module _ (at i : ℕ) (s : ContoursPassed lengths n at i) (h : i < length lengths) where
     -- the next contour lies within the edges
-    pub along-room : at + getD lengths i 0 ≤ n
-    along-room = omega (arith, s .left, total-step lengths i h)
+    pub next-fits : at + getD lengths i 0 ≤ n
+    next-fits = omega (arith, s .left, total-step lengths i h)
 
-    pub along-next : Along lengths n (at + getD lengths i 0) (i + 1)
-    along-next = record { to-come = omega arith; left = omega (arith, s .left, total-step lengths i h) }
+    pub next-passed : ContoursPassed lengths n (at + getD lengths i 0) (i + 1)
+    next-passed = record { to-come = omega arith; left = omega (arith, s .left, total-step lengths i h) }
 
 module _ {A : Type 0} (lengths : List ℕ) (xs : List A) (i at : ℕ) where
   pub cut-step : i < length lengths

@@ -62,8 +62,12 @@ module _ {allKinds : List ℕ} {allPoints : List Float} {i : ℕ} {kinds : List 
             s .kinds-so-far ∙ rw (map-append kindStored edges rest, over-more i n (map kindStored edges) (map kindStored rest) kinds klong (omega arith), q);
         points-so-far =
             s .points-so-far
-            ∙ rw (points-append edges rest, over-more (8 * i) (8 * n) (flatten (map placesStored edges))
-                (flatten (map placesStored rest)) points plong (omega (arith, s .eightfold)), eight);
+            ∙ rw (
+              points-append edges rest,
+              over-more (8 * i) (8 * n) (flatten (map placesStored edges))
+                  (flatten (map placesStored rest)) points plong (omega (arith, s .eightfold)),
+              eight,
+            );
       }
 
   -- one edge is stored
@@ -79,8 +83,10 @@ module _ {allKinds : List ℕ} {allPoints : List Float} {i : ℕ} {kinds : List 
         kinds-so-far = s .kinds-so-far ∙ rw (over-next i (kindStored e) (map kindStored rest) kinds (omega (arith, s .room)), q);
         points-so-far =
             s .points-so-far
-            ∙ rw (over-more (8 * i) 8 (placesStored e) (flatten (map placesStored rest)) points (places-length e) (omega (arith, s .room, s .eightfold)),
-                eight);
+            ∙ rw (
+              over-more (8 * i) 8 (placesStored e) (flatten (map placesStored rest)) points (places-length e) (omega (arith, s .room, s .eightfold)),
+              eight,
+            );
       }
 
   pub storing-ends : Storing allKinds allPoints i kinds points [] → (kinds ≡ allKinds) × (points ≡ allPoints)

@@ -193,7 +193,7 @@ module _ (key : ℕ → Float) (left right : List ℕ) where
         let h = first-left e in
         let here = drop-next left i 0 h in
         let step =
-            ap (λ l. mergeBy key l (drop j right)) here ∙ merge-first key _ _ (drop j right) (ap (λ l. takesSecond key l (drop j right)) (sym here) ∙ e) in
+        ap (λ l. mergeBy key l (drop j right)) here ∙ merge-first key _ _ (drop j right) (ap (λ l. takesSecond key l (drop j right)) (sym here) ∙ e) in
         let place : i + 1 + j ≡ suc (i + j) = omega arith in
         record {
           first = omega arith;
@@ -212,5 +212,5 @@ module _ (key : ℕ → Float) (left right : List ℕ) where
       let b = m .second in
       let r = m .room in
       let none : mergeBy key (drop i left) (drop j right) ≡ [] =
-          rw (drop-of-length-le left {i = i} (omega arith), drop-of-length-le right {i = j} (omega arith)) in
+      rw (drop-of-length-le left {i = i} (omega arith), drop-of-length-le right {i = j} (omega arith)) in
       sym (append-nil to) ∙ ap₂ (λ s t. s ++ t) (sym (take-all (i + j) to h)) (sym none) ∙ m .rest

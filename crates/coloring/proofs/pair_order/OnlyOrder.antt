@@ -93,8 +93,8 @@ one-sequence (x ∷ l) (y ∷ m) v s t to from =
     same =
         ⊎-elim (λ e. e)
         (λ i.
-            ⊎-elim sym (λ j. absurd (before-asym x y (v x x-in) (v y (List·Memᴰ·head refl)) (s .0 y j) (t .0 x i)))
-            (List·Memᴰ·cases-cons (from y (List·Memᴰ·head refl))))
+        ⊎-elim sym (λ j. absurd (before-asym x y (v x x-in) (v y (List·Memᴰ·head refl)) (s .0 y j) (t .0 x i)))
+        (List·Memᴰ·cases-cons (from y (List·Memᴰ·head refl))))
         (List·Memᴰ·cases-cons x-in)
 
     not-self : (q : SplinePair) → List·Memᴰ q l → q ≡ x → ⊥
@@ -168,9 +168,10 @@ append-sequence : (xs ys : List Pair) → Sequence BeforePair xs → Sequence Be
     → Sequence BeforePair (xs ++ ys)
 unfolding Sequence
 append-sequence [] ys s t h = t
-append-sequence (x ∷ xs) ys s t h =
-    (λ q m. ⊎-elim (λ l. s .0 q l) (λ r. h x q (List·Memᴰ·head refl) r) (List·Memᴰ·append-cases xs m),
-        append-sequence xs ys (s .1) t (λ p q l r. h p q (List·Memᴰ·tail l) r))
+append-sequence (x ∷ xs) ys s t h = (
+  λ q m. ⊎-elim (λ l. s .0 q l) (λ r. h x q (List·Memᴰ·head refl) r) (List·Memᴰ·append-cases xs m),
+  append-sequence xs ys (s .1) t (λ p q l r. h p q (List·Memᴰ·tail l) r),
+)
 
 from-sequence : (i k : ℕ) → Sequence BeforePair (pairsFrom i k)
 unfolding Sequence pairsFrom

@@ -44,10 +44,10 @@ module _ (distances : List Float) (seed : ℕ) (old : List ℕ) where
   splines-passed is e colors = rw (is, colors) (sym (all-passed checks refused colored (sym e ∙ is)))
 
   -- and what these tell
-  pub splines-told : (r : Checked) (coloring : List ℕ) → splinesColored (checkedAnswer r) coloring ≡ colorSplinesInto distances seed old
+  pub splines-answered : (r : Checked) (coloring : List ℕ) → splinesColored (checkedAnswer r) coloring ≡ colorSplinesInto distances seed old
       → (checkedAnswer r ≡ firstRefusal checks) × (r ≡ Passed → coloring ≡ colorSplines (length old) distances seed)
   unfolding colorSplinesInto firstRefusal
-  splines-told r coloring e =
+  splines-answered r coloring e =
       let answerIn : SplinesColored → Answer Unit = λ s. s .answer in
       let answer : checkedAnswer r ≡ firstRefusal checks = ap answerIn e ∙ in-order-part answerIn checks refused colored in
       (answer, λ p. ap (λ (s : SplinesColored). s .coloring) (e ∙ sym (splines-passed (ap checkedAnswer p) answer refl)))

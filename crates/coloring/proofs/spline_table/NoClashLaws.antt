@@ -12,8 +12,7 @@ use lib.ListN.{length, getD}
 use lib.Arith.{digits-lt}
 use borrow.Author.Tests.{ne-eqb}
 use Rattle.coloring.specs.Recolor.{Walk, recolored, stopped}
-use Rattle.coloring.specs.SplineTable.{Table, tableOf, kept, declined, Offered}
-use Rattle.coloring.specs.SplineTable.{outcome, settled, entry, enterPair, sound, tryAddEdge, offer}
+use Rattle.coloring.specs.SplineTable.{Table, tableOf, kept, declined, Offered, outcome, settled, entry, enterPair, sound, tryAddEdge, offer}
 use Rattle.coloring.specs.Sequence.{Pair, KeptPair, NoClash, isKept, Names}
 use Rattle.coloring.proofs.recolor.RowLaws.{Matrix}
 use Rattle.coloring.proofs.recolor.FreeColorLaws.{possible-free}

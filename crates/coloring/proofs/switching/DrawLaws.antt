@@ -1,7 +1,7 @@
--- The colours of splines, stored as bytes one after the other.
-use mathlib.Core.Path.{_≡_, refl, sym, _∙_}
+-- The colours of splines: how many simple colouring gives, and how they are stored as bytes one after the other.
+use mathlib.Core.Path.{_≡_, refl, ap, sym, _∙_}
 use mathlib.Core.List.{List, [], _∷_, map}
-use Prim.Native.Nat.{ℕ, _+_, _<_}
+use Prim.Native.Nat.{ℕ, zero, suc, _+_, _<_}
 use native.Mathlib.Omega.{arith}
 use lib.ListN.{length, set, length-set, length-map}
 use Rattle.geometry.specs.EdgeColor.{bitsOf}
@@ -9,7 +9,13 @@ use Rattle.geometry.specs.declared.edge_color.EdgeColor.{EdgeColor}
 use Rattle.coloring.specs.Lists.{overFrom}
 use Rattle.coloring.proofs.Writing.{over-all, over-next, over-nothing}
 use Rattle.coloring.specs.declared.switching.Pen.{Pen}
-use Rattle.coloring.specs.Switching.{SplineColors, ColorsHeld}
+use Rattle.coloring.specs.Switching.{SplineColors, ColorsHeld, switchColorBanned, bannedBefore}
+use Rattle.coloring.specs.Simple.{simpleFrom}
+
+pub simple-length : (initial : EdgeColor) (k : ℕ) (pen : Pen) → length (simpleFrom initial k pen .colors) ≡ k
+unfolding simpleFrom
+simple-length initial zero pen = refl
+simple-length initial (suc k) pen = ap suc (simple-length initial k (switchColorBanned (bannedBefore initial k) pen))
 
 -- The bytes will be the colours `all`: i of n are there already, and `rest` is still to be drawn.
 pub record Drawing (all : SplineColors) (n i : ℕ) (bytes : List ℕ) (rest : SplineColors) : Type 0 where

@@ -36,12 +36,16 @@ loop-again c =
     let at = c .before .before .before .loop in
     let h = c .before .before .loop-test .taken in
     ⊎-elim
-    (λ w.
-        (omega arith, omega (arith, w .1),
-        omega (arith, w .1, at .inv .2, ap length (places-corner (c .before .before .before .before .args .flags .now) (at .i) h (w .0 .taken)))))
-    (λ w.
-        (omega arith, omega (arith, w .1),
-        omega (arith, w .1, at .inv .2, ap length (places-none (c .before .before .before .before .args .flags .now) (at .i) h (w .0 .left)))))
+    (λ w. (
+      omega arith,
+      omega (arith, w .1),
+      omega (arith, w .1, at .inv .2, ap length (places-corner (c .before .before .before .before .args .flags .now) (at .i) h (w .0 .taken))),
+    ))
+    (λ w. (
+      omega arith,
+      omega (arith, w .1),
+      omega (arith, w .1, at .inv .2, ap length (places-none (c .before .before .before .before .args .flags .now) (at .i) h (w .0 .left))),
+    ))
     (c .if1 .came)
 
 returns : tie.Need-returns Inv-loop μ-loop

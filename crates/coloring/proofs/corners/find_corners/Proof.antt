@@ -10,14 +10,14 @@ use Rattle.coloring.specs.Corners.{cornerFlags}
 use Rattle.coloring.specs.Outline.{edgesOf, contours}
 use Rattle.coloring.specs.Sizes.{flags-length}
 use Rattle.coloring.proofs.outline.EdgeLaws.{edges-length}
-use Rattle.coloring.proofs.outline.CutLaws.{Along, along-starts, along-room, along-next}
+use Rattle.coloring.proofs.outline.CutLaws.{ContoursPassed, none-passed, next-fits, next-passed}
 use Rattle.coloring.proofs.corners.FoundLaws.{allFlags, all-length, all-cut, all-step, all-end}
 use Rattle.coloring.proofs.corners.find_corners.Statement.{statement}
 use Rattle.coloring.proofs.corners.find_corners.Tie as tie
 
 abbrev Inv-loop : tie.InvT-loop
 Inv-loop lengths kinds points threshold flags₀ at₀ i₀ flags at i =
-    Along lengths (length kinds) at i × (length flags ≡ length kinds)
+    ContoursPassed lengths (length kinds) at i × (length flags ≡ length kinds)
     × (allFlags threshold lengths (edgesOf kinds points) ≡ overFrom at (allFlags threshold (drop i lengths) (drop at (edgesOf kinds points))) flags)
 
 abbrev μ-loop : tie.MeasureT-loop
@@ -36,7 +36,7 @@ module _ (c : tie.In-loop Inv-loop μ-loop) where
   n = getD (start .args .lengths .now) (c .before .loop .i) 0
 
   room : c .before .loop .at + n ≤ length (start .args .kinds .now)
-  room = along-room _ _ _ _ (c .before .loop .inv .0) (c .loop-test .taken)
+  room = next-fits _ _ _ _ (c .before .loop .inv .0) (c .loop-test .taken)
 
 loop-holds : tie.Need-loop-holds Inv-loop μ-loop
 loop-holds c =
@@ -44,9 +44,11 @@ loop-holds c =
     let a = start .args in
     let edges = edgesOf (a .kinds .now) (a .points .now) in
     let l = edges-length (a .kinds .now) (a .points .now) in
-    let long = all-length (a .threshold) (a .lengths .now) edges (omega (arith, start .pre .whole)) in
-    (along-starts _ _ (start .pre .whole), start .pre .matching .flagged,
-        sym (over-all (allFlags (a .threshold) (a .lengths .now) edges) (a .flags .now) (omega (arith, start .pre .matching .flagged, start .pre .whole))))
+    let long = all-length (a .threshold) (a .lengths .now) edges (omega (arith, start .pre .whole)) in (
+      none-passed _ _ (start .pre .whole),
+      start .pre .matching .flagged,
+      sym (over-all (allFlags (a .threshold) (a .lengths .now) edges) (a .flags .now) (omega (arith, start .pre .matching .flagged, start .pre .whole))),
+    )
 
 mul-end : tie.Need-mul-end Inv-loop μ-loop
 mul-end c = omega arith
@@ -87,8 +89,8 @@ loop-again c =
     let inside = room turn in
     let long : length (cornerFlags (a .threshold) contour) ≡ n =
     flags-length (a .threshold) contour
-        ∙ length-take-le n (drop (at .at) edges) (omega (arith, length-drop (at .at) edges, edges-length (a .kinds .now) (a .points .now))) in (
-      along-next _ _ _ _ (at .inv .0) h,
+    ∙ length-take-le n (drop (at .at) edges) (omega (arith, length-drop (at .at) edges, edges-length (a .kinds .now) (a .points .now))) in (
+      next-passed _ _ _ _ (at .inv .0) h,
       c .before .before .identify-part .kept .1 .1 .1 .1 .1 .0 ∙ at .inv .1,
       at .inv .2
           ∙ rw (flagged, all-step (a .threshold) (a .lengths .now) edges (at .i) (at .at) h)

@@ -26,7 +26,7 @@ returns : tie.Need-returns Inv-loop μ-loop
 unfolding firstCorner
 returns c =
     sym (ap (λ (places : List ℕ). getD places 0 0)
-        (c .before .before .before .loop .inv .1 ∙ places-corner _ _ (c .before .before .loop-test .taken) (c .if1 .taken)))
+    (c .before .before .before .loop .inv .1 ∙ places-corner _ _ (c .before .before .loop-test .taken) (c .if1 .taken)))
 
 add-i : tie.Need-add-i Inv-loop μ-loop
 add-i c = omega arith

@@ -56,8 +56,12 @@ loop-holds c =
       refl,
       omega arith,
       start .pre .flagged,
-      rw (c .normalize .ensures, c .before .direction .ensures, c .before .before .edge-at .ensures,
-          ← flags-start (start .args .threshold) edges (length (start .args .kinds .now)) anyEdge l (omega arith))
+      rw (
+        c .normalize .ensures,
+        c .before .direction .ensures,
+        c .before .before .edge-at .ensures,
+        ← flags-start (start .args .threshold) edges (length (start .args .kinds .now)) anyEdge l (omega arith),
+      )
           (sym (over-all (cornerFlags (start .args .threshold) edges) (start .args .flags .now) long)),
     )
 
@@ -99,8 +103,14 @@ loop-again c =
       omega arith,
       simp length-set (at .inv .2),
       at .inv .3
-          ∙ rw (c .end-direction .ensures, corner .is-corner .ensures, corner .before .normalize2 .ensures,
-              corner .before .before .direction2 .ensures, e, flags-next (start .args .threshold) (at .prev) edges (at .i) anyEdge h)
+          ∙ rw (
+            c .end-direction .ensures,
+            corner .is-corner .ensures,
+            corner .before .normalize2 .ensures,
+            corner .before .before .direction2 .ensures,
+            e,
+            flags-next (start .args .threshold) (at .prev) edges (at .i) anyEdge h,
+          )
           (over-next (at .i) _ _ (at .flags) (omega arith)),
     )
 

@@ -146,8 +146,8 @@ slice-aggregate-color-shape c = sym (ap length (front (c .before .before)) ∙ s
 
 color-shape-requires : tie.Need-color-shape-requires
 color-shape-requires c κs =
-    let lent = c .before .before .before .before in
-    let searched = lent .before .before in
+    let handed = c .before .before .before .before in
+    let searched = handed .before .before in
     let a = agrees (told searched) in
     record {
       matching = record { places = a .places; flagged = ap length (front searched) ∙ size searched; few = a .few };
@@ -171,8 +171,8 @@ returns-3 : tie.Need-returns-3
 returns-3 c =
     let points = c .before .before .before .before in
     let colored = points .before .before .before .before in
-    let lent = colored .before .before .before .before .before in
-    let searched = lent .before .before in
+    let handed = colored .before .before .before .before .before in
+    let searched = handed .before .before in
     let s = s searched in
     (rw (front searched) at (colored .color-shape .ensures))
     ∙ goes-on (s .args .settings) (given s) (s .args .distances .now) (old s) (all-passed (told searched)) (searched .find-corners .ensures)

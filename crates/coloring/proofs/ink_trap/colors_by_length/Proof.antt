@@ -17,8 +17,7 @@ use Rattle.coloring.specs.Corners.{Cornered, cornerCount, estimateEdgeLe
 use Rattle.coloring.specs.Outline.{edgesOf, whole}
 use Rattle.coloring.specs.InkTrap.{Measured, measureCorners, noCorner, markMinors, majorCount, colorMajors, colorMinors, colorCorners}
 use Rattle.coloring.proofs.outline.EdgeLaws.{edges-length}
-use Rattle.coloring.proofs.ink_trap.MeasureLaws.{measuring, measuring-begins, measuring-corner, measuring-edge}
-use Rattle.coloring.proofs.ink_trap.MeasureLaws.{measuring-ends, measured-count}
+use Rattle.coloring.proofs.ink_trap.MeasureLaws.{measuring, measuring-begins, measuring-corner, measuring-edge, measuring-ends, measured-count}
 use Rattle.coloring.proofs.ink_trap.CornerLaws.{close-first, marking, marking-none, mark-turn, marks-many, majors-more, majors-same}
 use Rattle.coloring.proofs.ink_trap.CornerLaws.{going, going-begins, going-major, going-minor, going-ends, majors-fall, left-falls}
 use Rattle.coloring.proofs.ink_trap.CornerLaws.{left-stays, minor-turn, major-turn, minors-done, colorOf, bytes-set, bytes-same}
@@ -66,11 +65,16 @@ abbrev μ-minors : tie.MeasureT-minors
 abbrev contour : tie.Start Inv-measure μ-measure Inv-mark μ-mark Inv-majors μ-majors Inv-minors μ-minors → Cornered
 contour c = whole (c .args .kinds .now) (c .args .points .now) (c .args .flags .now)
 
+-- where the function began, from the first corner's making
+abbrev begun : tie.After-corner-at Inv-measure μ-measure Inv-mark μ-mark Inv-majors μ-majors Inv-minors μ-minors
+    → tie.Start Inv-measure μ-measure Inv-mark μ-mark Inv-majors μ-majors Inv-minors μ-minors
+begun c = c .before .before .before .before .before
+
 -- ---- after the measuring
 
 module _ (c : tie.After-measure Inv-measure μ-measure Inv-mark μ-mark Inv-majors μ-majors Inv-minors μ-minors) where
   abbrev start : tie.Start Inv-measure μ-measure Inv-mark μ-mark Inv-majors μ-majors Inv-minors μ-minors
-  start = c .before .before .before .before .before .before .before
+  start = begun (c .before .before)
 
   abbrev array : List InkTrapCorner
   array = c .before .measure .corners
@@ -142,14 +146,14 @@ module _ (c : tie.After-majors Inv-measure μ-measure Inv-mark μ-mark Inv-major
   inked =
       let at = c .before .majors in
       at .inv .3 ∙ going-ends (at .j) (count (measured marks)) (at .initial) (at .left)
-          (at .ink) (at .corners) (at .inv .0) (c .majors-test .left) (omega (arith, few (measured marks)))
+      (at .ink) (at .corners) (at .inv .0) (c .majors-test .left) (omega (arith, few (measured marks)))
 
 corner-at-requires : tie.Need-corner-at-requires Inv-measure μ-measure Inv-mark μ-mark Inv-majors μ-majors Inv-minors μ-minors
 corner-at-requires c κs = search needs
 
 measure-holds : tie.Need-measure-holds Inv-measure μ-measure Inv-mark μ-mark Inv-majors μ-majors Inv-minors μ-minors
 measure-holds c =
-    (omega arith, omega arith, length-replicate 256 (c .corner-at .result), measuring-begins _ (contour (c .before .before .before .before .before)))
+    (omega arith, omega arith, length-replicate 256 (c .corner-at .result), measuring-begins _ (contour (begun c)))
 
 shared-slice-read-if1 : tie.Need-shared-slice-read-if1 Inv-measure μ-measure Inv-mark μ-mark Inv-majors μ-majors Inv-minors μ-minors
 shared-slice-read-if1 c = omega arith
@@ -180,8 +184,9 @@ measure-less c = omega arith
 
 measure-again : tie.Need-measure-again Inv-measure μ-measure Inv-mark μ-mark Inv-majors μ-majors Inv-minors μ-minors
 measure-again c =
-    let start = c .before .before .before .before .before .before .before .before .before .before .before in
-    let at = c .before .before .before .before .before .measure in
+    let head = c .before .before .before .before .before in
+    let start = begun (head .before) in
+    let at = head .measure in
     let flags = start .args .flags .now in
     let edges = edgesOf (start .args .kinds .now) (start .args .points .now) in
     let h : at .index < length edges = omega (arith, edges-length (start .args .kinds .now) (start .args .points .now)) in
@@ -248,7 +253,8 @@ rem-third c = omega arith
 
 array-copy-out-third : tie.Need-array-copy-out-third Inv-measure μ-measure Inv-mark μ-mark Inv-majors μ-majors Inv-minors μ-minors
 array-copy-out-third c =
-    let measured = c .before .before .before .before .before .before in
+    let read = c .before in
+    let measured = read .before .before .before .before .before in
     inside measured _ (rem-third c)
 
 mul-third : tie.Need-mul-third Inv-measure μ-measure Inv-mark μ-mark Inv-majors μ-majors Inv-minors μ-minors
@@ -268,8 +274,9 @@ array-set-from-corners-3 c = omega arith
 
 sub-left : tie.Need-sub-left Inv-measure μ-measure Inv-mark μ-mark Inv-majors μ-majors Inv-minors μ-minors
 sub-left c =
-    let turn = c .before .before .before .before .before .before .before in
-    omega (arith, turn .mark .inv .3)
+    let read = c .before .before .before in
+    let head = read .before .before .before .before in
+    omega (arith, head .mark .inv .3)
 
 add-i : tie.Need-add-i Inv-measure μ-measure Inv-mark μ-mark Inv-majors μ-majors Inv-minors μ-minors
 add-i c = omega arith
@@ -279,7 +286,8 @@ mark-less c = omega arith
 
 mark-again : tie.Need-mark-again Inv-measure μ-measure Inv-mark μ-mark Inv-majors μ-majors Inv-minors μ-minors
 mark-again c =
-    let turn = c .before .before .before .before .before .before in
+    let read = c .before .before .before in
+    let turn = read .before .before .before in
     let closed = turn .before .before in
     let measured = closed .before .before in
     let at = turn .before .mark in
@@ -325,10 +333,10 @@ with-color-requires : tie.Need-with-color-requires Inv-measure μ-measure Inv-ma
 with-color-requires c κs = search needs
 
 mul-corners-3 : tie.Need-mul-corners-3 Inv-measure μ-measure Inv-mark μ-mark Inv-majors μ-majors Inv-minors μ-minors
-mul-corners-3 c = omega (arith, at-major (c .before .before .before .before .before .before))
+mul-corners-3 c = let branch = c .before .before .before in omega (arith, at-major (branch .before .before .before))
 
 array-set-from-corners-4 : tie.Need-array-set-from-corners-4 Inv-measure μ-measure Inv-mark μ-mark Inv-majors μ-majors Inv-minors μ-minors
-array-set-from-corners-4 c = at-major (c .before .before .before .before .before .before)
+array-set-from-corners-4 c = let branch = c .before .before .before in at-major (branch .before .before .before)
 
 first-color-requires : tie.Need-first-color-requires Inv-measure μ-measure Inv-mark μ-mark Inv-majors μ-majors Inv-minors μ-minors
 first-color-requires c κs = search needs
@@ -469,7 +477,7 @@ returns c =
     colored _ _ (markedCorners marks) (marks .before .mark .left) _ n (marked marks) (majors marks) (inked done)
     (length-take-le n (marks .before .mark .corners) (omega (arith, marks .before .mark .inv .1, few measured)))
     ∙ ap (λ (cs : List InkTrapCorner). record { corners = cs; pen = ink })
-        (at .inv .3 ∙ minors-done (at .k) n (at .color) (at .corners) (c .minors-test .left)) in
+    (at .inv .3 ∙ minors-done (at .k) n (at .color) (at .corners) (c .minors-test .left)) in
     drawn (contour start) (start .args .pen) ink (take n (at .corners)) (at .colors) (at .last) corners
     (sym (take-all n (at .colors) (omega (arith, at .inv .2))) ∙ rw last at (at .inv .4)) (rw all (rw last at (at .inv .5)))
 

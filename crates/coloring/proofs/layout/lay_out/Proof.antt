@@ -14,7 +14,7 @@ use Rattle.coloring.specs.Corners.{Cornered, cornered}
 use Rattle.coloring.specs.Outline.{edgesOf, cut}
 use Rattle.coloring.specs.Sizes.{edges-bound}
 use Rattle.coloring.proofs.outline.EdgeLaws.{edges-length}
-use Rattle.coloring.proofs.outline.CutLaws.{along-starts, along-room, left, left-step}
+use Rattle.coloring.proofs.outline.CutLaws.{none-passed, next-fits, left, left-step}
 use Rattle.coloring.proofs.layout.LayoutLaws.{Buffers, laid, Laying, laying-next, laying-ends}
 use Rattle.coloring.proofs.layout.lay_out.Statement.{statement}
 use Rattle.coloring.proofs.layout.lay_out.Tie as tie
@@ -58,7 +58,7 @@ module _ (c : tie.In-loop Inv-loop μ-loop) where
   n = getD (start .args .lengths .now) (c .before .loop .i) 0
 
   room : c .before .loop .at + n ≤ length (start .args .kinds .now)
-  room = rw (edges-length (start .args .kinds .now) (start .args .points .now)) at (along-room _ _ _ _ (c .before .loop .inv .1 .along) (c .loop-test .taken))
+  room = rw (edges-length (start .args .kinds .now) (start .args .points .now)) at (next-fits _ _ _ _ (c .before .loop .inv .1 .passed) (c .loop-test .taken))
 
   -- its flags
   abbrev part : List Bool
@@ -98,7 +98,7 @@ loop-holds c =
     let a = start .args in (
       record { lengths-kept = refl; kinds-kept = refl; points-kept = refl; flags-kept = refl },
       record {
-        along = along-starts _ _ (start .pre .0 .whole ∙ sym (edges-length (a .kinds .now) (a .points .now)));
+        passed = none-passed _ _ (start .pre .0 .whole ∙ sym (edges-length (a .kinds .now) (a .points .now)));
         counted = omega arith;
         lengths-so-far = refl;
         kinds-so-far = refl;
@@ -147,8 +147,11 @@ lay-out-part-requires c κs =
     let kept = at .inv .0 in
     let enough = fit edges in (
       (record { matching = pre .0 .matching; start = omega arith; inside = room turn }, ap (λ k. at .to + k) (edges .part-edges .ensures)),
-      (omega (arith, enough, kept .kinds-kept, pre .1 .kinds-fit),
-          omega (arith, enough, kept .points-kept, pre .1 .points-fit), omega (arith, enough, kept .flags-kept, pre .1 .flags-fit)),
+      (
+        omega (arith, enough, kept .kinds-kept, pre .1 .kinds-fit),
+        omega (arith, enough, kept .points-kept, pre .1 .points-fit),
+        omega (arith, enough, kept .flags-kept, pre .1 .flags-fit),
+      ),
     )
 
 -- the next contour is laid out

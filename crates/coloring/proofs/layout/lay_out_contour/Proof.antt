@@ -124,7 +124,7 @@ returns-2 c =
     let edges = points .before .before .before in
     let branch = edges .before .before .before in
     rw (layout-same (contour (start (branch .before))) (same branch))
-        (record { edges-are = edges .copy-edges .ensures; flags-are = flags .copy-flags .ensures })
+    (record { edges-are = edges .copy-edges .ensures; flags-are = flags .copy-flags .ensures })
 
 pub lay-out-contour-spec : {M : Type 1} → statement M
 lay-out-contour-spec =

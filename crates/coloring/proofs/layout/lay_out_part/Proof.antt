@@ -94,8 +94,8 @@ module _ (c : tie.After-slice-known3) where
 
 lay-out-contour-requires : tie.Need-lay-out-contour-requires
 lay-out-contour-requires c κs =
-    let lent = c .before .before .before in
-    let known = lent .before .before .before in
+    let handed = c .before .before .before in
+    let known = handed .before .before .before in
     let pre = start known .pre in
     let a = start known .args in
     let kinds = mid-len (a .to) (a .next) (a .out-kinds .now) (pre .1 .0) in
@@ -116,8 +116,8 @@ returns : tie.Need-returns
 returns c =
     let points = c .before .before .before in
     let called = points .before .before .before in
-    let lent = called .before .before .before .before in
-    let start = start (lent .before .before .before) in
+    let handed = called .before .before .before .before in
+    let start = start (handed .before .before .before) in
     let a = start .args in
     let contour = part (a .kinds .now) (a .points .now) (a .flags .now) (a .at) (a .end) in
     let result = layout contour in
@@ -133,7 +133,7 @@ returns c =
       points-are =
           rw (done .edges-are .points-are, eight)
           (over-part (8 * a .to) (8 * (a .next - a .to)) (flatten (map placesStored (result .edges)))
-              (a .out-points .now) (points-length (result .edges) ∙ ap (λ n. 8 * n) long));
+          (a .out-points .now) (points-length (result .edges) ∙ ap (λ n. 8 * n) long));
       flags-are = rw (done .flags-are) (over-part (a .to) (a .next - a .to) (result .corners) (a .out-flags .now) (layout-flagged contour flagged ∙ long));
     }
 

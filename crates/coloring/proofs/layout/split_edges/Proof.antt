@@ -21,7 +21,7 @@ use Rattle.coloring.proofs.layout.split_edges.Tie as tie
 -- the edge after i steps from the corner, in thirds, and those after it
 thirds-next : (edges : List EdgeSegment) (corner i m : ℕ) → length edges ≡ m → corner ≤ m → i < m
     → flatten (map thirds (drop i (rotate corner edges)))
-        ≡ thirds (getD edges ((corner + i) % m) anyEdge) ++ flatten (map thirds (drop (i + 1) (rotate corner edges)))
+    ≡ thirds (getD edges ((corner + i) % m) anyEdge) ++ flatten (map thirds (drop (i + 1) (rotate corner edges)))
 unfolding flatten
 thirds-next edges corner i m l s h =
     rw (
@@ -35,7 +35,7 @@ abbrev Inv-loop : tie.InvT-loop
 Inv-loop kinds points corner out-kinds₀ out-points₀ m i₀ out-kinds out-points i =
     (m ≡ length kinds) × (i ≤ m) × (length out-kinds ≡ 3 * m)
     × Storing (map kindStored (flatten (map thirds (rotate corner (edgesOf kinds points)))))
-        (flatten (map placesStored (flatten (map thirds (rotate corner (edgesOf kinds points))))))
+    (flatten (map placesStored (flatten (map thirds (rotate corner (edgesOf kinds points))))))
     (3 * i) out-kinds out-points (flatten (map thirds (drop i (rotate corner (edgesOf kinds points)))))
 
 abbrev μ-loop : tie.MeasureT-loop
@@ -91,7 +91,7 @@ loop-again c =
     let edges = edgesOf (start .args .kinds .now) (start .args .points .now) in
     let written = stored .write-thirds in
     let next =
-        thirds-next edges (start .args .corner) (at .i) m (edges-length (start .args .kinds .now) (start .args .points .now)) (omega arith) (omega arith) in (
+    thirds-next edges (start .args .corner) (at .i) m (edges-length (start .args .kinds .now) (start .args .points .now)) (omega arith) (omega arith) in (
       at .inv .0,
       omega arith,
       written .kept .1 .1 .0 ∙ at .inv .2,
@@ -112,7 +112,7 @@ returns c =
     let at = c .before .loop in
     let edges = edgesOf (start .args .kinds .now) (start .args .points .now) in
     let none = drop-of-length-le (rotate (start .args .corner) edges) {i = at .i}
-        (rw length-rotate (omega (arith, edges-length (start .args .kinds .now) (start .args .points .now)))) in
+    (rw length-rotate (omega (arith, edges-length (start .args .kinds .now) (start .args .points .now)))) in
     let ends = storing-ends (rw none at (at .inv .3)) in
     record { kinds-are = ends .0; points-are = ends .1 }
 

@@ -23,8 +23,7 @@ module _ (c : tie.Else2) where
   start = begun (c .before)
 
   few : (leb (length (start .args .lengths .now)) 64 && leb (total (start .args .lengths .now)) 256) ≡ true
-  few = rw (le-leb (length (start .args .lengths .now)) 64 (c .before .before .if1 .left),
-      ← c .before .total .ensures, le-leb (c .before .total .result) 256 (c .if2 .left))
+  few = rw (le-leb _ 64 (c .before .before .if1 .left), ← c .before .total .ensures, le-leb _ 256 (c .if2 .left))
 
 returns : tie.Need-returns
 unfolding check firstRefusal
@@ -37,14 +36,13 @@ returns-2 : tie.Need-returns-2
 unfolding check firstRefusal
 returns-2 c =
     let start = begun (c .before) in
-    rw (le-leb (length (start .args .lengths .now)) 64 (c .before .before .if1 .left),
-        ← c .before .total .ensures, lt-leb (c .before .total .result) 256 (c .if2 .taken))
+    rw (le-leb _ 64 (c .before .before .if1 .left), ← c .before .total .ensures, lt-leb _ 256 (c .if2 .taken))
 
 returns-3 : tie.Need-returns-3
 unfolding check firstRefusal
 returns-3 c =
     let counted = c .before .before .total in
-    rw (few (c .before), ← counted .ensures, ne-eqb (length (start (c .before) .args .kinds .now)) (counted .result) (c .if3 .taken))
+    rw (few (c .before), ← counted .ensures, ne-eqb _ _ (c .if3 .taken))
 
 mul-if4 : tie.Need-mul-if4
 mul-if4 c = search needs
@@ -54,8 +52,7 @@ unfolding check firstRefusal
 returns-4 c =
     let counted = c .before .before .before .total in
     let a = start (c .before .before) .args in
-    rw (few (c .before .before), ← counted .ensures, eq-eqb (length (a .kinds .now)) (counted .result) (c .before .if3 .left),
-        ne-eqb (length (a .points .now)) (8 * counted .result) (c .if4 .taken))
+    rw (few (c .before .before), ← counted .ensures, eq-eqb _ _ (c .before .if3 .left), ne-eqb _ _ (c .if4 .taken))
 
 module _ (c : tie.Else4) where
   abbrev within : tie.Else2
@@ -66,16 +63,16 @@ module _ (c : tie.Else4) where
   agree =
       let counted = within .before .total in
       let a = start within .args in
-      rw (← counted .ensures, eq-eqb (length (a .kinds .now)) (counted .result) (c .before .if3 .left),
-          eq-eqb (length (a .points .now)) (8 * counted .result) (c .if4 .left))
+      rw (← counted .ensures, eq-eqb _ _ (c .before .if3 .left), eq-eqb _ _ (c .if4 .left))
 
 kinds-known-requires : tie.Need-kinds-known-requires
 kinds-known-requires c κs = search needs
 
 returns-5 : tie.Need-returns-5
 unfolding check firstRefusal
-returns-5 c = rw (few (within (c .before .before)), agree (c .before .before),
-    ← c .before .kinds-known .ensures, not-true (c .before .kinds-known .result) (c .if5 .taken))
+returns-5 c =
+    let known = c .before .kinds-known in
+    rw (few (within (c .before .before)), agree (c .before .before), ← known .ensures, not-true (known .result) (c .if5 .taken))
 
 module _ (c : tie.Else5) where
   abbrev agreeing : tie.Else4
@@ -92,8 +89,8 @@ unfolding check firstRefusal
 returns-6 c =
     let known-kinds = c .before .before in
     let agreeing = agreeing known-kinds in
-    rw (few (within agreeing), agree agreeing, known known-kinds,
-        ← c .before .coordinates-fit .ensures, not-true (c .before .coordinates-fit .result) (c .if6 .taken))
+    let fits = c .before .coordinates-fit in
+    rw (few (within agreeing), agree agreeing, known known-kinds, ← fits .ensures, not-true (fits .result) (c .if6 .taken))
 
 fit : (c : tie.Else6)
     → let a = start (within (agreeing (c .before .before))) .args in
@@ -108,16 +105,16 @@ unfolding check firstRefusal
 returns-7 c =
     let known-kinds = c .before .before .before .before in
     let agreeing = agreeing known-kinds in
-    rw (few (within agreeing), agree agreeing, known known-kinds, fit (c .before .before),
-        ← c .before .between .ensures, not-true (c .before .between .result) (c .if7 .taken))
+    let between = c .before .between in
+    rw (few (within agreeing), agree agreeing, known known-kinds, fit (c .before .before), ← between .ensures, not-true (between .result) (c .if7 .taken))
 
 returns-8 : tie.Need-returns-8
 unfolding check firstRefusal
 returns-8 c =
     let known-kinds = c .before .before .before .before in
     let agreeing = agreeing known-kinds in
-    rw (few (within agreeing), agree agreeing, known known-kinds, fit (c .before .before),
-        ← c .before .between .ensures, not-false (c .before .between .result) (c .if7 .left))
+    let between = c .before .between in
+    rw (few (within agreeing), agree agreeing, known known-kinds, fit (c .before .before), ← between .ensures, not-false (between .result) (c .if7 .left))
 
 pub check-spec : {M : Type 1} → statement M
 check-spec =

@@ -54,9 +54,11 @@ loop-again c =
     let edges = edgesOf (start .args .kinds .now) (start .args .points .now) in
     let i = at .loop .i in
     let next : drop i edges ≡ read .edge-at .result ∷ drop (i + 1) edges =
-    rw (add-one, read .edge-at .ensures) (drop-cons edges i anyEdge (omega (arith, edges-length (start .args .kinds .now) (start .args .points .now)))) in
-    (omega arith, written .write-edge .kept .1 .1 .0 ∙ at .loop .inv .1,
-    rw (written .write-edge .ensures .0, written .write-edge .ensures .1) (storing-one _ (drop (i + 1) edges) (i + 1) refl (rw next at (at .loop .inv .2))))
+    rw (add-one, read .edge-at .ensures) (drop-cons edges i anyEdge (omega (arith, edges-length (start .args .kinds .now) (start .args .points .now)))) in (
+      omega arith,
+      written .write-edge .kept .1 .1 .0 ∙ at .loop .inv .1,
+      rw (written .write-edge .ensures .0, written .write-edge .ensures .1) (storing-one _ (drop (i + 1) edges) (i + 1) refl (rw next at (at .loop .inv .2))),
+    )
 
 same-length : tie.Need-same-length Inv-loop μ-loop
 same-length c = omega arith
@@ -69,7 +71,7 @@ returns c =
     let start = begun (c .before) in
     let edges = edgesOf (start .args .kinds .now) (start .args .points .now) in
     let none : drop (c .before .loop .i) edges ≡ [] =
-        drop-of-length-le edges {i = c .before .loop .i} (omega (arith, edges-length (start .args .kinds .now) (start .args .points .now))) in
+    drop-of-length-le edges {i = c .before .loop .i} (omega (arith, edges-length (start .args .kinds .now) (start .args .points .now))) in
     let ends = storing-ends (rw none at (c .before .loop .inv .2)) in
     record { kinds-are = ends .0; points-are = ends .1 }
 

@@ -43,9 +43,10 @@ loop-less c = omega arith
 
 loop-again : tie.Need-loop-again Inv-loop μ-loop
 loop-again c =
-    let turn = c .before .before .before in
-    (omega arith,
-    scan-more inRange nan _ _ (turn .before .loop .inv .1) (turn .loop-test .taken) (sym (c .before .in-range .ensures) ∙ not-false _ (c .if1 .left)))
+    let turn = c .before .before .before in (
+      omega arith,
+      scan-more inRange nan _ _ (turn .before .loop .inv .1) (turn .loop-test .taken) (sym (c .before .in-range .ensures) ∙ not-false _ (c .if1 .left)),
+    )
 
 returns-2 : tie.Need-returns-2 Inv-loop μ-loop
 returns-2 c = scan-end inRange nan _ _ (c .before .loop .inv .1) (c .loop-test .left)

@@ -36,8 +36,11 @@ loop-less : tie.Need-loop-less Inv-loop μ-loop
 loop-less c = omega arith
 
 loop-again : tie.Need-loop-again Inv-loop μ-loop
-loop-again c = omega (arith, c .shared-slice-known .given (c .before .before .loop .i),
-    total-step (c .before .before .before .args .lengths .now) (c .before .before .loop .i) (c .before .loop-test .taken))
+loop-again c = omega (
+  arith,
+  c .shared-slice-known .given (c .before .before .loop .i),
+  total-step (c .before .before .before .args .lengths .now) (c .before .before .loop .i) (c .before .loop-test .taken),
+)
 
 returns : tie.Need-returns Inv-loop μ-loop
 returns c = omega (arith, total-end (c .before .before .args .lengths .now) (c .before .loop .i) (c .loop-test .left))

@@ -73,7 +73,7 @@ module _ (c : tie.After-spline-values) where
   answer : checkedAnswer (c .spline-values .result) ≡ firstRefusal (checkMarking marking (splineTotal (map layout (found s))) (s .args .distances .now))
   answer =
       let total =
-          splines-counted (s .args .lengths .now) (edges s) (s .args .flags .now) (counted .count-shape .result) (flagged s) (counted .count-shape .ensures) in
+      splines-counted (s .args .lengths .now) (edges s) (s .args .flags .now) (counted .count-shape .result) (flagged s) (counted .count-shape .ensures) in
       c .spline-values .ensures .0 ∙ ap (λ (n : ℕ). firstRefusal (checkMarking marking n (s .args .distances .now))) (long counted ∙ sym total)
 
   abbrev values : List ℕ
@@ -125,8 +125,8 @@ slice-aggregate-paint-shape c =
 
 paint-shape-requires : tie.Need-paint-shape-requires
 paint-shape-requires c κs =
-    let lent = c .before .before .before .before in
-    let valued = lent .before .before .before .before in
+    let handed = c .before .before .before .before in
+    let valued = handed .before .before .before .before in
     (s valued .pre, (counted valued .count-shape .ensures, ap length (front valued) ∙ size valued))
 
 same-length : tie.Need-same-length
@@ -145,13 +145,13 @@ returns-2 : tie.Need-returns-2
 returns-2 c =
     let points = c .before .before .before .before in
     let painted = points .before .before .before .before in
-    let lent = painted .before .before .before .before .before in
-    let told = lent .before in
+    let handed = painted .before .before .before .before .before in
+    let told = handed .before in
     let valued = told .before .before .before in
     let s = s valued in
     let passed = told .enum-told .given .1 in
     let split =
-        values-laid (marking valued) (s .args .distances .now) (found s) (cut-flagged (s .args .lengths .now) (edges s) (s .args .flags .now) (flagged s)) in
+    values-laid (marking valued) (s .args .distances .now) (found s) (cut-flagged (s .args .lengths .now) (edges s) (s .args .flags .now) (flagged s)) in
     painted .paint-shape .ensures
     ∙ values-passed (marking valued) (s .args .distances .now) (found s) (old s) (sym (answer valued) ∙ ap checkedAnswer passed)
     (front valued ∙ valued .spline-values .ensures .1 passed ∙ sym split)

@@ -11,14 +11,14 @@ use Rattle.coloring.specs.Splines.{splineCount}
 use Rattle.coloring.specs.Outline.{cut}
 use Rattle.coloring.specs.Limits.{maxResultEdges, maxShapeSplines}
 use Rattle.coloring.specs.Sizes.{edges-most}
-use Rattle.coloring.proofs.outline.CutLaws.{Along, along-starts, along-room, along-next, left, left-step, left-end, cut-sizes, cut-length}
+use Rattle.coloring.proofs.outline.CutLaws.{ContoursPassed, none-passed, next-fits, next-passed, left, left-step, left-end, cut-sizes, cut-length}
 use Rattle.coloring.proofs.splines.PaintLaws.{splines-most}
 use Rattle.coloring.proofs.shape.count_shape.Statement.{statement}
 use Rattle.coloring.proofs.shape.count_shape.Tie as tie
 
 abbrev Inv-loop : tie.InvT-loop
 Inv-loop lengths flags edges₀ splines₀ at₀ i₀ edges splines at i =
-    Along lengths (length flags) at i
+    ContoursPassed lengths (length flags) at i
     × (edges + left resultEdges lengths flags i at ≡ total (map resultEdges (cut lengths flags)))
     × (splines + left splineCount lengths flags i at ≡ total (map splineCount (cut lengths flags)))
 
@@ -34,7 +34,7 @@ module _ (c : tie.In-loop Inv-loop μ-loop) where
   n = getD (start .args .lengths .now) (c .before .loop .i) 0
 
   room : c .before .loop .at + n ≤ length (start .args .flags .now)
-  room = along-room _ _ _ _ (c .before .loop .inv .0) (c .loop-test .taken)
+  room = next-fits _ _ _ _ (c .before .loop .inv .0) (c .loop-test .taken)
 
   -- it is counted
   step : (count : List Bool → ℕ)
@@ -60,7 +60,7 @@ few-splines c =
     omega (arith, rw (sizes, cut-length) at (splines-most contours), c .pre .0, c .pre .1, c .pre .2)
 
 loop-holds : tie.Need-loop-holds Inv-loop μ-loop
-loop-holds c = (along-starts _ _ (c .before .before .pre .0), omega arith, omega arith)
+loop-holds c = (none-passed _ _ (c .before .before .pre .0), omega arith, omega arith)
 
 mul-end : tie.Need-mul-end Inv-loop μ-loop
 mul-end c = omega arith
@@ -100,7 +100,7 @@ loop-again : tie.Need-loop-again Inv-loop μ-loop
 loop-again c =
     let turn = c .before .before .before in
     let s = turn .before .loop in (
-      along-next _ _ _ _ (s .inv .0) (turn .loop-test .taken),
+      next-passed _ _ _ _ (s .inv .0) (turn .loop-test .taken),
       omega (arith, c .before .part-edges .ensures, step turn resultEdges, s .inv .1),
       omega (arith, c .part-splines .ensures, step turn splineCount, s .inv .2),
     )

@@ -49,7 +49,7 @@ module _ (c : tie.After-has-room) where
   fit =
       let a = start .args in
       sized-fits (old start) (counted-sized (a .lengths .now) (edges start) (a .flags .now) (a .counts) (flagged start) (start .pre .1 .0) _ _)
-          ∙ sym (c .has-room .ensures)
+      ∙ sym (c .has-room .ensures)
 
 -- there is room
 module _ (c : tie.Else1) where
@@ -87,7 +87,7 @@ module _ (c : tie.After-lay-out) where
   edges-within : began .args .counts .edges ≤ length outFlags
   edges-within = omega (arith, c .lay-out .kept .1 .1 .1 .1 .1 .1 .1 .0, length-replicate 508 false, began .pre .1 .0 .edges-few)
 
--- the result's lengths and flags are lent, and the middle value is there
+-- the result's lengths and flags are handed over, and the middle value is there
 module _ (c : tie.After-middle-value) where
   abbrev laying : tie.After-lay-out
   laying =

@@ -1,22 +1,16 @@
 -- `simple_colors` meets its contract: after i splines, their colours stand there, and the pen goes on.
 use native.Mathlib.Omega.{arith}
 use borrow.Author.Needs.{needs}
-use mathlib.Core.Path.{_≡_, refl, ap}
+use mathlib.Core.Path.{_≡_}
 use mathlib.Core.List.{_∷_}
-use Prim.Native.Nat.{ℕ, zero, suc, _+_, _-_, _≤_, _<_}
+use Prim.Native.Nat.{ℕ, suc, _+_, _-_, _≤_, _<_}
 use lib.ListN.{length}
-use Rattle.geometry.specs.declared.edge_color.EdgeColor.{EdgeColor}
 use Rattle.coloring.specs.declared.switching.Pen.{Pen}
-use Rattle.coloring.specs.Switching.{SplineColors, switchColorBanned, bannedBefore}
+use Rattle.coloring.specs.Switching.{SplineColors}
 use Rattle.coloring.specs.Simple.{simpleFrom, simpleColors}
-use Rattle.coloring.proofs.switching.DrawLaws.{Drawing, drawing-starts, drawing-next, drawing-ends}
+use Rattle.coloring.proofs.switching.DrawLaws.{simple-length, Drawing, drawing-starts, drawing-next, drawing-ends}
 use Rattle.coloring.proofs.simple.simple_colors.Statement.{statement}
 use Rattle.coloring.proofs.simple.simple_colors.Tie as tie
-
-from-length : (initial : EdgeColor) (k : ℕ) (pen : Pen) → length (simpleFrom initial k pen .colors) ≡ k
-unfolding simpleFrom
-from-length initial zero pen = refl
-from-length initial (suc k) pen = ap suc (from-length initial k (switchColorBanned (bannedBefore initial k) pen))
 
 -- the first colour, and k after it
 
@@ -45,9 +39,11 @@ loop-holds : tie.Need-loop-holds Inv-loop μ-loop
 loop-holds c =
     let n = length (c .before .before .before .args .colors .now) in
     let first = c .before .switch-color .result in
-    let l : length (all first (n - 1) .colors) ≡ n = omega (arith, from-length (first .color) (n - 1) first) in
-    (omega arith, omega arith,
-        rw (c .bits .ensures) (drawing-next _ _ _ (omega arith) (drawing-starts (all first (n - 1)) (c .before .before .before .args .colors .now) l)))
+    let l : length (all first (n - 1) .colors) ≡ n = omega (arith, simple-length (first .color) (n - 1) first) in (
+      omega arith,
+      omega arith,
+      rw (c .bits .ensures) (drawing-next _ _ _ (omega arith) (drawing-starts (all first (n - 1)) (c .before .before .before .args .colors .now) l)),
+    )
 
 sub-banned-before : tie.Need-sub-banned-before Inv-loop μ-loop
 sub-banned-before c = omega arith
@@ -82,9 +78,12 @@ loop-again c =
     let n = length (start .args .colors .now) in
     let h : at .i < n = omega (arith, at .inv .2 .long) in
     let e : n - at .i ≡ suc (n - (at .i + 1)) = omega arith in
-    let left : n - 1 - at .i ≡ n - (at .i + 1) = omega arith in
-    (omega arith, omega arith, rw (c .bits2 .ensures, c .before .switch-color-banned .ensures, c .before .before .banned-before .ensures, left)
-        (drawing-next _ _ _ h (rw e at (at .inv .2))))
+    let left : n - 1 - at .i ≡ n - (at .i + 1) = omega arith in (
+      omega arith,
+      omega arith,
+      rw (c .bits2 .ensures, c .before .switch-color-banned .ensures, c .before .before .banned-before .ensures, left)
+          (drawing-next _ _ _ h (rw e at (at .inv .2))),
+    )
 
 same-length : tie.Need-same-length Inv-loop μ-loop
 same-length c = c .before .loop .inv .2 .long

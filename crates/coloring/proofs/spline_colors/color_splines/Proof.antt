@@ -27,7 +27,7 @@ color-valid-requires c κs =
     let checked = c .before .before .before in
     let a = checked .before .before .before .args in
     check-passed (length (a .coloring .now)) (a .distances .now)
-        (sym (checked .check-splines .ensures) ∙ ap checkedAnswer (c .before .enum-told2 .given .1))
+    (sym (checked .check-splines .ensures) ∙ ap checkedAnswer (c .before .enum-told2 .given .1))
 
 same-length : tie.Need-same-length
 same-length c = search needs
@@ -39,7 +39,7 @@ returns-2 c =
     let checked = passed .before .before in
     let a = checked .before .before .before .args in
     splines-passed (a .distances .now) (a .seed) (a .coloring .now) (ap checkedAnswer (passed .enum-told2 .given .1))
-        (checked .check-splines .ensures) (called .color-valid .ensures)
+    (checked .check-splines .ensures) (called .color-valid .ensures)
 
 pub color-splines-spec : {M : Type 1} → statement M
 color-splines-spec =

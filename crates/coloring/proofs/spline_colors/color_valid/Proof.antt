@@ -62,7 +62,7 @@ module _ (c : tie.After-order-pairs) where
 
   ordered :
       Ordered (n start) (take (n start * n start) (replicate 4096 0))
-          (take (m start) (codes ++ drop (m start) zeros)) (take (m start) (order ++ drop (m start) zeros))
+      (take (m start) (codes ++ drop (m start) zeros)) (take (m start) (order ++ drop (m start) zeros))
       (start .args .distances .now)
   ordered =
       record {

@@ -72,8 +72,11 @@ returns-2 c =
     let start = start (branch .before) in
     let values = start .args .values .now in
     let h = two branch in
-    rw (paint-one _ _ _ (eq-eqb _ _ (one branch)), getD-any values 0 (start .args .middle) 0 (omega arith),
-        getD-any values 1 (start .args .middle) 0 (omega arith))
+    rw (
+      paint-one _ _ _ (eq-eqb _ _ (one branch)),
+      getD-any values 0 (start .args .middle) 0 (omega arith),
+      getD-any values 1 (start .args .middle) 0 (omega arith),
+    )
     (runs .paint-runs .ensures ∙ rw (corner .first-corner .ensures, start .pre .room))
 
 spread-requires : tie.Need-spread-requires

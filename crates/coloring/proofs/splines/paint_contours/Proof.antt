@@ -9,14 +9,14 @@ use lib.Seq.{take-all, drop-drop}
 use Rattle.coloring.specs.Splines.{splineCount, paint, paintContours}
 use Rattle.coloring.specs.Outline.{cut}
 use Rattle.coloring.proofs.outline.CheckLaws.{total-end}
-use Rattle.coloring.proofs.outline.CutLaws.{Along, along-starts, along-room, along-next, cut-step, cut-end, left, left-step}
+use Rattle.coloring.proofs.outline.CutLaws.{ContoursPassed, none-passed, next-fits, next-passed, cut-step, cut-end, left, left-step}
 use Rattle.coloring.proofs.splines.paint_contours.Statement.{statement}
 use Rattle.coloring.proofs.splines.paint_contours.Tie as tie
 
 -- i contours are painted: the places before `at` hold their bytes, and the values from place `from` on are those of the
 -- others
 record Painting (lengths : List ℕ) (flags : List Bool) (middle : ℕ) (values out : List ℕ) (at from i : ℕ) : Type 0 where
-  pub along : Along lengths (length flags) at i
+  pub passed : ContoursPassed lengths (length flags) at i
   pub long : length out ≡ length flags
   pub splines : from + left splineCount lengths flags i at ≡ length values
   pub bytes : flatten (paintContours middle values (cut lengths flags))
@@ -35,7 +35,7 @@ module _ (lengths : List ℕ) (flags : List Bool) (middle : ℕ) (values out : L
   painting-next {k} counted same painted =
       let own : from + k - from ≡ k = omega arith in
       record {
-        along = along-next _ _ _ _ (s .along) h;
+        passed = next-passed _ _ _ _ (s .passed) h;
         long = same ∙ s .long;
         splines = omega (arith, counted, s .splines, left-step splineCount lengths flags i at h);
         bytes = s .bytes ∙ rw (cut-step lengths flags i at h, painted, own, counted, ← drop-drop (splineCount next-part) from values, append-assoc);
@@ -59,7 +59,7 @@ module _ (c : tie.In-loop Inv-loop μ-loop) where
   n = getD (start .args .lengths .now) (c .before .loop .i) 0
 
   room : c .before .loop .at + n ≤ length (start .args .flags .now)
-  room = along-room _ _ _ _ (c .before .loop .inv .along) (c .loop-test .taken)
+  room = next-fits _ _ _ _ (c .before .loop .inv .passed) (c .loop-test .taken)
 
   -- its flags
   abbrev part : List Bool
@@ -86,7 +86,7 @@ module _ (c : tie.After-part-splines Inv-loop μ-loop) where
 loop-holds : tie.Need-loop-holds Inv-loop μ-loop
 loop-holds c =
     let pre = c .before .before .before .before .pre in
-    record { along = along-starts _ _ (pre .0 .0); long = pre .0 .2; splines = omega (arith, pre .1); bytes = refl }
+    record { passed = none-passed _ _ (pre .0 .0); long = pre .0 .2; splines = omega (arith, pre .1); bytes = refl }
 
 mul-end : tie.Need-mul-end Inv-loop μ-loop
 mul-end c = omega arith
@@ -144,7 +144,7 @@ returns c =
     let a = start .args in
     let s = c .before .loop in
     let all : take (s .at) (s .out) ≡ s .out =
-    take-all (s .at) (s .out) (omega (arith, s .inv .long, s .inv .along .left, total-end (a .lengths .now) (s .i) (c .loop-test .left))) in
+    take-all (s .at) (s .out) (omega (arith, s .inv .long, s .inv .passed .left, total-end (a .lengths .now) (s .i) (c .loop-test .left))) in
     sym (s .inv .bytes ∙ rw (cut-end (a .lengths .now) (a .flags .now) (s .i) (s .at) (c .loop-test .left), append-nil, all))
 
 pub paint-contours-spec : {M : Type 1} → statement M

@@ -29,9 +29,12 @@ shared-slice-read-value c = omega arith
 
 loop-holds : tie.Need-loop-holds Inv-loop μ-loop
 loop-holds c =
-    let a = c .before .args in
-    (omega arith, omega arith, c .before .pre .1,
-        sym (over-all (spread _ (a .values .now) (a .flags .now)) (a .out .now) (c .before .pre .1 ∙ sym (spread-length _ (a .values .now) (a .flags .now)))))
+    let a = c .before .args in (
+      omega arith,
+      omega arith,
+      c .before .pre .1,
+      sym (over-all (spread _ (a .values .now) (a .flags .now)) (a .out .now) (c .before .pre .1 ∙ sym (spread-length _ (a .values .now) (a .flags .now)))),
+    )
 
 shared-slice-read-if1 : tie.Need-shared-slice-read-if1 Inv-loop μ-loop
 shared-slice-read-if1 c = omega arith
@@ -91,7 +94,7 @@ returns c =
     let at = c .before .loop in
     let a = c .before .before .before .args in
     sym (at .inv .3
-        ∙ rw (spread-end (at .value) (drop (at .next) (a .values .now)) (a .flags .now) (at .i) (c .loop-test .left)) (over-nothing (at .i) (at .out)))
+    ∙ rw (spread-end (at .value) (drop (at .next) (a .values .now)) (a .flags .now) (at .i) (c .loop-test .left)) (over-nothing (at .i) (at .out)))
 
 pub spread-spec : {M : Type 1} → statement M
 spread-spec =

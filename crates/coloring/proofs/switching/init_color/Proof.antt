@@ -33,7 +33,7 @@ returns-3 : tie.Need-returns-3
 returns-3 c =
     let below : c .before .seed-extract3 .result .value ≡ c .before .before .args .seed % 3 = ap (λ (d : Draw). d .value) (c .before .seed-extract3 .ensures) in
     drawn (c .before .seed-extract3 .result) (c .before .before .args .seed) 2
-        (c .before .seed-extract3 .ensures) (omega (arith, c .match .rest .1, c .match .rest .0 .1))
+    (c .before .seed-extract3 .ensures) (omega (arith, c .match .rest .1, c .match .rest .0 .1))
 
 pub init-color-spec : {M : Type 1} → statement M
 init-color-spec = tie.close (tie.spec seed-extract3-requires returns returns-2 returns-3)

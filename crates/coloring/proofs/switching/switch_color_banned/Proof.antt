@@ -58,7 +58,7 @@ returns-2 c =
     let start = c .before .before .before .before .before in
     let one = c .before .before .before .before in
     c .switch-color .ensures
-        ∙ draws (start .args .pen) (start .args .banned) (one .bits .result) (c .before .before .before .bits2 .result) (one .bits .ensures)
+    ∙ draws (start .args .pen) (start .args .banned) (one .bits .result) (c .before .before .before .bits2 .result) (one .bits .ensures)
     (c .before .before .before .bits2 .ensures) (c .before .before .one-channel .result) (c .before .before .one-channel .ensures) (c .before .if1 .left)
 
 pub switch-color-banned-spec : {M : Type 1} → statement M

@@ -81,7 +81,7 @@ returns c =
     let held = rw (edges-between (a .at) (a .end) (a .kinds .now) (a .points .now) (start .pre .0 .start)) at (called .spline-colors .ensures) in
     let part-long = mid-len (a .to) (a .next) (a .colors .now) (start .pre .1 .1) in
     let long : length (map bitsOf (splines .colors)) ≡ a .next - a .to =
-        sym (ap length (held .colors-are)) ∙ called .spline-colors .kept .1 .1 .1 .1 .1 .0 ∙ part-long in
+    sym (ap length (held .colors-are)) ∙ called .spline-colors .kept .1 .1 .1 .1 .1 .0 ∙ part-long in
     record {
       colors-are = rw (held .colors-are)
           (part-front (a .to) (a .next - a .to) (a .next) (map bitsOf (splines .colors)) _

@@ -16,7 +16,7 @@ use Rattle.coloring.specs.Corners.{Cornered, cornered}
 use Rattle.coloring.specs.Splines.{splineCount}
 use Rattle.coloring.specs.Values.{splineColors, shapeColors}
 use Rattle.coloring.specs.Outline.{edgesOf}
-use Rattle.coloring.proofs.outline.CutLaws.{Along, along-starts, along-room, along-next, cornered-step, cornered-end, left, left-step, left-end}
+use Rattle.coloring.proofs.outline.CutLaws.{ContoursPassed, none-passed, next-fits, next-passed, cornered-step, cornered-end, left, left-step, left-end}
 use Rattle.coloring.proofs.values.shape_colors.Statement.{statement}
 use Rattle.coloring.proofs.values.shape_colors.Tie as tie
 
@@ -27,7 +27,7 @@ colorBytes strategy pen contours = map bitsOf (shapeColors strategy pen contours
 -- i contours, with their edges before `at`, have their colours in the places before `to`
 record Coloring (strategy : Strategy) (lengths : List ℕ) (xs : List EdgeSegment) (flags : List Bool)
     (pen₀ : Pen) (n m : ℕ) (colors : List ℕ) (pen : Pen) (at to i : ℕ) : Type 0 where
-  pub along : Along lengths n at i
+  pub passed : ContoursPassed lengths n at i
   pub long : length colors ≡ m
   pub splines : to + left splineCount lengths flags i at ≡ m
   pub bytes : colorBytes strategy pen₀ (cornered lengths xs flags)
@@ -45,12 +45,17 @@ module _ (strategy : Strategy) (lengths : List ℕ) (xs : List EdgeSegment) (fla
   unfolding shapeColors
   coloring-next counted same held =
       record {
-        along = along-next _ _ _ _ (s .along) h;
+        passed = next-passed _ _ _ _ (s .passed) h;
         long = same ∙ s .long;
         splines = omega (arith, counted, s .splines, left-step splineCount lengths flags i at h);
         bytes = s .bytes
-            ∙ rw (cornered-step lengths xs flags i at h, held .colors-are, held .pen-is,
-            map-append bitsOf (splineColors strategy pen here .colors) _, append-assoc);
+            ∙ rw (
+              cornered-step lengths xs flags i at h,
+              held .colors-are,
+              held .pen-is,
+              map-append bitsOf (splineColors strategy pen here .colors) _,
+              append-assoc,
+            );
       }
 
 abbrev Inv-loop : tie.InvT-loop
@@ -75,7 +80,7 @@ module _ (c : tie.In-loop Inv-loop μ-loop) where
   n = getD (start .args .lengths .now) (c .before .loop .i) 0
 
   room : c .before .loop .at + n ≤ length (start .args .kinds .now)
-  room = along-room _ _ _ _ (c .before .loop .inv .along) (c .loop-test .taken)
+  room = next-fits _ _ _ _ (c .before .loop .inv .passed) (c .loop-test .taken)
 
   -- its flags
   abbrev part : List Bool
@@ -105,7 +110,7 @@ loop-holds : tie.Need-loop-holds Inv-loop μ-loop
 loop-holds c =
     let known = c .before in
     let start = known .before .before .before .before .before in
-    record { along = along-starts _ _ (start .pre .0 .whole); long = refl; splines = omega (arith, start .pre .1); bytes = refl }
+    record { passed = none-passed _ _ (start .pre .0 .whole); long = refl; splines = omega (arith, start .pre .1); bytes = refl }
 
 mul-end : tie.Need-mul-end Inv-loop μ-loop
 mul-end c = omega arith

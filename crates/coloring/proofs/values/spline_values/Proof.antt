@@ -22,7 +22,7 @@ use Rattle.coloring.specs.Splines.{splineTotal}
 use Rattle.coloring.specs.Values.{shapeColors, splineColor, splineValues, checkMarking}
 use Rattle.coloring.specs.Outline.{edgesOf}
 use Rattle.coloring.proofs.shape.DeliverLaws.{splines-cut}
-use Rattle.coloring.proofs.spline_colors.CheckLaws.{splines-told}
+use Rattle.coloring.proofs.spline_colors.CheckLaws.{splines-answered}
 use Rattle.coloring.proofs.values.spline_values.Statement.{statement}
 use Rattle.coloring.proofs.values.spline_values.Tie as tie
 
@@ -50,10 +50,11 @@ module _ (distances : List Float) (found : List Cornered) (n : ℕ) (sized : n �
         → Valued marking r values
     unfolding splineValues
     by-distances old {seed} {r} {coloring} m long colors e =
-        let outcome = splines-told distances seed old r coloring colors in
-        rw m
-            (rw long at (outcome .0),
-            λ p. e ∙ ap (map (λ color. bitsOf (splineColor color))) (outcome .1 p ∙ ap (λ (k : ℕ). colorSplines k distances seed) (long ∙ sized)))
+        let outcome = splines-answered distances seed old r coloring colors in
+        rw m (
+          rw long at (outcome .0),
+          λ p. e ∙ ap (map (λ color. bitsOf (splineColor color))) (outcome .1 p ∙ ap (λ (k : ℕ). colorSplines k distances seed) (long ∙ sized)),
+        )
 
 module _ (c : tie.After-slice-known) where
   abbrev start : tie.Start
