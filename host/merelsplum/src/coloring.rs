@@ -11,8 +11,7 @@ pub(crate) fn answer(code: u64) -> Result<u64, Refusal> {
 }
 
 pub(crate) fn colored(out: &FlatResult) -> Colored {
-    let color = |at: usize| EdgeColor::from_bits(out.bytes[at]);
-    Colored { contours: outline::contours(out.lengths(), &out.kinds, &out.points, color) }
+    Colored { contours: outline::contours(out.lengths(), &out.kinds, &out.points, &out.bytes, EdgeColor::from_bits) }
 }
 
 fn color(outline: &Outline, entry: impl FnOnce(&ffi::Flat, &mut FlatResult) -> u64) -> Result<Colored, Refusal> {
@@ -116,9 +115,9 @@ pub fn edge_coloring_by_distance(outline: &Outline, threshold: f64, seed: u64, d
 pub fn collect_splines(outline: &Outline, threshold: f64) -> Result<Collected, Refusal> {
     let mut out = outline.room();
     let counts = answer(ffi::collect_splines(&outline.flat(), threshold, &mut out))?;
-    let spline = |at: usize| Some(out.bytes[at]).filter(|&number| number != NO_SPLINE);
+    let spline = |number: u8| Some(number).filter(|&number| number != NO_SPLINE);
     Ok(Collected {
-        contours: outline::contours(out.lengths(), &out.kinds, &out.points, spline),
+        contours: outline::contours(out.lengths(), &out.kinds, &out.points, &out.bytes, spline),
         splines: (counts >> 16) as usize,
     })
 }

@@ -3,31 +3,51 @@
 //! The functions take any contents and lengths. What they ask of a caller is what slices have: each pointer is good for the length beside
 //! it, and what is written overlaps nothing else.
 
+/// The eight point places of an edge: room for the control points of every kind.
+pub(crate) type Places = [[f64; 2]; 4];
+
 /// An outline as the library takes it.
 pub(crate) struct Flat {
     pub lengths: Vec<u16>,
     pub kinds: Vec<u8>,
-    pub points: Vec<f64>,
+    pub points: Vec<Places>,
 }
 
 /// A length that no result has. Places beyond a result keep their bytes, so the contours of a result end at the first of these.
 const UNWRITTEN: u16 = u16::MAX;
 
-/// Where a result goes: an outline and a byte for each edge.
+/// Where a result goes: an outline and a byte for each edge. What stands for edges is empty until they are written.
 pub(crate) struct FlatResult {
     pub lengths: Vec<u16>,
     pub kinds: Vec<u8>,
-    pub points: Vec<f64>,
+    pub points: Vec<Places>,
     pub bytes: Vec<u8>,
+    /// For how many edges there is room.
+    room: usize,
 }
 
 impl FlatResult {
     pub fn new(contours: usize, edges: usize) -> FlatResult {
         FlatResult {
             lengths: vec![UNWRITTEN; contours],
-            kinds: vec![0; edges],
-            points: vec![0.0; 8 * edges],
-            bytes: vec![0; edges],
+            kinds: Vec::with_capacity(edges),
+            points: Vec::with_capacity(edges),
+            bytes: Vec::with_capacity(edges),
+            room: edges,
+        }
+    }
+
+    /// # Safety
+    ///
+    /// The code is that of a call which had these buffers: where it is no refusal, its low 16 bits are the number of edges
+    /// that were written, of which there are at most 508.
+    unsafe fn written(&mut self, code: u64) {
+        let edges = if code >> 32 == 0 { code as usize & 0xFFFF } else { 0 };
+        // SAFETY: so many are written, and there was room for them.
+        unsafe {
+            self.kinds.set_len(edges);
+            self.points.set_len(edges);
+            self.bytes.set_len(edges);
         }
     }
 
@@ -167,63 +187,67 @@ unsafe extern "C" {
 }
 
 pub(crate) fn edge_coloring_simple(o: &Flat, threshold: f64, seed: u64, out: &mut FlatResult) -> u64 {
-    // SAFETY: each pointer and length is a slice's, and those written are borrowed mutably.
+    // SAFETY: each pointer and length is a slice's, or that of the room of a `Vec`, and those written are borrowed mutably.
     unsafe {
-        merelsplum_edge_coloring_simple(
+        let code = merelsplum_edge_coloring_simple(
             o.lengths.as_ptr(),
             o.lengths.len(),
             o.kinds.as_ptr(),
             o.kinds.len(),
-            o.points.as_ptr(),
-            o.points.len(),
+            o.points.as_ptr().cast(),
+            8 * o.points.len(),
             threshold,
             seed,
             out.lengths.as_mut_ptr(),
             out.lengths.len(),
             out.kinds.as_mut_ptr(),
-            out.kinds.len(),
-            out.points.as_mut_ptr(),
-            out.points.len(),
+            out.room,
+            out.points.as_mut_ptr().cast(),
+            8 * out.room,
             out.bytes.as_mut_ptr(),
-            out.bytes.len(),
-        )
+            out.room,
+        );
+        out.written(code);
+        code
     }
 }
 
 pub(crate) fn edge_coloring_ink_trap(o: &Flat, threshold: f64, seed: u64, out: &mut FlatResult) -> u64 {
     // SAFETY: as above.
     unsafe {
-        merelsplum_edge_coloring_ink_trap(
+        let code = merelsplum_edge_coloring_ink_trap(
             o.lengths.as_ptr(),
             o.lengths.len(),
             o.kinds.as_ptr(),
             o.kinds.len(),
-            o.points.as_ptr(),
-            o.points.len(),
+            o.points.as_ptr().cast(),
+            8 * o.points.len(),
             threshold,
             seed,
             out.lengths.as_mut_ptr(),
             out.lengths.len(),
             out.kinds.as_mut_ptr(),
-            out.kinds.len(),
-            out.points.as_mut_ptr(),
-            out.points.len(),
+            out.room,
+            out.points.as_mut_ptr().cast(),
+            8 * out.room,
             out.bytes.as_mut_ptr(),
-            out.bytes.len(),
-        )
+            out.room,
+        );
+        out.written(code);
+        code
     }
 }
 
 pub(crate) fn edge_coloring_by_distance(o: &Flat, threshold: f64, seed: u64, distances: &[f64], out: &mut FlatResult) -> u64 {
     // SAFETY: as above.
     unsafe {
-        merelsplum_edge_coloring_by_distance(
+        let code = merelsplum_edge_coloring_by_distance(
             o.lengths.as_ptr(),
             o.lengths.len(),
             o.kinds.as_ptr(),
             o.kinds.len(),
-            o.points.as_ptr(),
-            o.points.len(),
+            o.points.as_ptr().cast(),
+            8 * o.points.len(),
             threshold,
             seed,
             distances.as_ptr(),
@@ -231,35 +255,39 @@ pub(crate) fn edge_coloring_by_distance(o: &Flat, threshold: f64, seed: u64, dis
             out.lengths.as_mut_ptr(),
             out.lengths.len(),
             out.kinds.as_mut_ptr(),
-            out.kinds.len(),
-            out.points.as_mut_ptr(),
-            out.points.len(),
+            out.room,
+            out.points.as_mut_ptr().cast(),
+            8 * out.room,
             out.bytes.as_mut_ptr(),
-            out.bytes.len(),
-        )
+            out.room,
+        );
+        out.written(code);
+        code
     }
 }
 
 pub(crate) fn collect_splines(o: &Flat, threshold: f64, out: &mut FlatResult) -> u64 {
     // SAFETY: as above.
     unsafe {
-        merelsplum_collect_splines(
+        let code = merelsplum_collect_splines(
             o.lengths.as_ptr(),
             o.lengths.len(),
             o.kinds.as_ptr(),
             o.kinds.len(),
-            o.points.as_ptr(),
-            o.points.len(),
+            o.points.as_ptr().cast(),
+            8 * o.points.len(),
             threshold,
             out.lengths.as_mut_ptr(),
             out.lengths.len(),
             out.kinds.as_mut_ptr(),
-            out.kinds.len(),
-            out.points.as_mut_ptr(),
-            out.points.len(),
+            out.room,
+            out.points.as_mut_ptr().cast(),
+            8 * out.room,
             out.bytes.as_mut_ptr(),
-            out.bytes.len(),
-        )
+            out.room,
+        );
+        out.written(code);
+        code
     }
 }
 
@@ -279,8 +307,8 @@ pub(crate) fn job_read(file: &[u8], job: &mut FlatJob) -> u64 {
             lengths.len(),
             kinds.as_mut_ptr(),
             kinds.len(),
-            points.as_mut_ptr(),
-            points.len(),
+            points.as_mut_ptr().cast(),
+            8 * points.len(),
             job.distances.as_mut_ptr(),
             job.distances.len(),
             &mut job.numbers,
@@ -296,18 +324,20 @@ pub(crate) fn job_check(file: &[u8]) -> u64 {
 pub(crate) fn job_color(file: &[u8], out: &mut FlatResult) -> u64 {
     // SAFETY: as above.
     unsafe {
-        merelsplum_job_color(
+        let code = merelsplum_job_color(
             file.as_ptr(),
             file.len(),
             out.lengths.as_mut_ptr(),
             out.lengths.len(),
             out.kinds.as_mut_ptr(),
-            out.kinds.len(),
-            out.points.as_mut_ptr(),
-            out.points.len(),
+            out.room,
+            out.points.as_mut_ptr().cast(),
+            8 * out.room,
             out.bytes.as_mut_ptr(),
-            out.bytes.len(),
-        )
+            out.room,
+        );
+        out.written(code);
+        code
     }
 }
 

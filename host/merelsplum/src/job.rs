@@ -14,7 +14,7 @@
 //! ```
 
 use crate::coloring::{answer, colored, edge_coloring_by_distance, edge_coloring_ink_trap, edge_coloring_simple};
-use crate::ffi::{self, Flat, FlatJob, FlatResult};
+use crate::ffi::{self, Flat, FlatJob, FlatResult, Places};
 use crate::outline::{self, Colored, Outline};
 use crate::refusal::Refusal;
 
@@ -57,13 +57,14 @@ impl Job {
     ///
     /// The number that [`check`] gives: the file's first fault.
     pub fn read(file: &[u8]) -> Result<Job, Refusal> {
-        let outline = Flat { lengths: vec![0; MAX_CONTOURS], kinds: vec![0; MAX_EDGES], points: vec![0.0; 8 * MAX_EDGES] };
+        let outline =
+            Flat { lengths: vec![0; MAX_CONTOURS], kinds: vec![0; MAX_EDGES], points: vec![Places::default(); MAX_EDGES] };
         let mut flat = FlatJob { outline, distances: vec![0.0; MAX_DISTANCES], numbers: [0; 6] };
         answer(ffi::job_read(file, &mut flat))?;
         let [strategy, seed, threshold, contours, _, distances] = flat.numbers;
         let Flat { lengths, kinds, points } = flat.outline;
         let lengths = lengths[..contours as usize].iter().map(|&length| length as usize);
-        let edges = outline::contours(lengths, &kinds, &points, |_| ());
+        let edges = outline::contours(lengths, &kinds, &points, &kinds, |_| ());
         let contours = edges.into_iter().map(|contour| contour.into_iter().map(|(edge, ())| edge).collect()).collect();
         flat.distances.truncate(distances as usize);
         Ok(Job {

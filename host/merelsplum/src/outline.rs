@@ -1,4 +1,4 @@
-use crate::ffi::{Flat, FlatResult};
+use crate::ffi::{Flat, FlatResult, Places};
 
 /// x and y.
 pub type Point = [f64; 2];
@@ -68,13 +68,22 @@ impl Edge {
         self.points().len() as u8 - 1
     }
 
-    /// From eight numbers, of which a line uses four and a quadratic six.
-    fn from_places(kind: u8, places: &[f64]) -> Edge {
-        let point = |i: usize| [places[2 * i], places[2 * i + 1]];
+    /// Eight numbers, of which a line uses four and a quadratic six.
+    fn places(&self) -> Places {
+        const UNUSED: Point = [0.0; 2];
+        match *self {
+            Edge::Line([a, b]) => [a, b, UNUSED, UNUSED],
+            Edge::Quadratic([a, b, c]) => [a, b, c, UNUSED],
+            Edge::Cubic(points) => points,
+        }
+    }
+
+    fn from_places(kind: u8, places: Places) -> Edge {
+        let [a, b, c, _] = places;
         match kind {
-            1 => Edge::Line([0, 1].map(point)),
-            2 => Edge::Quadratic([0, 1, 2].map(point)),
-            _ => Edge::Cubic([0, 1, 2, 3].map(point)),
+            1 => Edge::Line([a, b]),
+            2 => Edge::Quadratic([a, b, c]),
+            _ => Edge::Cubic(places),
         }
     }
 }
@@ -132,17 +141,13 @@ impl Outline {
         let mut flat = Flat {
             lengths: Vec::with_capacity(self.contours.len()),
             kinds: Vec::with_capacity(edges),
-            points: Vec::with_capacity(8 * edges),
+            points: Vec::with_capacity(edges),
         };
         for contour in &self.contours {
             // a contour this long is refused for its length
             flat.lengths.push(contour.len().try_into().unwrap_or(u16::MAX));
-            for edge in contour {
-                flat.kinds.push(edge.kind());
-                let used = edge.points().as_flattened();
-                flat.points.extend_from_slice(used);
-                flat.points.extend(std::iter::repeat_n(0.0, 8 - used.len()));
-            }
+            flat.kinds.extend(contour.iter().map(Edge::kind));
+            flat.points.extend(contour.iter().map(Edge::places));
         }
         flat
     }
@@ -167,13 +172,20 @@ impl Colored {
     }
 }
 
-/// The contours that buffers hold, each edge with the value at its place.
+/// The contours that buffers hold, each edge with the value of its byte.
 pub(crate) fn contours<T>(
     lengths: impl Iterator<Item = usize>,
     kinds: &[u8],
-    points: &[f64],
-    value: impl Fn(usize) -> T,
+    points: &[Places],
+    bytes: &[u8],
+    value: impl Fn(u8) -> T,
 ) -> Vec<Vec<(Edge, T)>> {
-    let mut edges = (0..).map(|at| (Edge::from_places(kinds[at], &points[8 * at..][..8]), value(at)));
-    lengths.map(|length| edges.by_ref().take(length).collect()).collect()
+    let mut at = 0;
+    let contour = |length: usize| {
+        let places = at..at + length;
+        at = places.end;
+        let edges = kinds[places.clone()].iter().zip(&points[places.clone()]).zip(&bytes[places]);
+        edges.map(|((&kind, &points), &byte)| (Edge::from_places(kind, points), value(byte))).collect()
+    };
+    lengths.map(contour).collect()
 }
