@@ -183,11 +183,15 @@ fn check(n: u64, g: Guessed) -> Verdict
     Verdict::Nearest(nearest)
 }
 
-// To the nearest. The pattern is that of the number n * 2^-52 or, where it is another one, the guess is wrong.
-fn rounded(n: u64, pattern: u64) -> u64
-    requires { ⌜ (2 ^ 52 ≤ n) × (n < 2 ^ 54) × (pattern < 0x4010_0000_0000_0000) ⌝ }
+// To the nearest. A q of 26 digits is tried first: where n is 4 * q * q, the root is q * 2^27. The pattern is that of
+// the number n * 2^-52 or, where it is another one, the guess is wrong.
+fn rounded(n: u64, pattern: u64, q: u64) -> u64
+    requires { ⌜ (2 ^ 52 ≤ n) × (n < 2 ^ 54) × (pattern < 0x4010_0000_0000_0000) × (q < 2 ^ 26) ⌝ }
     ensures { λ r. ⌜ r ≡ rounded (n * 2 ^ 52) ⌝ }
 {
+    if 4 * (q * q) == n {
+        return q * 0x800_0000;
+    }
     let verdict = check(n, guess(pattern));
     match verdict {
         Verdict::Nearest(r) => r,
@@ -198,15 +202,17 @@ fn rounded(n: u64, pattern: u64) -> u64
 // ---- the root of a pattern, and of a value
 
 // The root of a positive finite pattern: half the exponent, and the root of the significand. A normal number's fraction
-// stands as it is in the pattern of a number from 1 to 4.
-fn positive_root(bits: u64) -> u64
-    requires { ⌜ (0 < bits) × (bits < infinityPattern) ⌝ }
+// stands as it is in the pattern of a number from 1 to 4. `near` may be the root's fraction; its first 25 digits are
+// tried.
+fn positive_root(bits: u64, near: u64) -> u64
+    requires { ⌜ (0 < bits) × (bits < infinityPattern) × (near < 2 ^ 52) ⌝ }
     ensures { λ r. ⌜ r ≡ positiveRoot bits ⌝ }
 {
     let e = exponent(bits);
     let n = significand(bits) << (e % 2);
     let pattern = (bits + LEADING) % 0x20_0000_0000_0000 + 0x3FF0_0000_0000_0000;
-    (e / 2 + 485) * LEADING + rounded(n, pattern)
+    let q = (LEADING + near) / 0x800_0000;
+    (e / 2 + 485) * LEADING + rounded(n, pattern, q)
 }
 
 // On bit patterns: either zero, and +infinity, stays; a NaN or a negative number gives NAN.
@@ -222,15 +228,29 @@ pub fn sqrt_bits(bits: u64) -> u64
     if bits > INFINITY {
         return NAN;
     }
-    positive_root(bits)
+    positive_root(bits, 0)
 }
 
-// On values. A NaN has no pattern that the logic knows, so none is read.
-pub fn sqrt(x: f64) -> f64
+// On values. A NaN has no pattern that the logic knows, so none is read. `near` is any number: where it is the root and
+// has at most 26 digits, the root is found at once. A normal number's root is no NaN.
+pub(crate) fn sqrt_near(x: f64, near: f64) -> f64
     ensures { λ r. ⌜ r ≡ sqrtOf x ⌝ }
 {
     if x != x {
         return 0.0 / 0.0;
     }
-    float(sqrt_bits(f64::to_bits(x)))
+    let bits = f64::to_bits(x);
+    if LEADING <= bits {
+        if bits < INFINITY {
+            return f64::from_bits(positive_root(bits, last_digits(near, LEADING)));
+        }
+    }
+    float(sqrt_bits(bits))
+}
+
+// With nothing known of the root.
+pub fn sqrt(x: f64) -> f64
+    ensures { λ r. ⌜ r ≡ sqrtOf x ⌝ }
+{
+    sqrt_near(x, 1.0)
 }

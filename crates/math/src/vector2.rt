@@ -1,6 +1,6 @@
 // The plane vector of math/vector2.rs, by value. Its operators are methods: `a + b` is `a.add(b)`, `v * s` is
 // `v.mul_scalar(s)`, and `s * v` is `scale(s, v)`.
-use crate::sqrt::sqrt;
+use crate::sqrt::sqrt_near;
 ghost use mathlib.Core.Path.{_≡_};
 ghost use Rattle.math.specs.Vector2.{zeroVector, new, splat, squaredLength, lengthOf, normalize, orthogonal, orthonormal, isNonzero};
 ghost use Rattle.math.specs.Vector2.{dot, cross, add, sub, neg, mul, div, mulScalar, divScalar, scale, eq};
@@ -38,10 +38,11 @@ impl Vector2 {
         self.x * self.x + self.y * self.y
     }
 
+    // Where one component is 0, their sum may be the length.
     pub fn length(self) -> f64
         ensures { λ r. ⌜ r ≡ lengthOf self ⌝ }
     {
-        sqrt(self.squared_length())
+        sqrt_near(self.squared_length(), self.x + self.y)
     }
 
     // The vector divided by its length. Of length 0 it is (0, 0) where `allow_zero` is true, else (0, 1).

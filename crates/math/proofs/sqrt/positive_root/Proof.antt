@@ -37,6 +37,9 @@ add-pattern c = search needs
 add-pattern-2 : tie.Need-add-pattern-2
 add-pattern-2 c = search needs
 
+add-q : tie.Need-add-q
+add-q c = search needs
+
 add-result : tie.Need-add-result
 add-result c = search needs
 
@@ -49,7 +52,7 @@ rounded-requires : tie.Need-rounded-requires
 rounded-requires c κs =
     let start = c .before .before in
     let n = word-within (start .args .bits) _ _ (start .pre .0) (start .pre .1) (c .before .exponent .ensures) (c .significand .ensures) in
-    (n .0, n .1, omega arith)
+    (n .0, n .1, omega arith, omega arith)
 
 root-is : (c : tie.After-rounded) → c .rounded .result ≡ spec.rounded (spec.scaled (c .before .before .before .args .bits))
 root-is c =
@@ -86,6 +89,7 @@ positive-root-spec =
     shl-n
     add-pattern
     add-pattern-2
+    add-q
     add-result
     mul-result
     rounded-requires
