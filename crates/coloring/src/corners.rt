@@ -76,7 +76,8 @@ fn end_direction(e: EdgeSegment, start: Vector2) -> Vector2
     e.direction(1.0).normalize(false)
 }
 
-// A flag for each edge of a contour, true where it starts at a corner. Directions are unit directions.
+// A flag for each edge of a contour, true where it starts at a corner. Directions are unit directions. The first edge
+// comes last, since the edge before it is the last.
 pub(crate) fn identify_corners(kinds: &[u8], points: &[f64], threshold: f64, flags: &mut [bool])
     requires { ⌜ Matching (now kinds) (now points) (now flags) ⌝ }
     ensures { λ _. ⌜ now (flags .exit) ≡ cornerFlags threshold (edgesOf (now (kinds .entry)) (now (points .entry))) ⌝ }
@@ -85,10 +86,9 @@ pub(crate) fn identify_corners(kinds: &[u8], points: &[f64], threshold: f64, fla
     if m == 0 {
         return;
     }
-    let mut prev = edge_at(kinds, points, m - 1)
-        .direction(1.0)
-        .normalize(false);
-    let mut i = 0;
+    let first = edge_at(kinds, points, 0).direction(0.0).normalize(false);
+    let mut prev = end_direction(edge_at(kinds, points, 0), first);
+    let mut i = 1;
     while i < m {
         let e = edge_at(kinds, points, i);
         let start = e.direction(0.0).normalize(false);
@@ -96,6 +96,7 @@ pub(crate) fn identify_corners(kinds: &[u8], points: &[f64], threshold: f64, fla
         prev = end_direction(e, start);
         i += 1;
     }
+    flags[0] = is_corner(prev, first, threshold);
 }
 
 // The same for the contour of the edges from `at` up to `end`.

@@ -1,28 +1,67 @@
--- `identify_corners` meets its contract: the edges before place i have their flags, and `prev` is the unit direction in
--- which the edge before i ends.
+-- `identify_corners` meets its contract: the edges between the first and place i have their flags, whatever stands at the
+-- first, and `prev` is the unit direction in which the edge before i ends.
 use native.Mathlib.Omega.{arith}
 use borrow.Author.Needs.{needs}
-use mathlib.Core.Path.{_≡_, refl, sym, _∙_}
-use Prim.Native.Nat.{_-_, _≤_, _<_}
-use lib.ListN.{length, drop, length-set}
+use mathlib.Core.Path.{_≡_, refl, sym, ap, ap₂, _∙_}
+use mathlib.Core.Bool.{Bool, false}
+use mathlib.Core.List.{List, _∷_}
+use Prim.Native.Nat.{ℕ, _+_, _-_, _≤_, _<_}
+use lib.ListN.{length, drop, getD, set, length-set}
+use Rattle.math.specs.Scalar.{f0, f1}
+use Rattle.math.specs.Vector2.{normalize}
+use Rattle.math.specs.declared.vector2.Vector2.{Vector2}
+use Rattle.geometry.specs.EdgeSegment.{direction}
+use Rattle.geometry.specs.declared.edge_segment.EdgeSegment.{EdgeSegment}
 use Rattle.coloring.specs.Lists.{overFrom}
 use Rattle.coloring.proofs.Writing.{over-all, over-next, over-nothing}
-use Rattle.coloring.specs.Corners.{cornerFlags}
+use Rattle.coloring.specs.Corners.{isCorner, cornerFlags}
 use Rattle.coloring.specs.Outline.{anyEdge, edgesOf}
-use Rattle.coloring.specs.Sizes.{flags-length}
 use Rattle.coloring.proofs.Lists.{length-zero}
 use Rattle.coloring.proofs.outline.EdgeLaws.{edges-length}
-use Rattle.coloring.proofs.corners.SearchLaws.{unitFlags, flags-start, no-flags, flags-next, flags-end}
+use Rattle.coloring.proofs.corners.SearchLaws.{unitFlags, no-flags, flags-next, flags-end, flags-closed, rest-length, set-apart}
 use Rattle.coloring.proofs.corners.identify_corners.Statement.{statement}
 use Rattle.coloring.proofs.corners.identify_corners.Tie as tie
 
+-- the unit directions in which the edge at a place starts and ends
+abbrev startOf : List EdgeSegment → ℕ → Vector2
+startOf edges i = normalize (direction (getD edges i anyEdge) f0) false
+
+abbrev endOf : List EdgeSegment → ℕ → Vector2
+endOf edges i = normalize (direction (getD edges i anyEdge) f1) false
+
 abbrev Inv-loop : tie.InvT-loop
-Inv-loop kinds points threshold flags₀ m prev₀ i₀ flags prev i =
-    (m ≡ length kinds) × (i ≤ m) × (length flags ≡ m)
-    × (cornerFlags threshold (edgesOf kinds points) ≡ overFrom i (unitFlags threshold prev (drop i (edgesOf kinds points))) flags)
+Inv-loop kinds points threshold flags₀ m first prev₀ i₀ flags prev i =
+    (m ≡ length kinds) × (0 < i) × (i ≤ m) × (length flags ≡ m)
+    × (prev ≡ endOf (edgesOf kinds points) (i - 1))
+    × ((b : Bool) → b ∷ unitFlags threshold prev₀ (drop 1 (edgesOf kinds points))
+    ≡ overFrom i (unitFlags threshold prev (drop i (edgesOf kinds points))) (set flags 0 b))
 
 abbrev μ-loop : tie.MeasureT-loop
-μ-loop kinds points threshold flags₀ m prev₀ i₀ flags prev i = m - i
+μ-loop kinds points threshold flags₀ m first prev₀ i₀ flags prev i = m - i
+
+-- ---- before the loop
+
+module _ (c : tie.After-end-direction Inv-loop μ-loop) where
+  abbrev start : tie.Start Inv-loop μ-loop
+  start = c .before .before .before .before .before .before .before .before .before
+
+  abbrev edges : List EdgeSegment
+  edges = edgesOf (start .args .kinds .now) (start .args .points .now)
+
+  as-many : length edges ≡ length (start .args .kinds .now)
+  as-many = edges-length (start .args .kinds .now) (start .args .points .now)
+
+  some : 0 < length (start .args .kinds .now)
+  some = omega arith
+
+  starts : c .before .before .normalize .result ≡ startOf edges 0
+  starts =
+      c .before .before .normalize .ensures
+      ∙ ap (λ (v : Vector2). normalize v false)
+      (c .before .before .before .direction .ensures ∙ ap (λ (e : EdgeSegment). direction e f0) (c .before .before .before .before .edge-at .ensures))
+
+  ends : c .end-direction .result ≡ endOf edges 0
+  ends = c .end-direction .ensures ∙ ap (λ (e : EdgeSegment). normalize (direction e f1) false) (c .before .edge-at2 .ensures)
 
 returns : tie.Need-returns Inv-loop μ-loop
 returns c =
@@ -30,15 +69,8 @@ returns c =
     length-zero (a .flags .now) (c .before .before .before .before .pre .flagged ∙ c .if1 .taken)
     ∙ sym (no-flags (a .threshold) (edgesOf (a .kinds .now) (a .points .now)) (edges-length (a .kinds .now) (a .points .now) ∙ c .if1 .taken))
 
-sub-edge-at : tie.Need-sub-edge-at Inv-loop μ-loop
-sub-edge-at c = omega arith
-
 edge-at-requires : tie.Need-edge-at-requires Inv-loop μ-loop
 edge-at-requires c κs = (omega arith, c .before .before .before .before .pre .places)
-
--- where the function began, from the last edge's reading
-abbrev begun : tie.After-edge-at Inv-loop μ-loop → tie.Start Inv-loop μ-loop
-begun c = c .before .before .before .before .before
 
 direction-requires : tie.Need-direction-requires Inv-loop μ-loop
 direction-requires c κs = search needs
@@ -46,27 +78,33 @@ direction-requires c κs = search needs
 normalize-requires : tie.Need-normalize-requires Inv-loop μ-loop
 normalize-requires c κs = search needs
 
+edge-at-requires-2 : tie.Need-edge-at-requires-2 Inv-loop μ-loop
+edge-at-requires-2 c κs = (omega arith, c .before .before .before .before .before .before .before .pre .places)
+
+end-direction-requires : tie.Need-end-direction-requires Inv-loop μ-loop
+end-direction-requires c κs =
+    let at = c .before in
+    at .normalize .ensures
+    ∙ ap (λ (v : Vector2). normalize v false)
+    (at .before .direction .ensures ∙ ap (λ (e : EdgeSegment). direction e f0) (at .before .before .edge-at .ensures ∙ sym (c .edge-at2 .ensures)))
+
 loop-holds : tie.Need-loop-holds Inv-loop μ-loop
 loop-holds c =
-    let start = begun (c .before .before) in
-    let edges = edgesOf (start .args .kinds .now) (start .args .points .now) in
-    let l = edges-length (start .args .kinds .now) (start .args .points .now) in
-    let long : length (start .args .flags .now) ≡ length (cornerFlags (start .args .threshold) edges) =
-    start .pre .flagged ∙ sym (flags-length (start .args .threshold) edges ∙ l) in (
+    let a = (start c) .args in
+    let rest = unitFlags (a .threshold) (c .end-direction .result) (drop 1 (edges c)) in
+    let long = rest-length (a .threshold) (c .end-direction .result) (edges c) (omega (arith, as-many c, some c)) in (
       refl,
       omega arith,
-      start .pre .flagged,
-      rw (
-        c .normalize .ensures,
-        c .before .direction .ensures,
-        c .before .before .edge-at .ensures,
-        ← flags-start (start .args .threshold) edges (length (start .args .kinds .now)) anyEdge l (omega arith),
-      )
-          (sym (over-all (cornerFlags (start .args .threshold) edges) (start .args .flags .now) long)),
+      omega (arith, some c),
+      start c .pre .flagged,
+      ends c,
+      λ (b : Bool).
+          sym (over-all (b ∷ rest) (a .flags .now) (start c .pre .flagged ∙ sym (as-many c) ∙ long))
+          ∙ over-next 0 b rest (a .flags .now) (omega (arith, start c .pre .flagged, some c)),
     )
 
-edge-at-requires-2 : tie.Need-edge-at-requires-2 Inv-loop μ-loop
-edge-at-requires-2 c κs = omega arith
+edge-at-requires-3 : tie.Need-edge-at-requires-3 Inv-loop μ-loop
+edge-at-requires-3 c κs = omega arith
 
 direction-requires-2 : tie.Need-direction-requires-2 Inv-loop μ-loop
 direction-requires-2 c κs = search needs
@@ -80,52 +118,69 @@ is-corner-requires c κs = search needs
 slice-write-flags : tie.Need-slice-write-flags Inv-loop μ-loop
 slice-write-flags c = omega arith
 
-end-direction-requires : tie.Need-end-direction-requires Inv-loop μ-loop
-end-direction-requires c κs = rw (← c .before .before .direction2 .ensures) (c .before .normalize2 .ensures)
+end-direction-requires-2 : tie.Need-end-direction-requires-2 Inv-loop μ-loop
+end-direction-requires-2 c κs = rw (← c .before .before .direction2 .ensures) (c .before .normalize2 .ensures)
 
 add-i : tie.Need-add-i Inv-loop μ-loop
-add-i c = omega arith
+add-i c = omega (arith, start (c .before .before .before .before .before .before .before) .pre .few)
 
 loop-less : tie.Need-loop-less Inv-loop μ-loop
 loop-less c = omega arith
 
 loop-again : tie.Need-loop-again Inv-loop μ-loop
 loop-again c =
+    let at = c .before .before .before .before .before .before .loop in
+    let begun = c .before .before .before .before .before .before .before in
+    let threshold = start begun .args .threshold in
+    let h : at .i < length (edges begun) = omega (arith, as-many begun) in
     let corner = c .before in
-    let read = corner .before .before .before in
-    let head = read .before .before in
-    let at = head .loop in
-    let start = begun (head .before .before .before) in
-    let edges = edgesOf (start .args .kinds .now) (start .args .points .now) in
-    let h : at .i < length edges = omega (arith, edges-length (start .args .kinds .now) (start .args .points .now)) in
-    let e = read .edge-at2 .ensures in (
+    let e = corner .before .before .before .edge-at3 .ensures in
+    let same : at .i ≡ at .i + 1 - 1 = omega arith in
+    let flag = isCorner (at .prev) (startOf (edges begun) (at .i)) threshold in (
       at .inv .0,
       omega arith,
-      simp length-set (at .inv .2),
-      at .inv .3
+      omega arith,
+      simp length-set (at .inv .3),
+      c .end-direction2 .ensures
+          ∙ ap (λ (e : EdgeSegment). normalize (direction e f1) false) (e ∙ ap (λ (k : ℕ). getD (edges begun) k anyEdge) same),
+      λ (b : Bool).
+          at .inv .5 b
           ∙ rw (
-            c .end-direction .ensures,
+            c .end-direction2 .ensures,
             corner .is-corner .ensures,
             corner .before .normalize2 .ensures,
             corner .before .before .direction2 .ensures,
             e,
-            flags-next (start .args .threshold) (at .prev) edges (at .i) anyEdge h,
+            flags-next threshold (at .prev) (edges begun) (at .i) anyEdge h,
+            set-apart (at .flags) (at .i) flag b (at .inv .1),
           )
-          (over-next (at .i) _ _ (at .flags) (omega arith)),
+          (over-next (at .i) _ _ (set (at .flags) 0 b) (omega (arith, length-set (at .flags) 0 b))),
     )
 
+is-corner-requires-2 : tie.Need-is-corner-requires-2 Inv-loop μ-loop
+is-corner-requires-2 c κs = search needs
+
+slice-write-flags-2 : tie.Need-slice-write-flags-2 Inv-loop μ-loop
+slice-write-flags-2 c = omega arith
+
 same-length : tie.Need-same-length Inv-loop μ-loop
-same-length c = omega arith
+same-length c = simp length-set (omega arith)
 
 returns-2 : tie.Need-returns-2 Inv-loop μ-loop
 returns-2 c =
-    let start = begun (c .before .before .before .before) in
-    let at = c .before .loop in
-    let edges = edgesOf (start .args .kinds .now) (start .args .points .now) in
+    let at = c .before .before .loop in
+    let begun = c .before .before .before in
+    let a = start begun .args in
+    let n = length (a .kinds .now) in
+    let b = c .is-corner2 .result in
+    let last : at .i - 1 ≡ n - 1 = omega arith in
+    let corner : isCorner (endOf (edges begun) (n - 1)) (startOf (edges begun) 0) (a .threshold) ≡ b =
+    sym (c .is-corner2 .ensures ∙ ap₂ (λ (p q : Vector2). isCorner p q (a .threshold)) (at .inv .4 ∙ ap (endOf (edges begun)) last) (starts begun)) in
     sym
-    (at .inv .3
-    ∙ rw (flags-end (start .args .threshold) (at .prev) edges (at .i) (omega (arith, edges-length (start .args .kinds .now) (start .args .points .now))))
-    (over-nothing (at .i) (at .flags)))
+    (flags-closed (a .threshold) (edges begun) n anyEdge (as-many begun) (some begun)
+    ∙ ap₂ (λ (x : Bool) (p : Vector2). x ∷ unitFlags (a .threshold) p (drop 1 (edges begun))) corner (sym (ends begun))
+    ∙ at .inv .5 b
+    ∙ rw (flags-end (a .threshold) (at .prev) (edges begun) (at .i) (omega (arith, as-many begun))) (over-nothing (at .i) (set (at .flags) 0 b)))
 
 pub identify-corners-spec : {M : Type 1} → statement M
 identify-corners-spec =
@@ -134,19 +189,22 @@ identify-corners-spec =
     Inv-loop
     μ-loop
     returns
-    sub-edge-at
     edge-at-requires
     direction-requires
     normalize-requires
-    loop-holds
     edge-at-requires-2
+    end-direction-requires
+    loop-holds
+    edge-at-requires-3
     direction-requires-2
     normalize-requires-2
     is-corner-requires
     slice-write-flags
-    end-direction-requires
+    end-direction-requires-2
     add-i
     loop-less
     loop-again
+    is-corner-requires-2
+    slice-write-flags-2
     same-length
     returns-2)
