@@ -1,5 +1,5 @@
-//! By-distance colouring with given distances, and its collecting pass: document 01's refusals, the
-//! source's outcomes, calls to try and what can be wrong with them.
+//! By-distance colouring with given distances, and its collecting pass: SCOPE's refusals, the source's outcomes, calls
+//! to try and what can be wrong with them.
 
 use crate::contours::{self, Edges, KINDS};
 use crate::given::by_distance_collected::collect_splines;

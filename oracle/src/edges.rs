@@ -347,7 +347,7 @@ impl Function {
         outputs
     }
 
-    /// The vectors: document 01's examples first.
+    /// The vectors: SCOPE's examples first.
     pub fn vectors(&self, number: usize) -> Vec<(Inputs, Outputs)> {
         let r = &mut Random(number as u64 + 200);
         let mut inputs = examples(self.name);

@@ -1,5 +1,4 @@
-//! Job files to try: of the shapes that are coloured, at document 01's limits, and longer than any that is
-//! accepted.
+//! Job files to try: of the shapes that are coloured, at SCOPE's limits, and longer than any that is accepted.
 
 use crate::contours::{self, Edges, MAX_COORDINATE, contour, edge};
 use crate::distances::{self, MOST_DISTANCES, WAYS, pairs};
@@ -47,16 +46,16 @@ pub fn small(r: &mut Random, strategy: u8) -> Job {
     by(r, strategy, contours, threshold)
 }
 
-// ---- document 01's examples and limits
+// ---- SCOPE's examples and limits
 
-/// A file, and the answer that document 01 gives: so many edges, or a refusal.
+/// A file, and the answer that SCOPE gives: so many edges, or a refusal.
 pub struct Known {
     pub name: &'static str,
     pub file: Vec<u8>,
     pub answer: Result<usize, u8>,
 }
 
-/// Document 01's square; by distance with P7's distances, 0 beside and 1 across.
+/// The square of P6; by distance with P7's distances, 0 beside and 1 across.
 pub fn square_job(strategy: u8) -> Job {
     let beside = if strategy == 3 { vec![0.0, 1.0, 0.0, 0.0, 1.0, 0.0] } else { Vec::new() };
     Job { strategy, seed: 0, threshold: 0.125, contours: vec![square()], distances: beside }
@@ -113,7 +112,7 @@ fn with_coordinate(x: f64) -> Vec<Vec<u8>> {
     files
 }
 
-/// What document 01 says of the square, of a job without contours and of each limit.
+/// What SCOPE says of the square, of a job without contours and of each limit.
 pub fn known() -> Vec<Known> {
     let mut all = Vec::new();
     let mut add = |name, file, answer| all.push(Known { name, file, answer });

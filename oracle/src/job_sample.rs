@@ -142,8 +142,7 @@ pub fn small_records() -> Vec<Vec<u8>> {
     [answers(&write(&square_job(1))), read].into_iter().chain(colored).collect()
 }
 
-/// Document 01's limits; a few of the files that differ by a place alone, and the long ones by strategies 1
-/// and 3.
+/// SCOPE's limits; a few of the files that differ by a place alone, and the long ones by strategies 1 and 3.
 fn limits() -> Vec<Vec<u8>> {
     let mut files = Vec::new();
     let mut names = Vec::new();

@@ -1,5 +1,5 @@
-//! The job file, by document 01's rules and nothing else: a job and its bytes, a reader, what is tested
-//! after reading, the listing, and the part of each contour. The colourings are the source's.
+//! The job file, by the rules of SCOPE (Job file, Refusals) and nothing else: a job and its bytes, a reader, what is
+//! tested after reading, the listing, and the part of each contour. The colourings are the source's.
 
 use crate::contours::{Edges, MAX_COORDINATE, edge};
 use crate::distances::{MOST_DISTANCES, MOST_SPLINES, pairs};
@@ -110,7 +110,7 @@ pub const FAULTS: [Fault; 14] = [
 ];
 
 impl Fault {
-    /// Document 01's number.
+    /// The number (SCOPE, Refusals).
     pub fn number(self) -> u8 {
         match self {
             MarkCut | BodyCut | DistancesCut => 1,

@@ -127,7 +127,7 @@ pub fn one_nan(bits: u64) -> u64 {
     if is_nan { NAN } else { bits }
 }
 
-/// The hardware's root, with the one NaN of document 01.
+/// The hardware's root, with the one NaN of SCOPE, leaf 1.
 pub fn root_of_pattern(bits: u64) -> u64 {
     one_nan(f64::from_bits(bits).sqrt().to_bits())
 }
@@ -183,7 +183,7 @@ pub fn record(number: usize, inputs: &Inputs, outputs: &Outputs) -> [u64; 8] {
     words.try_into().unwrap()
 }
 
-/// The vectors of one leaf: document 01's examples and the special values first.
+/// The vectors of one leaf: SCOPE's examples and the special values first.
 pub fn sample(number: usize) -> Vec<(Inputs, Outputs)> {
     let leaf = &LEAVES[number];
     let r = &mut Random(number as u64);

@@ -140,7 +140,7 @@ fn v(x: f64, y: f64) -> Vector2 {
     Vector2::new(x, y)
 }
 
-/// Document 01's square, in both colourings 5, 3, 6, 3.
+/// P6, the square, in both colourings 5, 3, 6, 3.
 fn square() -> Vec<Call> {
     let call = on(&[glyphs::square()], 0.125, 0);
     for strategy in STRATEGIES {
@@ -160,7 +160,7 @@ fn expect(call: &Call, answer: Answer) -> Call {
     call.clone()
 }
 
-/// What document 01 says passes and what does not, at each limit.
+/// What SCOPE says passes and what does not, at each limit.
 fn limits() -> Vec<Call> {
     let triangle = polygon(&[(0.0, 0.0), (1.0, 0.0), (0.0, 1.0)]);
     let empty = Edges::new();
@@ -240,7 +240,7 @@ fn splits(r: &mut Random) -> Vec<Call> {
             }));
         }
     }
-    // P8 and P9 of document 01: exact thirds of 0 to 3, and a first x of -0
+    // P8 and P9: exact thirds of 0 to 3, and a first x of -0
     for x in [0.0, -0.0] {
         calls.push(on(&[vec![edge(&[v(x, 0.0), v(3.0, 0.0)])]], -1.0, 0));
     }
@@ -329,7 +329,7 @@ fn by_distance(mut call: Call, distances: Vec<u64>) -> DistanceCall {
     DistanceCall { call, distances }
 }
 
-/// P7 of document 01: the square's edges 3, 6, 5, 6.
+/// P7: the square's edges 3, 6, 5, 6.
 fn square_by_distance() -> Vec<DistanceCall> {
     let call = square().remove(0);
     let bits = [0.0, 1.0, 0.0, 0.0, 1.0, 0.0].map(f64::to_bits);

@@ -1,5 +1,5 @@
-//! Outlines in buffers: document 01's refusals, the source's simple and ink-trap colourings, and what
-//! can be wrong with a call.
+//! Outlines in buffers: SCOPE's refusals, the source's simple and ink-trap colourings, and what can be wrong with a
+//! call.
 
 use crate::contours::{self, Edges, MAX_COORDINATE, edge};
 use crate::geometry::{Contour, EdgeSegment, Shape};

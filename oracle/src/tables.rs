@@ -1,4 +1,4 @@
-//! Offers to a spline table: tables to try them on, document 01's refusals, and the source's answers.
+//! Offers to a spline table: tables to try them on, SCOPE's refusals, and the source's answers.
 
 use crate::given::{by_distance_counted, by_distance_longer, probe};
 use crate::numbers::Random;
@@ -52,7 +52,7 @@ impl Table {
     }
 }
 
-/// The number of the refusal by document 01: 4, then 8, then 10.
+/// The number of the refusal by SCOPE: 4, then 8, then 10.
 pub fn refusal(t: &Table, (a, b): Pair) -> Option<u8> {
     let n = t.n();
     if n > 64 {
@@ -78,7 +78,7 @@ fn narrow(numbers: &[i32]) -> Vec<u8> {
     numbers.iter().map(|&x| u8::try_from(x).unwrap()).collect()
 }
 
-/// What an offer is answered, by document 01 and the source, with the table as it leaves it.
+/// What an offer is answered, by SCOPE and the source, with the table as it leaves it.
 pub fn offer(t: &mut Table, (a, b): Pair) -> Answer {
     if let Some(number) = refusal(t, (a, b)) {
         return Answer::Refused(number);
@@ -360,7 +360,7 @@ fn run(before: Table, pairs: &[Pair]) -> Run {
     Run { before, offers, after }
 }
 
-/// Document 01's P7: the square's four splines with the pairs beside each other kept.
+/// P7: the square's four splines with the pairs beside each other kept.
 fn square() -> Run {
     let coloring = vec![0, 1, 2, 1];
     let edge_matrix = vec![0, 1, 0, 1, 1, 0, 1, 0, 0, 1, 0, 1, 1, 0, 1, 0];

@@ -20,7 +20,7 @@ use Rattle.job.specs.Records.{controls, bodySize, edgeOf}
 use Rattle.job.specs.declared.progress.Numbers.{Numbers}
 use Rattle.job.specs.Job.{Job}
 
--- contour lengths, the kind of each edge, eight point places an edge (document 01's outline tray), and the distances
+-- contour lengths, the kind of each edge, eight point places an edge (SCOPE, Buffers), and the distances
 pub record Buffers : Type 0 where
   pub lengths : List ℕ
   pub kinds : List ℕ

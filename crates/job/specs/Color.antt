@@ -1,5 +1,4 @@
--- What colouring a job gives, and reading and colouring a file in one (document 01, "What the desk says back": after
--- reading, splines 4, 8, 11).
+-- What colouring a job gives, and reading and colouring a file in one (SCOPE, Refusals: a file read to its end).
 use Prim.Native.Nat.{ℕ, _-_, _*_, _/_, _≤_}
 use mathlib.Core.Path.{_≡_}
 use mathlib.Core.Bool.{Bool}

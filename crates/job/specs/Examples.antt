@@ -1,5 +1,5 @@
--- Examples computed from the definitions: files of document 01, what they read as and what is printed, and the order
--- of the numbers.
+-- Examples computed from the definitions: files, among them those of SCOPE, Examples, what they read as and what is
+-- printed, and the order of the numbers.
 use Prim.Native.Nat.{ℕ}
 use mathlib.Core.Path.{_≡_, refl}
 use mathlib.Core.Bool.{true, false}
@@ -288,7 +288,7 @@ squareText =
     ∷ 0x30 ∷ 0x20 ∷ 0x33 ∷ 0x20 ∷ 0x4C ∷ 0x20 ∷ 0x33 ∷ 0x0A
     ∷ 0x65 ∷ 0x64 ∷ 0x67 ∷ 0x65 ∷ 0x73 ∷ 0x20 ∷ 0x34 ∷ 0x0A ∷ []
 
--- from bytes to bytes: the square's file is printed as document 01 has it whole
+-- from bytes to bytes: the square's file is printed as docs/FORMAT.md has it
 pub square-printed : fileText squareFile ≡ squareText
 unfolding fileText ofBits toStored searchCorners cornerCount firstCorner direction sub dot cross divScalar squaredLength lengthOf normalize sqrtOf Ieee.add
     Ieee.sub Ieee.mul Ieee.div Ieee.ne Ieee.le Ieee.lt

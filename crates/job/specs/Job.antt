@@ -1,5 +1,4 @@
--- A job, and the function from the bytes of a file to a job or its first refusal (document 01, "Trays and the job
--- file").
+-- A job, and the function from the bytes of a file to a job or its first refusal (SCOPE, Job file).
 use Prim.Native.Nat.{ℕ, _<_, _^_}
 use mathlib.Core.Path.{_≡_}
 use mathlib.Core.Bool.{Bool, true, cond}

@@ -1,5 +1,5 @@
--- The text of an answer (document 01, "Trays and the job file", program `channels`): a line an output edge, last
--- `edges` and their count; or one line with the refusal's number.
+-- The text of an answer (docs/FORMAT.md): a line for each edge of the result, last `edges` and their count; or one line
+-- with the refusal's number.
 use Prim.Native.Nat.{ℕ, zero, suc, _+_, _/_, _%_, _≤_}
 use mathlib.Core.Path.{_≡_}
 use mathlib.Core.Bool.{true, false, cond}

@@ -1,5 +1,4 @@
--- The part of a file that is one contour (document 01, "Trays and the job file"): from its CT up to the next CT, DS
--- or EN.
+-- The part of a file that is one contour (SCOPE, Job file): from its CT up to the next CT, DS or EN.
 use Prim.Native.Nat.{ℕ, zero, suc, _+_, _-_, _≤_}
 use mathlib.Core.Bool.{cond}
 use mathlib.Core.List.{List, []}

@@ -1,5 +1,4 @@
--- The records of a job file up to its end or its first fault (document 01, "Trays and the job file" and "What the
--- desk says back").
+-- The records of a job file up to its end or its first fault (SCOPE, Job file and Refusals).
 use Prim.Native.Nat.{ℕ, zero, suc, _+_, _*_}
 use mathlib.Core.Bool.{Bool, true, false, not, cond, _&&_, _||_}
 use mathlib.Core.List.{List, [], _∷_, _++_}

@@ -1,4 +1,4 @@
-// The limits of document 01, and what follows from them; coloring's and job's specs/Limits.antt have the same.
+// The limits (SCOPE, Limits), and what follows from them; coloring's and job's specs/Limits.antt have the same.
 
 pub(crate) const MAX_CONTOURS: usize = 64;
 

@@ -1,5 +1,4 @@
-// The records of a job file, one after another: a mark of two letters, then its fields (document 01, "Trays and the
-// job file").
+// The records of a job file, one after another: a mark of two letters, then its fields (SCOPE, Job file).
 use crate::limits::MAX_CONTOURS;
 use crate::limits::MAX_DISTANCES;
 use crate::limits::MAX_EDGES;

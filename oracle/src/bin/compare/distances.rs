@@ -259,7 +259,7 @@ fn refusals(all: &mut Tally) {
     all.close("refusals of by-distance colouring", coloring);
 }
 
-/// Document 01's P7: the square's four splines, 0 beside and 1 across.
+/// P7: the square's four splines, 0 beside and 1 across.
 fn p7(all: &mut Tally) {
     let mut part = Tally::default();
     let at = [(0.0, 0.0), (1.0, 0.0), (1.0, 1.0), (0.0, 1.0)];

@@ -485,7 +485,7 @@ fn job_classes(classes: &mut Classes, job: &Job, outcome: &Outcome) {
 
 // ---- files
 
-/// Document 01's square by each strategy, its limits, and what it says of them.
+/// The square of P6 by each strategy, the limits, and what SCOPE says of them.
 fn known_answers(c: &mut Comparison, all: &mut Tally) {
     let mut part = Tally::default();
     let r = &mut Random(700);
@@ -510,7 +510,7 @@ fn known_answers(c: &mut Comparison, all: &mut Tally) {
     part.note(write(&longest()).len() == 33_177, || "the longest accepted file".to_string());
     let text = outcome(&write(&widest(1))).text();
     part.note(text.len() == 4_672, || format!("the longest text: {} bytes", text.len()));
-    all.close("job files that document 01 names", part);
+    all.close("job files that SCOPE names", part);
 }
 
 /// Two faults of one record.

@@ -342,7 +342,7 @@ fn spline_lengths(edges: &Edges, corners: &[usize]) -> Vec<f64> {
 
 // ---- comparisons
 
-/// The whole-number rule of document 01 against the source's expression.
+/// The rule in whole numbers (SCOPE, Leaves) against the source's expression.
 fn trichotomy(all: &mut Tally) {
     let mut part = Tally::default();
     for n in 3..=256 {
