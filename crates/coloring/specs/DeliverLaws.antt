@@ -2,11 +2,12 @@
 use Prim.Native.Nat.{ℕ}
 use mathlib.Core.Path.{_≡_, refl, sym, ap, _∙_}
 use mathlib.Core.Bool.{true, false}
-use mathlib.Core.List.{List, [], _∷_, _++_, map, append-assoc}
+use mathlib.Core.List.{List, [], _++_, map, append-assoc}
 use lib.Ieee.{Float}
 use Rattle.coloring.specs.declared.outline.Counts.{Counts}
 use Rattle.coloring.specs.declared.settings.Marking.{Marking}
-use Rattle.coloring.specs.Answers.{Answer, gives, refusal, Check, inOrder, allPass, firstRefusal, passed-on, failed-on, all-passed, one-failed, refused-first}
+use Rattle.coloring.specs.Answers.{Answer, gives, refusal, Check, inOrder, allPass}
+use Rattle.coloring.specs.Answers.{firstRefusal, passed-on, failed-on, all-passed, one-failed, refused-first}
 use Rattle.coloring.specs.Corners.{Cornered}
 use Rattle.coloring.specs.Layout.{layout}
 use Rattle.coloring.specs.Splines.{splineTotal}
@@ -32,7 +33,8 @@ module _ (counts : Counts) (written old : Result) where
   unfolding deliver
   deliver-passed checks e = passed-on checks _ _ _ e
 
-  pub deliver-failed : (checks : List Check) {number : ℕ} → firstRefusal checks ≡ refusal number → outcome (refusal number) old ≡ deliver checks counts written old
+  pub deliver-failed : (checks : List Check) {number : ℕ} → firstRefusal checks ≡ refusal number
+      → outcome (refusal number) old ≡ deliver checks counts written old
   unfolding deliver
   deliver-failed checks e = sym (failed-on checks _ _ _ e)
 
@@ -42,7 +44,8 @@ module _ (counts : Counts) (written old : Result) where
   deliver-answer checks e = go (firstRefusal checks) refl
     where
       go : (found : Answer Unit) → firstRefusal checks ≡ found → deliver checks counts written old .answer ≡ inOrder checks refusal (gives counts)
-      go (gives u) passed = ap (λ (o : Outcome). o .answer) (deliver-passed checks passed ∙ deliver-fits e) ∙ sym (all-passed checks refusal (gives counts) passed)
+      go (gives u) passed =
+          ap (λ (o : Outcome). o .answer) (deliver-passed checks passed ∙ deliver-fits e) ∙ sym (all-passed checks refusal (gives counts) passed)
       go (refusal number) failed = ap (λ (o : Outcome). o .answer) (sym (deliver-failed checks failed)) ∙ sym (one-failed checks refusal (gives counts) failed)
 
 -- the same with the corners found
@@ -57,10 +60,12 @@ module _ (marking : Marking) (distances : List Float) (found : List Cornered) (o
   abbrev last : List Check
   last = checkMarking marking (splineTotal laid) distances
 
-  pub found-passed : (checks : List Check) → firstRefusal checks ≡ allPass → deliverFound checks marking distances found old ≡ deliverFound [] marking distances found old
+  pub found-passed : (checks : List Check) → firstRefusal checks ≡ allPass
+      → deliverFound checks marking distances found old ≡ deliverFound [] marking distances found old
   found-passed checks e = deliver-on (countsOf laid) (written (splineValues marking distances laid)) old checks last e
 
-  pub found-failed : (checks : List Check) {number : ℕ} → firstRefusal checks ≡ refusal number → outcome (refusal number) old ≡ deliverFound checks marking distances found old
+  pub found-failed : (checks : List Check) {number : ℕ} → firstRefusal checks ≡ refusal number
+      → outcome (refusal number) old ≡ deliverFound checks marking distances found old
   found-failed checks e = deliver-failed (countsOf laid) (written (splineValues marking distances laid)) old (checks ++ last) (refused-first checks last e)
 
   pub values-passed : {values : List ℕ} → firstRefusal last ≡ allPass → values ≡ splineValues marking distances laid

@@ -1,6 +1,6 @@
 -- What an entry does with its buffers: a checked outline's agree, and the count decides whether the result fits.
 use mathlib.Core.Path.{_≡_, refl, sym, ap, _∙_}
-use mathlib.Core.Bool.{Bool, true, false, _&&_}
+use mathlib.Core.Bool.{Bool, true, _&&_}
 use mathlib.Core.List.{List, [], _∷_, _++_, map, flatten}
 use Prim.Native.Nat.{ℕ, suc, _*_, _≤_}
 use lib.Dec.{leb, eqb}

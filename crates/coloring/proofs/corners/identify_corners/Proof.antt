@@ -1,5 +1,5 @@
--- `identify_corners` meets its contract: the edges between the first and place i have their flags, whatever stands at the
--- first, and `prev` is the unit direction in which the edge before i ends.
+-- `identify_corners` meets its contract: the edges between the first and place i have their flags, whatever stands at
+-- the first, and `prev` is the unit direction in which the edge before i ends.
 use native.Mathlib.Omega.{arith}
 use borrow.Author.Needs.{needs}
 use mathlib.Core.Path.{_≡_, refl, sym, ap, ap₂, _∙_}
@@ -14,7 +14,7 @@ use Rattle.geometry.specs.EdgeSegment.{direction}
 use Rattle.geometry.specs.declared.edge_segment.EdgeSegment.{EdgeSegment}
 use Rattle.coloring.specs.Lists.{overFrom}
 use Rattle.coloring.proofs.Writing.{over-all, over-next, over-nothing}
-use Rattle.coloring.specs.Corners.{isCorner, cornerFlags}
+use Rattle.coloring.specs.Corners.{isCorner}
 use Rattle.coloring.specs.Outline.{anyEdge, edgesOf}
 use Rattle.coloring.proofs.Lists.{length-zero}
 use Rattle.coloring.proofs.outline.EdgeLaws.{edges-length}
@@ -42,8 +42,11 @@ abbrev μ-loop : tie.MeasureT-loop
 -- ---- before the loop
 
 module _ (c : tie.After-end-direction Inv-loop μ-loop) where
+  abbrev read : tie.After-edge-at Inv-loop μ-loop
+  read = c .before .before .before .before
+
   abbrev start : tie.Start Inv-loop μ-loop
-  start = c .before .before .before .before .before .before .before .before .before
+  start = read .before .before .before .before .before
 
   abbrev edges : List EdgeSegment
   edges = edgesOf (start .args .kinds .now) (start .args .points .now)
@@ -79,7 +82,7 @@ normalize-requires : tie.Need-normalize-requires Inv-loop μ-loop
 normalize-requires c κs = search needs
 
 edge-at-requires-2 : tie.Need-edge-at-requires-2 Inv-loop μ-loop
-edge-at-requires-2 c κs = (omega arith, c .before .before .before .before .before .before .before .pre .places)
+edge-at-requires-2 c κs = let read = c .before .before in (omega arith, read .before .before .before .before .before .pre .places)
 
 end-direction-requires : tie.Need-end-direction-requires Inv-loop μ-loop
 end-direction-requires c κs =
@@ -122,19 +125,21 @@ end-direction-requires-2 : tie.Need-end-direction-requires-2 Inv-loop μ-loop
 end-direction-requires-2 c κs = rw (← c .before .before .direction2 .ensures) (c .before .normalize2 .ensures)
 
 add-i : tie.Need-add-i Inv-loop μ-loop
-add-i c = omega (arith, start (c .before .before .before .before .before .before .before) .pre .few)
+add-i c = let read = c .before .before .before .before in omega (arith, start (read .before .before .before) .pre .few)
 
 loop-less : tie.Need-loop-less Inv-loop μ-loop
 loop-less c = omega arith
 
 loop-again : tie.Need-loop-again Inv-loop μ-loop
 loop-again c =
-    let at = c .before .before .before .before .before .before .loop in
-    let begun = c .before .before .before .before .before .before .before in
+    let corner = c .before in
+    let read = corner .before .before .before in
+    let head = read .before .before in
+    let at = head .loop in
+    let begun = head .before in
     let threshold = start begun .args .threshold in
     let h : at .i < length (edges begun) = omega (arith, as-many begun) in
-    let corner = c .before in
-    let e = corner .before .before .before .edge-at3 .ensures in
+    let e = read .edge-at3 .ensures in
     let same : at .i ≡ at .i + 1 - 1 = omega arith in
     let flag = isCorner (at .prev) (startOf (edges begun) (at .i)) threshold in (
       at .inv .0,
