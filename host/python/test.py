@@ -1,4 +1,4 @@
-"""Tests of the module: python3 test.py, with MERELSPLUM_LIB_DIR set."""
+"""Tests of the module, which is installed: python3 test.py."""
 
 import unittest
 

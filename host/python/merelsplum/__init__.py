@@ -1,8 +1,8 @@
 """Colours the edges of glyph outlines for multi-channel distance fields.
 
 An outline is a list of contours; a contour is a list of edges; an edge is an array of 2, 3 or 4 control points: a line, a
-quadratic or a cubic curve. The functions here call the shared library that `host/install` writes. Its folder is
-`MERELSPLUM_LIB_DIR`, or it is where the system looks for libraries.
+quadratic or a cubic curve. The functions here call the shared library: that of the folder `MERELSPLUM_LIB_DIR`, or the
+one beside this file, where `host/wheel` puts it, or the one that the system finds.
 """
 
 import ctypes
@@ -40,9 +40,12 @@ class Refusal(ValueError):
 
 
 def _load():
-    folder = os.environ.get("MERELSPLUM_LIB_DIR")
     name = "libmerelsplum.so.0"
-    library = ctypes.CDLL(os.path.join(folder, name) if folder else name)
+    beside = os.path.join(os.path.dirname(os.path.abspath(__file__)), name)
+    if folder := os.environ.get("MERELSPLUM_LIB_DIR"):
+        library = ctypes.CDLL(os.path.join(folder, name))
+    else:
+        library = ctypes.CDLL(beside if os.path.exists(beside) else name)
     seed = [ctypes.c_uint64]
     for name, more in [
         ("edge_coloring_simple", seed),
