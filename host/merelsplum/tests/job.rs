@@ -74,7 +74,15 @@ fn reasons_and_places() {
         file[at..at + bytes.len()].copy_from_slice(bytes);
         file
     };
+    let contours =
+        |count: usize| job("make", ("job simple seed 0 threshold 0\n".to_owned() + &"contour\n".repeat(count)).as_bytes()).stdout;
+    let edges = |count: usize| [contours(1), b"LN".iter().copied().chain([0; 32]).collect::<Vec<u8>>().repeat(count)].concat();
     for (file, words, place) in [
+        ([contours(66), b"EN".to_vec()].concat(), "refused 4: overfull", 19 + 2 * 64),
+        ([edges(258), b"XX".to_vec()].concat(), "refused 4: overfull", 21 + 34 * 256),
+        (job("make", LINE.replace("0.25", "0.25 0.5").as_bytes()).stdout, "refused 8: miscounted", 55),
+        (changed(59, &(-1f64).to_le_bytes()), "refused 9: bad distance", 55),
+        (changed(59, &f64::NAN.to_le_bytes()), "refused 9: bad distance", 55),
         (vec![], "refused 1: torn", 0),
         (file[..30].to_vec(), "refused 1: torn", 21),
         (changed(21, b"XX"), "refused 2: unmarked", 21),

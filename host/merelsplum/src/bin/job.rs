@@ -2,7 +2,7 @@
 //! standard input. Both write to standard output. A file that the library refuses is shown as far as it can be read,
 //! with the reason and the place on standard error, and the status is 1.
 
-use merelsplum::job;
+use merelsplum::{Refusal, job};
 use std::env;
 use std::fs;
 use std::io::{self, Read, Write};
@@ -46,81 +46,34 @@ fn read(path: &str) -> Result<Vec<u8>, String> {
 
 /// A file in words, and why it is refused.
 fn dump(file: &[u8]) -> (Vec<u8>, Option<String>) {
-    let (mut text, mut at) = (String::new(), 0);
     let refused = job::check(file).err();
-    let mut place = file.len();
-    let mut open = State::Start;
-    while at < file.len() {
-        let Some((line, length, kind)) = record(&file[at..]) else {
-            place = place.min(at);
-            break;
-        };
-        if !open.allows(kind) {
-            place = place.min(at);
+    let (mut text, mut at, mut fault, mut distances) = (String::new(), 0, None, None);
+    while let Some((line, length)) = record(&file[at..]) {
+        if line.starts_with("distances") {
+            distances = Some(at);
         }
-        open = open.after(kind);
+        // what is whole up to some record is refused for its end, and with the record at fault as the file is
+        let whole = job::check(&file[..at + length]).err();
+        if fault.is_none() && whole == refused && whole != Some(Refusal::Truncated) {
+            // splines are counted at the end
+            let counted = line == "end\n" && matches!(whole, Some(Refusal::TooMany | Refusal::LengthMismatch));
+            fault = distances.filter(|_| counted).or(Some(at));
+        }
         text += &line;
         at += length;
     }
-    let refusal = refused.map(|refusal| format!("refused {}: {refusal}, at byte {place} of {}", refusal.number(), file.len()));
-    (text.into_bytes(), refusal)
+    let place = fault.unwrap_or(at);
+    let words = |refusal: Refusal| format!("refused {}: {refusal}, at byte {place} of {}", refusal.number(), file.len());
+    (text.into_bytes(), refused.map(words))
 }
 
-/// The kinds of records.
-#[derive(Clone, Copy, PartialEq)]
-enum Kind {
-    Job {
-        by_distance: bool,
-    },
-    Contour,
-    Edge,
-    Distances,
-    End,
-    /// Readable, but with a number that is out of range.
-    Bad,
-}
-
-/// What has been read, for the place of a record that is not allowed.
-#[derive(Clone, Copy, PartialEq)]
-enum State {
-    Start,
-    Contours { by_distance: bool, open: bool },
-    Distances,
-    End,
-}
-
-impl State {
-    fn allows(self, kind: Kind) -> bool {
-        match kind {
-            Kind::Job { .. } => self == State::Start,
-            Kind::Contour => matches!(self, State::Contours { .. }),
-            Kind::Edge => matches!(self, State::Contours { open: true, .. }),
-            Kind::Distances => matches!(self, State::Contours { by_distance: true, .. }),
-            Kind::End => matches!(self, State::Distances | State::Contours { by_distance: false, .. }),
-            Kind::Bad => false,
-        }
-    }
-
-    fn after(self, kind: Kind) -> State {
-        match (self, kind) {
-            (_, Kind::Job { by_distance }) => State::Contours { by_distance, open: false },
-            (State::Contours { by_distance, .. }, Kind::Contour) => State::Contours { by_distance, open: true },
-            (_, Kind::Distances) => State::Distances,
-            (_, Kind::End) => State::End,
-            _ => self,
-        }
-    }
-}
-
-/// The first record in words, its length, and its kind; none where it cannot be read.
-fn record(file: &[u8]) -> Option<(String, usize, Kind)> {
+/// The first record in words, and its length; none where it cannot be read.
+fn record(file: &[u8]) -> Option<(String, usize)> {
     let (mark, rest) = file.split_first_chunk::<2>()?;
     let number = |at: usize| Some(f64::from_le_bytes(rest.get(at..at + 8)?.try_into().ok()?));
     let numbers = |first: usize, count: usize| (0..count).map(|i| number(first + 8 * i)).collect::<Option<Vec<f64>>>();
     if let Some((_, name, count)) = EDGES.iter().find(|edge| edge.0 == mark) {
-        let points = numbers(0, *count)?;
-        let fits = points.iter().all(|x| x.abs() <= 1_048_576.0);
-        return Some((line(name, &points), 2 + 8 * count, if fits { Kind::Edge } else { Kind::Bad }));
+        return Some((line(name, &numbers(0, *count)?), 2 + 8 * count));
     }
     match mark {
         b"JB" => {
@@ -128,18 +81,14 @@ fn record(file: &[u8]) -> Option<(String, usize, Kind)> {
             let threshold = number(9)?;
             let name = STRATEGIES.get(usize::from(strategy).wrapping_sub(1));
             let words = name.map_or_else(|| strategy.to_string(), |name| (*name).to_owned());
-            let fits = name.is_some() && threshold.abs() <= 1.0;
-            let kind = if fits { Kind::Job { by_distance: strategy == 3 } } else { Kind::Bad };
-            Some((format!("job {words} seed {seed} threshold {threshold}\n"), 19, kind))
+            Some((format!("job {words} seed {seed} threshold {threshold}\n"), 19))
         }
-        b"CT" => Some(("contour\n".to_owned(), 2, Kind::Contour)),
+        b"CT" => Some(("contour\n".to_owned(), 2)),
         b"DS" => {
             let count = usize::from(u16::from_le_bytes(rest.get(..2)?.try_into().ok()?));
-            let distances = numbers(2, count)?;
-            let fits = distances.iter().all(|&x| x >= 0.0 && x.is_finite());
-            Some((line("distances", &distances), 4 + 8 * count, if fits { Kind::Distances } else { Kind::Bad }))
+            Some((line("distances", &numbers(2, count)?), 4 + 8 * count))
         }
-        b"EN" => Some(("end\n".to_owned(), 2, Kind::End)),
+        b"EN" => Some(("end\n".to_owned(), 2)),
         _ => None,
     }
 }
