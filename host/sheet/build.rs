@@ -1,4 +1,5 @@
-//! Copies the distance of two splines out of docs/src, where it is private: its functions and their precision, as they stand there.
+//! Copies the distance of two splines out of docs/src, where it is private: its functions and their precision, as they
+//! stand there.
 
 use std::path::Path;
 use std::{env, fs};

@@ -5,6 +5,7 @@ use merelsplum::job::Strategy;
 use sheet::draw::Drawing;
 use sheet::font::{Font, Name};
 use sheet::json::{YOrigin, describe};
+use sheet::layout::Layout;
 use sheet::sheet::Settings;
 use std::process::Command;
 
@@ -20,10 +21,10 @@ fn file(package: &str, end: &str) -> Vec<u8> {
 
 /// A sheet as it is preset.
 fn draw(font: &Font, names: &[Name], size: f64) -> sheet::sheet::Sheet {
-    let settings =
-        Settings { strategy: Strategy::InkTrap, angle: 3.0, seed: 0, size, drawing: Drawing::new(PXRANGE), standins: true };
+    let (layout, drawing) = (Layout::new(size, PXRANGE), Drawing::new(PXRANGE));
+    let settings = Settings { strategy: Strategy::InkTrap, angle: 3.0, seed: 0, layout, drawing, standins: true };
     let glyphs = names.iter().enumerate().filter_map(|(place, &name)| Some((place, font.glyph(name)?)));
-    let color = |(place, glyph)| settings.color(glyph, place, font.units_per_em()).ok();
+    let color = |(place, glyph)| settings.color(glyph, 0, place, font.units_per_em()).ok();
     let mut sheet = settings.lay_out(glyphs.filter_map(color).collect()).unwrap();
     settings.draw(&mut sheet, || ());
     sheet
@@ -39,8 +40,8 @@ fn check(file: &[u8], names: impl Fn(&Font) -> Vec<Name>, limits: &[(f64, f64)])
     for &(size, limit) in limits {
         let names = names(&font);
         let sheet = draw(&font, &names, size);
-        let json = serde_json::from_str(&describe(&font, &sheet, YOrigin::Bottom)).unwrap();
-        let wrong = measure(&Sheet { width: sheet.image.side, pixels: &colors(&sheet), json: &json }, file).unwrap();
+        let json = serde_json::from_str(&describe(std::slice::from_ref(&font), &sheet, YOrigin::Bottom)).unwrap();
+        let wrong = measure(&Sheet { width: sheet.image.width, pixels: &colors(&sheet), json: &json }, file).unwrap();
         let total: f64 = wrong.iter().map(|glyph| glyph.pixels).sum();
         println!("{size} pixels an em: {total:.3} wrong pixels in {} glyphs", wrong.len());
         assert_eq!(wrong.len(), sheet.cells.iter().filter(|cell| !cell.frame.is_empty()).count());
@@ -96,8 +97,8 @@ fn faults_are_found() {
     let file = file("fonts-dejavu-core", "/DejaVuSans.ttf");
     let font = Font::new(&file).unwrap();
     let sheet = draw(&font, &[Name::Character('█')], 32.0);
-    let json = serde_json::from_str(&describe(&font, &sheet, YOrigin::Bottom)).unwrap();
-    let side = sheet.image.side;
+    let json = serde_json::from_str(&describe(std::slice::from_ref(&font), &sheet, YOrigin::Bottom)).unwrap();
+    let side = sheet.image.width;
     let wrong = |pixels: &[[u8; 3]]| measure(&Sheet { width: side, pixels, json: &json }, &file).unwrap()[0].pixels;
     assert_eq!(wrong(&colors(&sheet)), 0.0);
     let (height, width) = (sheet.cells[0].frame.height, sheet.cells[0].frame.width);

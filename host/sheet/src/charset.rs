@@ -86,7 +86,8 @@ fn character(text: &str) -> Option<(char, &str)> {
     value.ok().and_then(char::from_u32).map(|c| (c, rest))
 }
 
-/// What stands in quotes at the start, where `\n`, `\r`, `\t` and `\0` are as in C, and a backslash takes any other character as it is.
+/// What stands in quotes at the start, where `\n`, `\r`, `\t` and `\0` are as in C, and a backslash takes any other
+/// character as it is.
 fn quoted(text: &str, quote: char) -> Option<(String, &str)> {
     let mut chars = text.strip_prefix(quote)?.chars();
     let mut string = String::new();

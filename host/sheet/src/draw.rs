@@ -57,12 +57,15 @@ pub struct Drawing {
     /// Whether every pixel is held to the side that it is on.
     pub scanline: bool,
     pub correction: Correction,
+    /// Whether the field is written as numbers that are not rounded to bytes.
+    pub floats: bool,
 }
 
 impl Drawing {
     /// As it is preset, at some range.
     pub fn new(pxrange: f64) -> Drawing {
-        Drawing { kind: Type::Msdf, pxrange, overlap: true, scanline: true, correction: Correction::default() }
+        let correction = Correction::default();
+        Drawing { kind: Type::Msdf, pxrange, overlap: true, scanline: true, correction, floats: false }
     }
 
     /// A glyph's field, by rows from the top: red, green, blue, and the true distance, which stands in all four where
@@ -103,7 +106,9 @@ impl Drawing {
             return values;
         }
         // what is drawn back are bytes
-        values.iter_mut().for_each(|value| *value = value.map(|v| f64::from(byte(v)) / 255.0));
+        if !self.floats {
+            values.iter_mut().for_each(|value| *value = value.map(|v| f64::from(byte(v)) / 255.0));
+        }
         let exact = |measure: &mut Measure<1>, x: f64, y: f64| {
             let point = frame.point(x, frame.height as f64 - y);
             let value = self.value(measure.at(point)[0], frame).clamp(0.0, 1.0);

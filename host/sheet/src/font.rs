@@ -43,6 +43,8 @@ pub struct Metrics {
 
 pub struct Font<'a> {
     face: Face<'a>,
+    /// What the font is called in a description.
+    pub name: Option<String>,
 }
 
 impl<'a> Font<'a> {
@@ -62,7 +64,7 @@ impl<'a> Font<'a> {
         if tables.glyf.is_none() && tables.cff.is_none() && tables.cff2.is_none() {
             return Err("a font without outlines".to_owned());
         }
-        Ok(Font { face })
+        Ok(Font { face, name: None })
     }
 
     /// Sets an axis of a variable font, by its tag of four letters.

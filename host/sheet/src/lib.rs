@@ -10,6 +10,7 @@ pub mod font;
 pub mod frame;
 pub mod json;
 pub mod kerning;
+pub mod layout;
 pub mod output;
 pub mod pack;
 pub mod picture;

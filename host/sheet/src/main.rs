@@ -2,15 +2,15 @@
 
 mod options;
 
-use clap::Parser;
 use clap::error::ErrorKind;
 use indicatif::{ProgressBar, ProgressStyle};
 use merelsplum::Refusal;
 use options::Options;
 use rayon::prelude::*;
 use sheet::font::{Font, Name};
+use sheet::layout::Layout;
 use sheet::output::Outputs;
-use sheet::pack::MAX_SIDE;
+use sheet::pack::{Dimensions, MAX_SIDE};
 use sheet::sheet::{Cell, Sheet};
 use sheet::{json, picture, standin};
 use std::env;
@@ -21,7 +21,7 @@ use std::process::ExitCode;
 use std::time::Instant;
 
 fn main() -> ExitCode {
-    match Options::try_parse_from(env::args_os().map(options::two_dashes)).map_err(|error| (error.kind(), error)) {
+    match Options::parse(env::args_os()).map_err(|error| (error.kind(), error)) {
         Ok(options) => match run(&options) {
             Ok(left_out) => ExitCode::from(u8::from(left_out > 0)),
             Err(message) => fail(&message),
@@ -67,27 +67,35 @@ fn read(path: &Path) -> Result<Vec<u8>, String> {
 fn run(options: &Options) -> Result<usize, String> {
     let start = Instant::now();
     options.check()?;
-    let path = options.font.display();
-    let file = read(&options.font)?;
-    let mut font = Font::face(&file, options.face).map_err(|error| format!("{path}: {error}"))?;
-    options.vary(&mut font).map_err(|error| format!("{path}: {error}"))?;
-    let (names, missing): (Vec<Name>, Vec<Name>) = options.names(&font)?.into_iter().partition(|&name| font.has(name));
-    if names.is_empty() {
-        return Err(format!("{path}: none of these characters is in the font"));
+    let files = options.inputs().map(|input| read(&input.font)).collect::<Result<Vec<Vec<u8>>, String>>()?;
+    let (mut fonts, mut names, mut missing) = (vec![], vec![], vec![]);
+    for (i, (input, file)) in options.inputs().zip(&files).enumerate() {
+        let path = input.font.display();
+        let font = input.open(file).map_err(|error| format!("{path}: {error}"))?;
+        let (there, other): (Vec<Name>, Vec<Name>) = input.names(&font)?.into_iter().partition(|&name| font.has(name));
+        if there.is_empty() {
+            return Err(format!("{path}: none of these characters is in the font"));
+        }
+        names.extend(there.into_iter().map(|name| (i, name)));
+        missing.push(other);
+        fonts.push(font);
     }
     rayon::ThreadPoolBuilder::new().num_threads(options.threads).build_global().map_err(|error| error.to_string())?;
 
-    let (sheet, mut lines) = draw(options, &font, &names)?;
-    write(options, &font, &sheet)?;
+    let (sheet, mut lines) = draw(options, &fonts, &names)?;
+    write(options, &fonts, &sheet)?;
     let left_out = names.len() - sheet.cells.len();
-    lines.extend(not_there(&missing));
+    for (input, missing) in options.inputs().zip(&missing) {
+        let font = if fonts.len() > 1 { input.font.display().to_string() } else { "the font".to_owned() };
+        lines.extend(not_there(missing, &font));
+    }
     lines.iter().for_each(|line| report(line));
     let edges: usize = sheet.cells.iter().map(|cell| cell.colored.edge_count()).sum();
     let standins = sheet.cells.iter().filter(|cell| cell.job.is_none()).count();
     let summary = format!(
         "{} glyphs, {edges} edges, {left_out} left out, {standins} coloured by docs/src, {} not in the font, {:.2} s",
         sheet.cells.len(),
-        missing.len(),
+        missing.iter().map(Vec::len).sum::<usize>(),
         start.elapsed().as_secs_f64()
     );
     if options.writes_to_stdout() {
@@ -99,27 +107,28 @@ fn run(options: &Options) -> Result<usize, String> {
 }
 
 /// The line about characters that the font has not.
-fn not_there(missing: &[Name]) -> Option<String> {
+fn not_there(missing: &[Name], font: &str) -> Option<String> {
     const SHOWN: usize = 8;
     let names: Vec<String> = missing.iter().take(SHOWN).map(Name::to_string).collect();
     let more = missing.len().saturating_sub(SHOWN);
     let more = if more > 0 { format!(" and {more} more") } else { String::new() };
-    (!missing.is_empty()).then(|| format!("not in the font: {}{more}", names.join(" ")))
+    (!missing.is_empty()).then(|| format!("not in {font}: {}{more}", names.join(" ")))
 }
 
 /// The sheet of the glyphs that could be coloured, and a line for each of the others and each that docs/src coloured.
-fn draw(options: &Options, font: &Font, names: &[Name]) -> Result<(Sheet, Vec<String>), String> {
+fn draw(options: &Options, fonts: &[Font], names: &[(usize, Name)]) -> Result<(Sheet, Vec<String>), String> {
     let settings = options.settings();
     let drawn = options.wants_pixels();
     // hidden where standard error is no terminal
     let steps = names.len() * if drawn { 2 } else { 1 };
     let progress = ProgressBar::new(steps as u64).with_style(ProgressStyle::with_template("{wide_bar} {pos}/{len}").unwrap());
     progress.tick();
-    let color = |(place, &name): (usize, &Name)| {
+    let color = |(place, &(number, name)): (usize, &(usize, Name))| {
         progress.inc(1);
+        let font = &fonts[number];
         let glyph = font.glyph(name).ok_or_else(|| format!("{name}: outline damaged, or beyond the coordinates of a font"))?;
         let excess = standin::excess(&glyph.shape);
-        match settings.color(glyph, place, font.units_per_em()) {
+        match settings.color(glyph, number, place, font.units_per_em()) {
             Ok(cell) if cell.job.is_none() => Ok((cell, Some(format!("{name}: coloured by docs/src, not proved: {excess}")))),
             Ok(cell) => Ok((cell, None)),
             Err(Refusal::TooMany) => Err(format!("{name}: {}: {excess}", Refusal::TooMany.word())),
@@ -137,8 +146,10 @@ fn draw(options: &Options, font: &Font, names: &[Name]) -> Result<(Sheet, Vec<St
             Err(line) => lines.push(line),
         }
     }
-    let sheet = settings.lay_out(cells);
-    let mut sheet = sheet.ok_or_else(|| format!("at this size the sheet would be above {MAX_SIDE} pixels a side"))?;
+    let mut sheet = settings.lay_out(cells).ok_or_else(|| no_room(&settings.layout))?;
+    if !(1.0..=128.0).contains(&sheet.pxrange) {
+        return Err(format!("--emrange gives a range of {} pixels, which is not from 1 to 128", sheet.pxrange));
+    }
     if drawn {
         settings.draw(&mut sheet, || progress.inc(1));
     }
@@ -146,9 +157,20 @@ fn draw(options: &Options, font: &Font, names: &[Name]) -> Result<(Sheet, Vec<St
     Ok((sheet, lines))
 }
 
-fn write(options: &Options, font: &Font, sheet: &Sheet) -> Result<(), String> {
+/// Why glyphs could not be laid out.
+fn no_room(layout: &Layout) -> String {
+    match (layout.dimensions, layout.grid.and_then(|grid| grid.cell)) {
+        (Dimensions::Fixed(width, height), None) => format!("the glyphs do not fit into {width} by {height} pixels"),
+        (_, Some((width, height))) => {
+            format!("the glyphs do not fit into cells of {width} by {height} pixels, or those into the sheet")
+        }
+        _ => format!("at this size the sheet would be above {MAX_SIDE} pixels a side"),
+    }
+}
+
+fn write(options: &Options, fonts: &[Font], sheet: &Sheet) -> Result<(), String> {
     let mut outputs = Outputs::default();
-    outputs.keep(&options.font);
+    options.inputs().for_each(|input| outputs.keep(&input.font));
     if let Some(folder) = &options.jobs {
         outputs.folder(folder)?;
     }
@@ -157,10 +179,10 @@ fn write(options: &Options, font: &Font, sheet: &Sheet) -> Result<(), String> {
         outputs.write(path, |out| picture::write_sheet(out, &sheet.image, format))?;
     }
     if let Some(path) = &options.json {
-        outputs.write(path, |out| out.write_all(json::describe(font, sheet, options.y_origin()).as_bytes()))?;
+        outputs.write(path, |out| out.write_all(json::describe(fonts, sheet, options.y_origin()).as_bytes()))?;
     }
     if let Some(path) = &options.csv {
-        outputs.write(path, |out| out.write_all(json::table(font, sheet, options.y_origin()).as_bytes()))?;
+        outputs.write(path, |out| out.write_all(json::table(fonts, sheet, options.y_origin()).as_bytes()))?;
     }
     if let Some(path) = &options.testrender {
         outputs.write(path, |out| picture::write_test_render(out, sheet))?;
@@ -171,7 +193,8 @@ fn write(options: &Options, font: &Font, sheet: &Sheet) -> Result<(), String> {
     if let Some(folder) = &options.jobs {
         for cell in &sheet.cells {
             if let Some(job) = &cell.job {
-                outputs.write(&folder.join(format!("{}.job", cell.name)), |out| out.write_all(&job.to_bytes()))?;
+                let font = if fonts.len() > 1 { format!("{}-", cell.font) } else { String::new() };
+                outputs.write_small(&folder.join(format!("{font}{}.job", cell.name)), job.to_bytes())?;
             }
         }
     }

@@ -1,13 +1,15 @@
 //! The options, named and preset as msdf-atlas-gen has them.
 
 use clap::error::ContextKind;
-use clap::{Parser, ValueEnum};
+use clap::{Args, CommandFactory, Parser, ValueEnum};
 use merelsplum::job::Strategy;
 use sheet::charset::Charset;
 use sheet::correction::{Check, Correction, Mode};
 use sheet::draw::{Drawing, Type};
 use sheet::font::{Font, Name};
 use sheet::json::YOrigin;
+use sheet::layout::{Axes, Grid, Layout, Length, MAX_SIZE, Size};
+use sheet::pack::{Constraint, Dimensions, MAX_SIDE};
 use sheet::picture::Format;
 use sheet::sheet::Settings;
 use std::f64::consts::PI;
@@ -16,35 +18,11 @@ use std::fs;
 use std::ops::RangeInclusive;
 use std::path::{Path, PathBuf};
 
-/// Makes a sheet of multi-channel distance fields from a font. Options are those of msdf-atlas-gen, with one dash or
+/// Makes a sheet of multi-channel distance fields from fonts. Options are those of msdf-atlas-gen, with one dash or
 /// two.
 #[derive(Parser)]
 #[command(name = "sheet", version)]
 pub struct Options {
-    /// The font, TrueType or OpenType
-    #[arg(long, value_name = "FILE")]
-    pub font: PathBuf,
-
-    /// The face of a collection, counted from 0
-    #[arg(long, value_name = "NUMBER", default_value = "0")]
-    pub face: u32,
-
-    /// An axis of a variable font and where it is set, like wght=700; may be given several times
-    #[arg(long, value_name = "TAG=VALUE", value_parser = axis)]
-    axis: Vec<(String, f64)>,
-
-    /// Characters: A..Z, 'A', "ABC", 65, 0x41, ['A','Z'], with commas between [default: ASCII]
-    #[arg(long, value_name = "SET")]
-    chars: Option<Charset>,
-
-    /// A file of characters, written as for --chars
-    #[arg(long, value_name = "FILE", conflicts_with = "chars")]
-    charset: Option<PathBuf>,
-
-    /// All glyphs of the font, by their places in it
-    #[arg(long, conflicts_with_all = ["chars", "charset"])]
-    allglyphs: bool,
-
     /// The kind of field: msdf, mtsdf, sdf or psdf
     #[arg(long = "type", value_name = "TYPE", default_value = "msdf", value_parser = kind)]
     kind: Type,
@@ -61,9 +39,13 @@ pub struct Options {
     #[arg(long, value_name = "NUMBER", default_value = "0", allow_negative_numbers = true)]
     seed: u64,
 
-    /// Pixels an em, 1 to 1024
-    #[arg(long, value_name = "PIXELS", default_value = "32", value_parser = |text: &str| number(text, 1.0..=1024.0))]
-    size: f64,
+    /// Pixels an em, 1 to 1024 [default: 32, or the largest that fits where --dimensions or --uniformcell is given]
+    #[arg(long, value_name = "PIXELS", value_parser = |text: &str| number(text, 1.0..=MAX_SIZE))]
+    size: Option<f64>,
+
+    /// The largest number of pixels an em that fits in a sheet which this one needs
+    #[arg(long, value_name = "PIXELS", conflicts_with = "size", value_parser = |text: &str| number(text, 1.0..=MAX_SIZE))]
+    minsize: Option<f64>,
 
     /// Width of the range in which distances are told apart, in pixels, 1 to 128
     #[arg(long, value_name = "PIXELS", default_value = "2", value_parser = |text: &str| number(text, 1.0..=128.0))]
@@ -72,6 +54,70 @@ pub struct Options {
     /// The same width in ems, above 0
     #[arg(long, value_name = "EMS", conflicts_with = "pxrange", value_parser = |text: &str| number(text, 1e-6..=128.0))]
     emrange: Option<f64>,
+
+    /// What is left free about each glyph beside the range, in pixels, 0 to 128
+    #[arg(long, value_name = "PIXELS", default_value = "0", value_parser = padding)]
+    pxpadding: f64,
+
+    /// The same in ems
+    #[arg(long, value_name = "EMS", default_value = "0", value_parser = padding)]
+    empadding: f64,
+
+    /// What is left free about each glyph and is in no glyph's box, in pixels, 0 to 128
+    #[arg(long, value_name = "PIXELS", default_value = "0", value_parser = padding)]
+    outerpxpadding: f64,
+
+    /// The same in ems
+    #[arg(long, value_name = "EMS", default_value = "0", value_parser = padding)]
+    outerempadding: f64,
+
+    /// Along which axes the glyphs' origins are between pixels: off, on, horizontal, vertical
+    #[arg(long, value_name = "AXES", default_value = "vertical", value_parser = axes)]
+    pxalign: Axes,
+
+    /// The width and the height of the sheet, in pixels
+    #[arg(long, value_names = ["WIDTH", "HEIGHT"], num_args = 2, group = "shape", value_parser = side)]
+    dimensions: Option<Vec<usize>>,
+
+    /// The sheet is a square whose side is a power of two
+    #[arg(long, group = "shape")]
+    pots: bool,
+
+    /// The sheet's sides are powers of two
+    #[arg(long, group = "shape")]
+    potr: bool,
+
+    /// The sheet is a square
+    #[arg(long, group = "shape")]
+    square: bool,
+
+    /// The sheet is a square whose side is even
+    #[arg(long, group = "shape")]
+    square2: bool,
+
+    /// The sheet is a square whose side is a multiple of four (preset, but for grids)
+    #[arg(long, group = "shape")]
+    square4: bool,
+
+    /// All glyphs have cells of one size, in order
+    #[arg(long)]
+    uniformgrid: bool,
+
+    /// How many columns the grid has
+    #[arg(long, value_name = "NUMBER", value_parser = side)]
+    uniformcols: Option<usize>,
+
+    /// The width and the height of the grid's cells, in pixels
+    #[arg(long, value_names = ["WIDTH", "HEIGHT"], num_args = 2, value_parser = side)]
+    uniformcell: Option<Vec<usize>>,
+
+    /// What the cells are: none, pots, potr, square, square2, square4
+    #[arg(long, value_name = "SHAPE", conflicts_with = "uniformcell", value_parser = constraint)]
+    uniformcellconstraint: Option<Constraint>,
+
+    /// Along which axes the glyphs' origins are at the same place of each cell: off, on, horizontal, vertical
+    #[arg(long, value_name = "AXES", value_parser = axes)]
+    uniformorigin: Option<Axes>,
 
     /// What is corrected between pixels, and by how much measuring: auto-mixed, auto-fast, auto-full, edge-fast,
     /// edge-full, distance-fast, distance-full, disabled
@@ -114,7 +160,8 @@ pub struct Options {
     #[arg(long, value_name = "FILE")]
     pub imageout: Option<PathBuf>,
 
-    /// The format of the sheet: png, bmp or bin (bytes by rows from the bottom)
+    /// The format of the sheet: png, bmp, tiff (numbers of 32 bits), or by rows from the bottom bin (bytes), binfloat
+    /// (numbers of 32 bits) and binfloatbe (their highest byte first)
     #[arg(long, value_name = "FORMAT", value_parser = image_format)]
     format: Option<Format>,
 
@@ -141,6 +188,54 @@ pub struct Options {
     /// Writes a job file for each glyph
     #[arg(long, value_name = "FOLDER")]
     pub jobs: Option<PathBuf>,
+
+    // last, for the heading is that of all that follows
+    #[command(flatten)]
+    input: Input,
+
+    #[arg(skip)]
+    more: Vec<Input>,
+}
+
+/// A font and what is wanted of it.
+#[derive(Args)]
+#[command(next_help_heading = "Of each font; --and comes before those of a further one")]
+pub struct Input {
+    /// The font, TrueType or OpenType
+    #[arg(long, value_name = "FILE")]
+    pub font: PathBuf,
+
+    /// The face of a collection, counted from 0
+    #[arg(long, value_name = "NUMBER", default_value = "0")]
+    face: u32,
+
+    /// An axis of a variable font and where it is set, like wght=700; may be given several times
+    #[arg(long, value_name = "TAG=VALUE", value_parser = axis)]
+    axis: Vec<(String, f64)>,
+
+    /// What the font is called in the JSON
+    #[arg(long, value_name = "NAME")]
+    fontname: Option<String>,
+
+    /// Characters: A..Z, 'A', "ABC", 65, 0x41, ['A','Z'], with commas between [default: ASCII]
+    #[arg(long, value_name = "SET")]
+    chars: Option<Charset>,
+
+    /// A file of characters, written as for --chars
+    #[arg(long, value_name = "FILE", conflicts_with = "chars")]
+    charset: Option<PathBuf>,
+
+    /// All glyphs of the font, by their places in it
+    #[arg(long, conflicts_with_all = ["chars", "charset"])]
+    allglyphs: bool,
+}
+
+/// A further font.
+#[derive(Parser)]
+#[command(name = "sheet")]
+struct Further {
+    #[command(flatten)]
+    input: Input,
 }
 
 #[derive(Clone, Copy, ValueEnum)]
@@ -178,11 +273,43 @@ fn kind(name: &str) -> Result<Type, String> {
 }
 
 fn image_format(name: &str) -> Result<Format, String> {
+    let found = Format::ALL.iter().find(|format| format.0 == name || (format.0 == "tiff" && name == "tif"));
+    found.map(|format| format.1).ok_or_else(|| {
+        let names = Format::ALL.map(|format| format.0);
+        let (last, others) = names.split_last().expect("there are some");
+        format!("the formats are {} and {last}", others.join(", "))
+    })
+}
+
+fn padding(text: &str) -> Result<f64, String> {
+    number(text, 0.0..=128.0)
+}
+
+fn side(text: &str) -> Result<usize, String> {
+    let side = text.parse().ok().filter(|side| (1..=MAX_SIDE).contains(side));
+    side.ok_or_else(|| format!("not a whole number from 1 to {MAX_SIDE}"))
+}
+
+fn axes(name: &str) -> Result<Axes, String> {
+    let (horizontal, vertical) = match name {
+        "off" => (false, false),
+        "on" => (true, true),
+        "horizontal" => (true, false),
+        "vertical" => (false, true),
+        _ => return Err("it is off, on, horizontal or vertical".to_owned()),
+    };
+    Ok(Axes { horizontal, vertical })
+}
+
+fn constraint(name: &str) -> Result<Constraint, String> {
     match name {
-        "png" => Ok(Format::Png),
-        "bmp" => Ok(Format::Bmp),
-        "bin" => Ok(Format::Bin),
-        _ => Err("the formats are png, bmp and bin".to_owned()),
+        "none" => Ok(Constraint::Rectangle),
+        "pots" => Ok(Constraint::PowerOfTwoSquare),
+        "potr" => Ok(Constraint::PowerOfTwoRectangle),
+        "square" => Ok(Constraint::Square(1)),
+        "square2" => Ok(Constraint::Square(2)),
+        "square4" => Ok(Constraint::Square(4)),
+        _ => Err("it is none, pots, potr, square, square2 or square4".to_owned()),
     }
 }
 
@@ -195,7 +322,7 @@ fn y_origin(name: &str) -> Result<YOrigin, String> {
 }
 
 /// An option with one dash as msdf-atlas-gen has it, with two.
-pub fn two_dashes(argument: OsString) -> OsString {
+fn two_dashes(argument: OsString) -> OsString {
     let is_word = |text: &str| text.len() > 1 && text.bytes().all(|byte| byte.is_ascii_lowercase() || byte.is_ascii_digit());
     match argument.to_str().and_then(|text| text.strip_prefix('-')) {
         Some(name) if is_word(name) && !name.starts_with(|c: char| c.is_ascii_digit()) => format!("--{name}").into(),
@@ -203,21 +330,23 @@ pub fn two_dashes(argument: OsString) -> OsString {
     }
 }
 
-/// What there is in place of options of msdf-atlas-gen.
-const INSTEAD: [(&str, &str); 16] = [
+/// Options of msdf-atlas-gen that are not there, and what there is in their place.
+const INSTEAD: [(&str, &str); 18] = [
     ("varfont", "--font and --axis"),
     ("fontscale", "--size"),
-    ("fontname", "--json, which has the glyphs of one font"),
-    ("and", "a call for each font"),
     ("glyphset", "--allglyphs"),
     ("glyphs", "--allglyphs"),
-    ("minsize", "--size"),
-    ("dimensions", "--size; the sheet is the smallest square that holds the glyphs"),
-    ("pots", "--size; the sheet is the smallest square that holds the glyphs"),
-    ("square", "--size; the sheet is the smallest square that holds the glyphs"),
-    ("uniformgrid", "--json, which has the places of the glyphs"),
     ("apxrange", "--pxrange"),
     ("aemrange", "--emrange"),
+    ("apxpadding", "--pxpadding"),
+    ("aempadding", "--empadding"),
+    ("aouterpxpadding", "--outerpxpadding"),
+    ("aouterempadding", "--outerempadding"),
+    ("miterlimit", "--pxpadding"),
+    ("kerning", "--json, which has the kerning"),
+    ("nokerning", "--csv, which has no kerning"),
+    ("preprocess", "--overlap"),
+    ("nopreprocess", "--nooverlap"),
     ("arfont", "--imageout and --json"),
     ("shadronpreview", "--testrender"),
     ("edgecolors", "--outlines"),
@@ -248,57 +377,13 @@ fn error_correction(name: &str) -> Result<(Mode, Check), String> {
     })
 }
 
-impl Options {
-    fn files(&self) -> [&Option<PathBuf>; 5] {
-        [&self.imageout, &self.json, &self.csv, &self.testrender, &self.outlines]
-    }
-
-    /// What no single option shows.
-    pub fn check(&self) -> Result<(), String> {
-        if self.files().iter().all(|path| path.is_none()) && self.jobs.is_none() {
-            return Err("nothing to write: give --imageout, --json, --csv, --testrender, --outlines or --jobs".to_owned());
-        }
-        if let Some(path) = &self.imageout {
-            self.format(path)?;
-        }
-        if !(1.0..=128.0).contains(&self.pixel_range()) {
-            return Err(format!("--emrange gives a range of {} pixels, which is not from 1 to 128", self.pixel_range()));
-        }
-        let is_png = |path: &Path| path.extension().is_none_or(|extension| extension.eq_ignore_ascii_case("png"));
-        match [&self.testrender, &self.outlines].into_iter().flatten().find(|path| !is_png(path)) {
-            Some(path) => Err(format!("{}: this is written as PNG", path.display())),
-            None => Ok(()),
-        }
-    }
-
-    /// The format of the sheet: as it is given, or as the file's name shows it, or PNG.
-    pub fn format(&self, path: &Path) -> Result<Format, String> {
-        match (self.format, path.extension().map(|extension| extension.to_string_lossy().to_ascii_lowercase())) {
-            (Some(format), _) => Ok(format),
-            (None, None) => Ok(Format::Png),
-            (None, Some(extension)) => image_format(&extension).map_err(|error| format!("{}: {error}", path.display())),
-        }
-    }
-
-    fn pixel_range(&self) -> f64 {
-        self.emrange.map_or(self.pxrange, |ems| ems * self.size)
-    }
-
-    pub fn y_origin(&self) -> YOrigin {
-        self.yorigin
-    }
-
-    pub fn wants_pixels(&self) -> bool {
-        self.imageout.is_some() || self.testrender.is_some()
-    }
-
-    pub fn writes_to_stdout(&self) -> bool {
-        self.files().into_iter().flatten().any(|path| path == Path::new("-"))
-    }
-
-    /// Sets the axes of the font.
-    pub fn vary(&self, font: &mut Font) -> Result<(), String> {
-        self.axis.iter().try_for_each(|(tag, value)| font.vary(tag, *value))
+impl Input {
+    /// The font of a file that was read, as it is wanted.
+    pub fn open<'a>(&self, file: &'a [u8]) -> Result<Font<'a>, String> {
+        let mut font = Font::face(file, self.face)?;
+        self.axis.iter().try_for_each(|(tag, value)| font.vary(tag, *value))?;
+        font.name = self.fontname.clone();
+        Ok(font)
     }
 
     pub fn names(&self, font: &Font) -> Result<Vec<Name>, String> {
@@ -316,6 +401,118 @@ impl Options {
         };
         Ok(chars.into_iter().map(Name::Character).collect())
     }
+}
+
+impl Options {
+    /// The options of a call. Those that belong to a font are the ones of the font that --and comes before.
+    pub fn parse(arguments: impl Iterator<Item = OsString>) -> Result<Options, clap::Error> {
+        let command = Further::command();
+        // whether an option belongs to a font, and has a value as its next argument
+        let of_font = |argument: &OsString| {
+            let name = argument.to_str()?.strip_prefix("--")?;
+            let (name, with_value) = name.split_once('=').map_or((name, false), |(name, _)| (name, true));
+            let option = command.get_arguments().find(|option| option.get_long() == Some(name) && name != "help")?;
+            Some(!with_value && option.get_action().takes_values())
+        };
+        let mut arguments = arguments.map(two_dashes);
+        let mut all: Vec<OsString> = arguments.next().into_iter().collect();
+        let mut further: Vec<Vec<OsString>> = vec![];
+        while let Some(argument) = arguments.next() {
+            if argument == "--and" {
+                further.push(vec!["sheet".into()]);
+                continue;
+            }
+            let value = of_font(&argument).map(|has_value| if has_value { arguments.next() } else { None });
+            let list = further.last_mut().filter(|_| value.is_some()).unwrap_or(&mut all);
+            list.push(argument);
+            list.extend(value.flatten());
+        }
+        let mut options = Options::try_parse_from(all)?;
+        for arguments in further {
+            options.more.push(Further::try_parse_from(arguments)?.input);
+        }
+        Ok(options)
+    }
+
+    pub fn inputs(&self) -> impl Iterator<Item = &Input> {
+        [&self.input].into_iter().chain(&self.more)
+    }
+
+    fn layout(&self) -> Layout {
+        let shapes = [self.pots, self.potr, self.square, self.square2];
+        let constraints = ["pots", "potr", "square", "square2"].map(constraint);
+        let chosen = shapes.into_iter().zip(constraints).find_map(|(chosen, constraint)| constraint.ok().filter(|_| chosen));
+        let pair = |sides: &Vec<usize>| (sides[0], sides[1]);
+        let has_grid = self.uniformgrid
+            || self.uniformcols.is_some()
+            || self.uniformcell.is_some()
+            || self.uniformcellconstraint.is_some()
+            || self.uniformorigin.is_some();
+        let grid = has_grid.then(|| Grid {
+            columns: self.uniformcols,
+            cell: self.uniformcell.as_ref().map(pair),
+            constraint: self.uniformcellconstraint.unwrap_or(Constraint::Rectangle),
+            origin: self.uniformorigin.unwrap_or(Axes { horizontal: false, vertical: true }),
+        });
+        let preset = if has_grid && !self.square4 { Constraint::Rectangle } else { Constraint::Square(4) };
+        let fixed = self.dimensions.as_ref().map(pair);
+        let size = match (self.size, self.minsize) {
+            (Some(size), _) => Size::Fixed(size),
+            (None, Some(least)) => Size::AtLeast(least),
+            (None, None) if fixed.is_some() || self.uniformcell.is_some() => Size::Largest,
+            (None, None) => Size::Fixed(32.0),
+        };
+        Layout {
+            size,
+            range: self.emrange.map_or(Length::of_pixels(self.pxrange), |ems| Length { ems, pixels: 0.0 }),
+            padding: Length { ems: self.empadding, pixels: self.pxpadding },
+            outer: Length { ems: self.outerempadding, pixels: self.outerpxpadding },
+            align: self.pxalign,
+            dimensions: fixed
+                .map_or(Dimensions::Least(chosen.unwrap_or(preset)), |(width, height)| Dimensions::Fixed(width, height)),
+            grid,
+        }
+    }
+
+    fn files(&self) -> [&Option<PathBuf>; 5] {
+        [&self.imageout, &self.json, &self.csv, &self.testrender, &self.outlines]
+    }
+
+    /// What no single option shows.
+    pub fn check(&self) -> Result<(), String> {
+        if self.files().iter().all(|path| path.is_none()) && self.jobs.is_none() {
+            return Err("nothing to write: give --imageout, --json, --csv, --testrender, --outlines or --jobs".to_owned());
+        }
+        if let Some(path) = &self.imageout {
+            self.format(path)?;
+        }
+        let is_png = |path: &Path| path.extension().is_none_or(|extension| extension.eq_ignore_ascii_case("png"));
+        match [&self.testrender, &self.outlines].into_iter().flatten().find(|path| !is_png(path)) {
+            Some(path) => Err(format!("{}: this is written as PNG", path.display())),
+            None => Ok(()),
+        }
+    }
+
+    /// The format of the sheet: as it is given, or as the file's name shows it, or PNG.
+    pub fn format(&self, path: &Path) -> Result<Format, String> {
+        match (self.format, path.extension().map(|extension| extension.to_string_lossy().to_ascii_lowercase())) {
+            (Some(format), _) => Ok(format),
+            (None, None) => Ok(Format::Png),
+            (None, Some(extension)) => image_format(&extension).map_err(|error| format!("{}: {error}", path.display())),
+        }
+    }
+
+    pub fn y_origin(&self) -> YOrigin {
+        self.yorigin
+    }
+
+    pub fn wants_pixels(&self) -> bool {
+        self.imageout.is_some() || self.testrender.is_some()
+    }
+
+    pub fn writes_to_stdout(&self) -> bool {
+        self.files().into_iter().flatten().any(|path| path == Path::new("-"))
+    }
 
     pub fn settings(&self) -> Settings {
         Settings {
@@ -326,13 +523,14 @@ impl Options {
             },
             angle: self.angle,
             seed: self.seed,
-            size: self.size,
+            layout: self.layout(),
             standins: !self.provedonly,
             drawing: Drawing {
                 kind: self.kind,
-                pxrange: self.pixel_range(),
+                pxrange: self.pxrange,
                 overlap: !self.nooverlap,
                 scanline: !self.noscanline,
+                floats: self.imageout.as_ref().and_then(|path| self.format(path).ok()).is_some_and(Format::has_floats),
                 correction: Correction {
                     mode: self.errorcorrection.0,
                     check: self.errorcorrection.1,

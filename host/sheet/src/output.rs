@@ -10,6 +10,7 @@ use std::os::fd::AsRawFd;
 use std::os::unix::ffi::OsStrExt;
 use std::os::unix::fs::OpenOptionsExt;
 use std::path::{Path, PathBuf};
+use tempfile::TempPath;
 
 #[derive(Default)]
 pub struct Outputs {
@@ -20,18 +21,25 @@ pub struct Outputs {
     kept: Vec<PathBuf>,
     /// What goes to standard output.
     stdout: Option<Vec<u8>>,
+    /// Whether all files get temporary names.
+    with_names: bool,
 }
 
 struct Output {
-    /// The file, where it has no name yet.
-    unnamed: Option<File>,
-    /// Its temporary name, where it has one.
-    temporary: Option<PathBuf>,
+    content: Content,
     own: PathBuf,
-    /// Whether it has its own name by now.
-    renamed: bool,
-    /// Where the file of before is meanwhile.
-    before: Option<PathBuf>,
+    /// The file of before, under a temporary name.
+    before: Option<TempPath>,
+}
+
+/// What a file will have, and where that is.
+enum Content {
+    /// Not written yet.
+    Bytes(Vec<u8>),
+    Unnamed(File),
+    Temporary(TempPath),
+    /// In the file itself.
+    Named,
 }
 
 fn failure(path: &Path) -> impl Fn(io::Error) -> String {
@@ -56,21 +64,25 @@ fn place(path: &Path) -> Result<PathBuf, String> {
     }
 }
 
-/// Gives a file that is new in the folder of another one a name there, numbered from `first` on.
-fn name_beside<T>(path: &Path, first: usize, name: impl Fn(&Path) -> io::Result<T>) -> io::Result<(PathBuf, T)> {
-    let mut number = first;
-    loop {
-        let temporary = path.with_file_name(format!(".sheet.{number}"));
-        match name(&temporary) {
-            Err(error) if error.kind() == ErrorKind::AlreadyExists => number += 1,
-            named => return Ok((temporary, named?)),
-        }
-    }
+fn folder(path: &Path) -> &Path {
+    path.parent().unwrap_or(Path::new("/"))
 }
 
-/// A file without a name in the folder of another one.
-fn create_unnamed(path: &Path) -> io::Result<File> {
-    OpenOptions::new().write(true).custom_flags(libc::O_TMPFILE).open(path.parent().unwrap_or(Path::new("/")))
+/// A name in the folder of a file that nothing else has.
+fn name_beside(path: &Path) -> io::Result<TempPath> {
+    Ok(tempfile::Builder::new().prefix(".sheet.").tempfile_in(folder(path))?.into_temp_path())
+}
+
+/// A file without a name in the folder of another one, or with a temporary one.
+fn create(own: &Path, with_name: bool) -> io::Result<(File, Content)> {
+    if !with_name && let Ok(file) = OpenOptions::new().write(true).custom_flags(libc::O_TMPFILE).open(folder(own)) {
+        let content = Content::Unnamed(file.try_clone()?);
+        return Ok((file, content));
+    }
+    // made again, so that others may read it as they may read any file
+    let name = name_beside(own)?;
+    fs::remove_file(&name)?;
+    Ok((File::create_new(&name)?, Content::Temporary(name)))
 }
 
 /// Gives a file without a name one that is not taken.
@@ -97,6 +109,18 @@ impl Outputs {
         self.kept.extend(path.canonicalize());
     }
 
+    /// Where a file is to be written.
+    fn place(&self, path: &Path) -> Result<PathBuf, String> {
+        let own = place(path)?;
+        if self.kept.contains(&own) {
+            return Err(format!("{}: is read here and cannot be written", path.display()));
+        }
+        if self.files.iter().any(|file| file.own.as_os_str() == own.as_os_str()) {
+            return Err(format!("{}: is to be written twice", path.display()));
+        }
+        Ok(own)
+    }
+
     /// Writes a file that has not its own name yet.
     pub fn write(&mut self, path: &Path, write: impl FnOnce(&mut dyn Write) -> io::Result<()>) -> Result<(), String> {
         if path == Path::new("-") {
@@ -105,29 +129,18 @@ impl Outputs {
             }
             return write(self.stdout.insert(Vec::new())).map_err(failure(path));
         }
-        let own = place(path)?;
-        if self.kept.contains(&own) {
-            return Err(format!("{}: is read here and cannot be written", path.display()));
-        }
-        if self.files.iter().any(|file| file.own.as_os_str() == own.as_os_str()) {
-            return Err(format!("{}: is to be written twice", path.display()));
-        }
-        let mut output = Output { unnamed: None, temporary: None, own, renamed: false, before: None };
-        let file = match create_unnamed(&output.own) {
-            Ok(file) => {
-                output.unnamed = Some(file.try_clone().map_err(failure(path))?);
-                file
-            }
-            Err(_) => {
-                let (temporary, file) =
-                    name_beside(&output.own, self.files.len(), |p| File::create_new(p)).map_err(failure(path))?;
-                output.temporary = Some(temporary);
-                file
-            }
-        };
-        self.files.push(output);
+        let own = self.place(path)?;
+        let (file, content) = create(&own, self.with_names).map_err(failure(path))?;
+        self.files.push(Output { content, own, before: None });
         let mut file = BufWriter::new(file);
         write(&mut file).and_then(|()| file.flush()).map_err(failure(path))
+    }
+
+    /// Writes a small file at the end: there may be more of those than a program may have open.
+    pub fn write_small(&mut self, path: &Path, bytes: Vec<u8>) -> Result<(), String> {
+        let own = self.place(path)?;
+        self.files.push(Output { content: Content::Bytes(bytes), own, before: None });
+        Ok(())
     }
 
     /// Gives all files their own names.
@@ -136,52 +149,53 @@ impl Outputs {
             let mut out = io::stdout().lock();
             out.write_all(bytes).and_then(|()| out.flush()).map_err(failure(Path::new("-")))?;
         }
-        let count = self.files.len();
-        for (i, file) in self.files.iter_mut().enumerate() {
-            file.rename(count + i).map_err(failure(&file.own))?;
+        for file in &mut self.files {
+            file.name(self.with_names).map_err(failure(&file.own))?;
         }
-        for before in mem::take(&mut self.files).into_iter().filter_map(|file| file.before) {
-            let _ = fs::remove_file(before);
-        }
+        // with the files of before
+        mem::take(&mut self.files);
         self.folder = None;
         Ok(())
     }
 }
 
 impl Output {
-    /// Gives a file its own name; the one that had it before gets a name numbered from `first` on.
-    fn rename(&mut self, first: usize) -> io::Result<()> {
-        if let Some(file) = &self.unnamed {
-            let (temporary, ()) = name_beside(&self.own, first, |path| link(file, path))?;
-            self.temporary = Some(temporary);
+    /// Gives a file its own name; the one that had it before gets another one.
+    fn name(&mut self, with_name: bool) -> io::Result<()> {
+        if let Content::Bytes(bytes) = &self.content {
+            let (mut file, content) = create(&self.own, with_name)?;
+            file.write_all(bytes)?;
+            self.content = content;
         }
         if self.own.exists() {
-            let (before, _) = name_beside(&self.own, first, |path| File::create_new(path))?;
-            if let Err(error) = fs::rename(&self.own, &before) {
-                let _ = fs::remove_file(before);
-                return Err(error);
-            }
+            let before = name_beside(&self.own)?;
+            fs::rename(&self.own, &before)?;
             self.before = Some(before);
         }
-        if let Some(temporary) = &self.temporary {
-            fs::rename(temporary, &self.own)?;
+        match mem::replace(&mut self.content, Content::Named) {
+            Content::Unnamed(file) => link(&file, &self.own).inspect_err(|_| self.content = Content::Unnamed(file)),
+            Content::Temporary(name) => name.persist_noclobber(&self.own).map_err(|error| {
+                self.content = Content::Temporary(error.path);
+                error.error
+            }),
+            Content::Bytes(_) | Content::Named => Ok(()),
         }
-        self.renamed = true;
-        Ok(())
     }
 }
 
 /// Takes away what was not finished.
 impl Drop for Outputs {
     fn drop(&mut self) {
-        for file in &self.files {
-            if let Some(written) = if file.renamed { Some(&file.own) } else { file.temporary.as_ref() } {
-                let _ = fs::remove_file(written);
+        for file in &mut self.files {
+            if matches!(file.content, Content::Named) {
+                let _ = fs::remove_file(&file.own);
             }
-            if let Some(before) = &file.before {
-                let _ = fs::rename(before, &file.own);
+            if let Some(before) = file.before.take() {
+                let _ = before.persist(&file.own);
             }
         }
+        // temporary files are in the folder
+        self.files.clear();
         if let Some(folder) = &self.folder {
             let _ = fs::remove_dir(folder);
         }
@@ -191,39 +205,39 @@ impl Drop for Outputs {
 #[cfg(test)]
 mod tests {
     use super::*;
-    use std::env;
+    use std::os::unix::fs::PermissionsExt;
 
     /// Where the last file cannot get its name, the others are as before: one replaced, one new in a new folder.
     #[test]
     fn all_or_nothing() {
-        let folder = env::temp_dir().join(format!("sheet.all_or_nothing.{}", std::process::id()));
-        let _ = fs::remove_dir_all(&folder);
-        fs::create_dir(&folder).unwrap();
-        let path = |name: &str| folder.join(name);
-        fs::write(path("old"), "old").unwrap();
-        // what an earlier run may have left
-        fs::write(path(".sheet.0"), "left").unwrap();
-        for fails in [true, false] {
+        for (with_names, fails) in [(false, true), (false, false), (true, true), (true, false)] {
+            let folder = tempfile::tempdir().unwrap();
+            let path = |name: &str| folder.path().join(name);
+            fs::write(path("old"), "old").unwrap();
             let mut outputs = Outputs::default();
+            outputs.with_names = with_names;
             outputs.folder(&path("made")).unwrap();
-            for name in ["old", "made/new", "last"] {
+            for name in ["old", "made/new"] {
                 outputs.write(&path(name), |out| out.write_all(b"new")).unwrap();
             }
+            outputs.write_small(&path("made/small"), b"new".to_vec()).unwrap();
+            outputs.write(&path("last"), |out| out.write_all(b"new")).unwrap();
             if fails {
                 fs::create_dir(path("last")).unwrap();
                 assert!(outputs.finish().is_err());
-                fs::remove_dir(path("last")).unwrap();
                 assert_eq!(fs::read(path("old")).unwrap(), b"old");
                 assert!(!path("made").exists());
             } else {
                 outputs.finish().unwrap();
-                for name in ["old", "made/new", "last"] {
+                for name in ["old", "made/new", "made/small", "last"] {
                     assert_eq!(fs::read(path(name)).unwrap(), b"new");
+                    let mode = |path: &Path| fs::metadata(path).unwrap().permissions().mode();
+                    fs::write(path("any"), "").unwrap();
+                    assert_eq!(mode(&path(name)), mode(&path("any")), "{name}");
                 }
+                fs::remove_file(path("any")).unwrap();
             }
-            assert_eq!(fs::read(path(".sheet.0")).unwrap(), b"left");
-            assert_eq!(fs::read_dir(&folder).unwrap().count(), if fails { 2 } else { 4 });
+            assert_eq!(fs::read_dir(&folder).unwrap().count(), if fails { 2 } else { 3 });
         }
-        fs::remove_dir_all(folder).unwrap();
     }
 }

@@ -6,7 +6,8 @@ use crate::source::{EdgeSegment, Vector2, dot, median, segment};
 use crate::winding::Fill;
 use merelsplum::{Colored, EdgeColor};
 use rayon::prelude::*;
-use std::io::{self, Write};
+use std::io::{self, Cursor, Write};
+use tiff::encoder::{TiffEncoder, colortype};
 
 /// How much larger than the sheet the other two pictures are.
 pub const ZOOM: usize = 8;
@@ -47,52 +48,89 @@ pub fn write_rgb(out: impl Write, size: (usize, usize), pixels: &[[u8; 3]]) -> i
 #[derive(Clone, Copy, Debug, PartialEq, Eq)]
 pub enum Format {
     Png,
-    /// Without compression, 24 bits a pixel, or 32 where it has four channels.
+    /// Without compression.
     Bmp,
+    /// With numbers of 32 bits.
+    Tiff,
     /// The bytes of the pixels by rows from the bottom, as msdf-atlas-gen writes them.
     Bin,
+    /// The same with numbers of 32 bits, the lowest byte first.
+    BinFloat,
+    /// The same, the highest byte first.
+    BinFloatBe,
+}
+
+impl Format {
+    /// All of them, by their names.
+    pub const ALL: [(&'static str, Format); 6] = [
+        ("png", Format::Png),
+        ("bmp", Format::Bmp),
+        ("tiff", Format::Tiff),
+        ("bin", Format::Bin),
+        ("binfloat", Format::BinFloat),
+        ("binfloatbe", Format::BinFloatBe),
+    ];
+
+    /// Whether it has numbers that are not rounded to bytes.
+    pub fn has_floats(self) -> bool {
+        matches!(self, Format::Tiff | Format::BinFloat | Format::BinFloatBe)
+    }
 }
 
 impl Image {
-    /// The bytes of some pixels, as many a pixel as there are channels.
-    fn bytes(&self, pixels: &[[u8; 4]]) -> Vec<u8> {
+    /// The channels of some pixels.
+    fn channels<T: Copy>(&self, pixels: &[[T; 4]]) -> Vec<T> {
         pixels.iter().flat_map(|pixel| &pixel[..self.kind.channels()]).copied().collect()
+    }
+
+    /// Writes numbers by rows from the bottom.
+    fn write_floats(&self, mut out: impl Write, bytes: impl Fn(f32) -> [u8; 4]) -> io::Result<()> {
+        let rows = self.floats.chunks(self.width).rev();
+        rows.map(|row| self.channels(row))
+            .try_for_each(|row| out.write_all(&row.into_iter().flat_map(&bytes).collect::<Vec<u8>>()))
     }
 }
 
 pub fn write_sheet(mut out: impl Write, image: &Image, format: Format) -> io::Result<()> {
-    let side = image.side;
+    let (width, height) = (image.width, image.height);
+    let kind = image.kind.channels() / 2;
     match format {
         Format::Png => {
-            let color = [png::ColorType::Grayscale, png::ColorType::Rgb, png::ColorType::Rgba][image.kind.channels() / 2];
-            write_png(out, (side, side), color, image.pixels.chunks(side).map(|row| image.bytes(row)))
+            let color = [png::ColorType::Grayscale, png::ColorType::Rgb, png::ColorType::Rgba][kind];
+            write_png(out, (width, height), color, image.pixels.chunks(width).map(|row| image.channels(row)))
         }
-        Format::Bmp => write_bmp(out, image),
-        Format::Bin => image.pixels.chunks(side).rev().try_for_each(|row| out.write_all(&image.bytes(row))),
+        Format::Bmp => {
+            let color = [image::ColorType::L8, image::ColorType::Rgb8, image::ColorType::Rgba8][kind];
+            let mut encoder = image::codecs::bmp::BmpEncoder::new(&mut out);
+            encoder.encode(&image.channels(&image.pixels), width as u32, height as u32, color).map_err(io::Error::other)
+        }
+        Format::Tiff => {
+            let mut file = Cursor::new(Vec::new());
+            write_tiff(&mut file, image).map_err(io::Error::other)?;
+            out.write_all(file.get_ref())
+        }
+        Format::Bin => image.pixels.chunks(width).rev().try_for_each(|row| out.write_all(&image.channels(row))),
+        Format::BinFloat => image.write_floats(out, f32::to_le_bytes),
+        Format::BinFloatBe => image.write_floats(out, f32::to_be_bytes),
     }
 }
 
-/// Rows from the bottom, blue before red; a side of a sheet is a multiple of four, so that rows need no filling.
-fn write_bmp(mut out: impl Write, image: &Image) -> io::Result<()> {
-    let channels = if image.kind.channels() == 4 { 4 } else { 3 };
-    let (side, size) = (image.side as u32, (image.side * image.side * channels) as u32);
-    out.write_all(b"BM")?;
-    for number in [54 + size, 0, 54, 40, side, side, 1 | (8 * channels as u32) << 16, 0, size, 2835, 2835, 0, 0] {
-        out.write_all(&number.to_le_bytes())?;
+fn write_tiff(file: &mut Cursor<Vec<u8>>, image: &Image) -> tiff::TiffResult<()> {
+    let mut encoder = TiffEncoder::new(file)?;
+    let (width, height, floats) = (image.width as u32, image.height as u32, image.channels(&image.floats));
+    match image.kind.channels() {
+        1 => encoder.write_image::<colortype::Gray32Float>(width, height, &floats),
+        3 => encoder.write_image::<colortype::RGB32Float>(width, height, &floats),
+        _ => encoder.write_image::<colortype::RGBA32Float>(width, height, &floats),
     }
-    for row in image.pixels.chunks(image.side).rev() {
-        let bytes: Vec<u8> = row.iter().flat_map(|&[r, g, b, a]| [b, g, r, a].into_iter().take(channels)).collect();
-        out.write_all(&bytes)?;
-    }
-    Ok(())
 }
 
 impl Image {
     /// The channels at a place in pixels, from 0 to 1, linear between the middles of the pixels.
     fn sample(&self, x: f64, y: f64) -> [f64; 3] {
-        let last = (self.side - 1) as f64;
-        let (x, y) = ((x - 0.5).clamp(0.0, last), (y - 0.5).clamp(0.0, last));
-        let at = |x: f64, y: f64| self.pixels[y as usize * self.side + x as usize];
+        let [right, bottom] = [self.width, self.height].map(|length| (length - 1) as f64);
+        let (x, y) = ((x - 0.5).clamp(0.0, right), (y - 0.5).clamp(0.0, bottom));
+        let at = |x: f64, y: f64| self.pixels[y as usize * self.width + x as usize];
         let [left, right, top, bottom] = [x.floor(), x.ceil(), y.floor(), y.ceil()];
         let mix = |a: f64, b: f64, t: f64| a + (b - a) * t;
         let across = |y: f64, i: usize| mix(at(left, y)[i].into(), at(right, y)[i].into(), x - left);
@@ -108,29 +146,29 @@ impl Image {
 
 /// The glyphs drawn back from the sheet, black on white.
 pub fn write_test_render(out: impl Write, sheet: &Sheet) -> io::Result<()> {
-    let side = ZOOM * sheet.image.side;
+    let (width, height) = (sheet.image.width, sheet.image.height);
     let at = |i: usize| (i as f64 + 0.5) / ZOOM as f64;
-    let row = |y: usize| (0..side).map(move |x| sheet.image.coverage(at(x), at(y), sheet.pxrange, ZOOM as f64));
-    let bands = (0..sheet.image.side).map(|y| {
+    let row = |y: usize| (0..ZOOM * width).map(move |x| sheet.image.coverage(at(x), at(y), sheet.pxrange, ZOOM as f64));
+    let bands = (0..height).map(|y| {
         let rows = (ZOOM * y..ZOOM * (y + 1)).into_par_iter();
         rows.flat_map_iter(|y| row(y).map(|inside| (255.0 * (1.0 - inside)).round() as u8)).collect()
     });
-    write_png(out, (side, side), png::ColorType::Grayscale, bands)
+    write_png(out, (ZOOM * width, ZOOM * height), png::ColorType::Grayscale, bands)
 }
 
 /// The coloured outlines, each where its glyph is in the test render.
 pub fn write_outlines(out: impl Write, sheet: &Sheet) -> io::Result<()> {
-    let side = sheet.image.side;
-    let bands = (0..side).step_by(BAND).map(|top| {
-        let bottom = (top + BAND).min(side);
-        let mut canvas = Canvas::new(ZOOM * side, ZOOM * (bottom - top));
+    let (width, height) = (sheet.image.width, sheet.image.height);
+    let bands = (0..height).step_by(BAND).map(|top| {
+        let bottom = (top + BAND).min(height);
+        let mut canvas = Canvas::new(ZOOM * width, ZOOM * (bottom - top));
         for cell in sheet.cells.iter().filter(|cell| cell.y < bottom && top < cell.y + cell.frame.height) {
             let [x, y, top] = [cell.x, cell.y, top].map(|pixels| (ZOOM * pixels) as f64);
             canvas.outline(&cell.colored, &cell.frame, ZOOM as f64, x, y - top);
         }
         canvas.pixels.concat()
     });
-    write_png(out, (ZOOM * side, ZOOM * side), png::ColorType::Rgb, bands)
+    write_png(out, (ZOOM * width, ZOOM * height), png::ColorType::Rgb, bands)
 }
 
 /// A picture to draw on, by rows from the top.
@@ -150,8 +188,8 @@ impl Canvas {
         self.pixels.len() / self.width
     }
 
-    /// Draws a glyph with `zoom` pixels for one of its frame, the frame's top left corner at (x, y): its inside, then its edges. What is
-    /// above or below the picture is left out.
+    /// Draws a glyph with `zoom` pixels for one of its frame, the frame's top left corner at (x, y): its inside, then
+    /// its edges. What is above or below the picture is left out.
     pub fn outline(&mut self, colored: &Colored, frame: &Frame, zoom: f64, x: f64, y: f64) {
         let top = frame.height as f64;
         let place = |point: Vector2| {

@@ -1,10 +1,10 @@
 //! A sheet: glyphs coloured, their fields drawn and packed into one picture.
 
-use crate::draw::{Drawing, Type};
+use crate::draw::{Drawing, Type, byte};
 use crate::font::{Glyph, Name};
-use crate::frame::Frame;
-use crate::pack::{Packing, pack};
-use crate::source::{self, spline_distances};
+use crate::frame::{self, Frame};
+use crate::layout::{Arrangement, Cells, Layout};
+use crate::source::{self, Bounds, spline_distances};
 use crate::standin;
 use crate::winding::Fill;
 use merelsplum::job::{Job, Strategy};
@@ -18,29 +18,37 @@ pub struct Settings {
     /// In radians.
     pub angle: f64,
     pub seed: u64,
-    /// Pixels an em.
-    pub size: f64,
+    pub layout: Layout,
+    /// Its range is the layout's.
     pub drawing: Drawing,
     /// Whether docs/src colours what is above the library's limits.
     pub standins: bool,
 }
 
-/// A square of pixels, by rows from the top: red, green, blue, and the true distance where the type has it.
+/// Pixels by rows from the top: red, green, blue, and the true distance where the type has it.
 pub struct Image {
     pub kind: Type,
-    pub side: usize,
+    pub width: usize,
+    pub height: usize,
     /// None where only the places of the glyphs are wanted.
     pub pixels: Vec<[u8; 4]>,
+    /// The same as numbers that are not rounded, where those are wanted.
+    pub floats: Vec<[f32; 4]>,
 }
 
 /// A glyph of a sheet.
 pub struct Cell {
+    /// Which font it is of.
+    pub font: usize,
     pub name: Name,
     pub advance: f64,
     /// None where the library refused the glyph, and docs/src coloured it.
     pub job: Option<Job>,
     pub colored: Colored,
     pub fill: Fill,
+    /// Of its outline, in units.
+    bounds: Option<Bounds>,
+    units_per_em: f64,
     pub frame: Frame,
     /// Its first pixel in the sheet, from the left.
     pub x: usize,
@@ -52,6 +60,7 @@ pub struct Sheet {
     pub size: f64,
     pub pxrange: f64,
     pub cells: Vec<Cell>,
+    pub grid: Option<Cells>,
     pub image: Image,
 }
 
@@ -76,9 +85,9 @@ pub fn job(outline: Outline, strategy: Strategy, threshold: f64, seed: u64) -> R
 }
 
 impl Settings {
-    /// Colours a glyph, the `place`-th of the sheet. One above the library's limits is coloured by docs/src where that
-    /// is allowed.
-    pub fn color(&self, glyph: Glyph, place: usize, units_per_em: f64) -> Result<Cell, Refusal> {
+    /// Colours a glyph of a font, the `place`-th of the sheet. One above the library's limits is coloured by docs/src
+    /// where that is allowed.
+    pub fn color(&self, glyph: Glyph, font: usize, place: usize, units_per_em: f64) -> Result<Cell, Refusal> {
         let seed = glyph_seed(self.strategy, self.seed, place);
         let job = job(source::outline(&glyph.shape), self.strategy, self.angle.sin(), seed);
         let (job, colored) = match job.and_then(|job| job.color().map(|colored| (job, colored))) {
@@ -86,36 +95,65 @@ impl Settings {
             Err(Refusal::TooMany) if self.standins => (None, standin::color(&glyph.shape, self.strategy, self.angle, seed)),
             Err(refusal) => return Err(refusal),
         };
-        let frame = Frame::new(&glyph.shape, self.size / units_per_em, self.drawing.pxrange);
-        Ok(Cell { name: glyph.name, advance: glyph.advance, job, colored, fill: glyph.fill, frame, x: 0, y: 0 })
+        let Glyph { name, advance, shape, fill } = glyph;
+        let (bounds, frame) = (frame::bounds(&shape), Frame::empty(1.0));
+        Ok(Cell { font, name, advance, job, colored, fill, bounds, units_per_em, frame, x: 0, y: 0 })
     }
 
-    /// Packs glyphs that are coloured into a sheet without pixels; none where no sheet holds them.
+    /// Lays glyphs that are coloured out in a sheet without pixels; none where no sheet holds them.
     pub fn lay_out(&self, mut cells: Vec<Cell>) -> Option<Sheet> {
-        let sizes: Vec<_> = cells.iter().map(|cell| (cell.frame.width, cell.frame.height)).collect();
-        let Packing { side, places } = pack(&sizes)?;
-        cells.iter_mut().zip(places).for_each(|(cell, place)| (cell.x, cell.y) = place);
-        let image = Image { kind: self.drawing.kind, side, pixels: vec![] };
-        Some(Sheet { size: self.size, pxrange: self.drawing.pxrange, cells, image })
+        let items: Vec<_> = cells.iter().map(|cell| (cell.bounds, cell.units_per_em)).collect();
+        let Arrangement { size, width, height, frames, places, grid } = self.layout.arrange(&items)?;
+        for (cell, (frame, place)) in cells.iter_mut().zip(frames.into_iter().zip(places)) {
+            (cell.frame, (cell.x, cell.y)) = (frame, place);
+        }
+        let image = Image { kind: self.drawing.kind, width, height, pixels: vec![], floats: vec![] };
+        Some(Sheet { size, pxrange: self.layout.range.at(size), cells, grid, image })
     }
 
     /// Draws the fields of a sheet's glyphs, with a call of `each` after each.
     pub fn draw(&self, sheet: &mut Sheet, each: impl Fn() + Sync) {
+        let drawing = Drawing { pxrange: sheet.pxrange, ..self.drawing };
         let Sheet { cells, image, .. } = sheet;
+        // outside all glyphs
+        let outside = if image.kind == Type::Msdf { [0.0, 0.0, 0.0, 1.0] } else { [0.0; 4] };
+        if drawing.floats {
+            let value = |value: [f64; 4]| value.map(|v| v as f32);
+            image.floats = image.put(cells, value(outside), each, |cell| {
+                drawing.values(&cell.colored, &cell.fill, &cell.frame).into_iter().map(value).collect()
+            });
+            let bytes = |value: &[f32; 4]| value.map(|v| byte(v.into()));
+            image.pixels = image.floats.par_iter().map(bytes).collect();
+        } else {
+            image.pixels =
+                image.put(cells, outside.map(byte), each, |cell| drawing.pixels(&cell.colored, &cell.fill, &cell.frame));
+        }
+    }
+}
+
+impl Image {
+    /// The pixels of glyphs, each at its place.
+    fn put<T: Copy + Send>(
+        &self,
+        cells: &[Cell],
+        outside: T,
+        each: impl Fn() + Sync,
+        draw: impl Fn(&Cell) -> Vec<T> + Sync,
+    ) -> Vec<T> {
         let draw = |cell: &Cell| {
-            let pixels = self.drawing.pixels(&cell.colored, &cell.fill, &cell.frame);
+            let pixels = draw(cell);
             each();
             pixels
         };
-        let fields: Vec<Vec<[u8; 4]>> = cells.par_iter().map(draw).collect();
-        // outside all glyphs
-        image.pixels = vec![if image.kind == Type::Msdf { [0, 0, 0, 255] } else { [0; 4] }; image.side * image.side];
+        let fields: Vec<Vec<T>> = cells.par_iter().map(draw).collect();
+        let mut pixels = vec![outside; self.width * self.height];
         for (cell, field) in cells.iter().zip(fields) {
-            for (row, pixels) in field.chunks(cell.frame.width.max(1)).enumerate() {
-                let start = (cell.y + row) * image.side + cell.x;
-                image.pixels[start..start + pixels.len()].copy_from_slice(pixels);
+            for (row, line) in field.chunks(cell.frame.width.max(1)).enumerate() {
+                let start = (cell.y + row) * self.width + cell.x;
+                pixels[start..start + line.len()].copy_from_slice(line);
             }
         }
+        pixels
     }
 }
 

@@ -11,7 +11,8 @@ mod distance {
     use super::EdgeSegment;
     include!(concat!(env!("OUT_DIR"), "/distance.rs"));
 
-    /// The distance of every pair of splines i < j, by i and then by j. Spline i is the segments from `starts[i]` to `starts[i + 1]`.
+    /// The distance of every pair of splines i < j, by i and then by j. Spline i is the segments from `starts[i]` to
+    /// `starts[i + 1]`.
     pub fn pairs(segments: &[EdgeSegment], starts: &[usize]) -> Vec<f64> {
         let mut distances = Vec::new();
         for i in 1..starts.len() {

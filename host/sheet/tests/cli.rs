@@ -3,48 +3,54 @@
 mod common;
 
 use merelsplum::job::{self, Job};
+use serde_json::Value;
 use sheet::picture::{INK, PAPER, inside};
 use sheet::source::{EdgeSegment, median, segment};
 use std::collections::BTreeSet;
 use std::fs::{self, File};
 use std::os::unix::fs::{FileTypeExt, PermissionsExt, symlink};
-use std::path::{Path, PathBuf};
+use std::path::Path;
 use std::process::{Command, Output, Stdio};
 use std::thread::sleep;
-use std::time::Duration;
+use std::time::{Duration, Instant};
+use tempfile::TempDir;
 use ttf_parser::Face;
 
 /// An empty folder of a test's own, taken away at its end.
-struct Folder(PathBuf);
+struct Folder(TempDir);
 
 impl Folder {
     fn new(name: &str) -> Folder {
-        let path = Path::new(env!("CARGO_TARGET_TMPDIR")).join(name);
-        let _ = fs::remove_dir_all(&path);
-        fs::create_dir_all(&path).unwrap();
-        Folder(path)
+        Folder(tempfile::Builder::new().prefix(name).tempdir_in(env!("CARGO_TARGET_TMPDIR")).unwrap())
+    }
+
+    fn path(&self) -> &Path {
+        self.0.path()
     }
 
     fn file(&self, name: &str) -> String {
-        self.0.join(name).to_str().unwrap().to_owned()
+        self.path().join(name).to_str().unwrap().to_owned()
     }
 
     fn names(&self) -> Vec<String> {
-        let entries = fs::read_dir(&self.0).unwrap();
-        let mut names: Vec<String> = entries.map(|entry| entry.unwrap().file_name().into_string().unwrap()).collect();
-        names.sort();
-        names
+        names(self.path())
+    }
+
+    fn json(&self, name: &str) -> Value {
+        serde_json::from_slice(&fs::read(self.file(name)).unwrap()).unwrap()
     }
 }
 
-impl Drop for Folder {
-    fn drop(&mut self) {
-        let _ = fs::remove_dir_all(&self.0);
-    }
+/// What is in a folder.
+fn names(folder: &Path) -> Vec<String> {
+    let entries = fs::read_dir(folder).unwrap();
+    let mut names: Vec<String> = entries.map(|entry| entry.unwrap().file_name().into_string().unwrap()).collect();
+    names.sort();
+    names
 }
 
 fn sheet(folder: &Folder, arguments: &[&str]) -> Output {
-    Command::new(env!("CARGO_BIN_EXE_sheet")).args(arguments).current_dir(&folder.0).output().unwrap()
+    Command::new(env!("CARGO_BIN_EXE_sheet")).args(arguments).current_dir(folder.path()).output().unwrap()
 }
 
 fn with_font(folder: &Folder, arguments: &[&str]) -> Output {
@@ -103,7 +109,9 @@ fn all_files() {
 
     let json = fs::read_to_string(folder.file("sheet.json")).unwrap();
     assert!(
-        json.starts_with("{\"atlas\":{\"type\":\"msdf\",\"distanceRange\":4,\"distanceRangeMiddle\":0,\"size\":32,\"width\":")
+        json.starts_with(
+            "{\"atlas\":{\"type\":\"msdf\",\"distanceRange\":4.0,\"distanceRangeMiddle\":0.0,\"size\":32.0,\"width\":"
+        )
     );
     assert_eq!(json.matches("\"unicode\":").count(), 26);
     assert_eq!(number(&json, "metrics", "lineHeight"), 1.1640625);
@@ -126,7 +134,7 @@ fn all_files() {
         assert_eq!(job::color(&file), job.color());
     }
     check_pictures(&folder, &json, side);
-    assert_eq!(Folder(folder.0.join("jobs")).names().len(), 26);
+    assert_eq!(names(&folder.path().join("jobs")).len(), 26);
     assert!(number(&json, "\"unicode1\":65,\"unicode2\":86,", "advance") < 0.0, "A and V go nearer");
     assert_eq!(json.matches("\"unicode1\":").count(), 66);
 }
@@ -292,7 +300,7 @@ fn above_the_limits() {
     assert!(words(&output).starts_with("3 glyphs, "), "{}", words(&output));
     assert!(words(&output).contains(" 0 left out, 1 coloured by docs/src, 0 not in the font, "), "{}", words(&output));
     assert!(fs::read_to_string(folder.file("sheet.json")).unwrap().contains("\"unicode\":9731,"));
-    assert_eq!(Folder(folder.0.join("jobs")).names(), ["U+0041.job", "U+0042.job"]);
+    assert_eq!(names(&folder.path().join("jobs")), ["U+0041.job", "U+0042.job"]);
 
     let output = with_font(&folder, &[arguments.as_slice(), &["--provedonly"]].concat());
     let expected = format!("sheet: U+2603: overfull: {excess}");
@@ -339,26 +347,66 @@ fn types() {
     assert!(msdf.iter().zip(&sdf).all(|(a, b)| inside(near(a)) == inside(b[0].into())));
 }
 
-/// The name of a file shows its format: rows from the bottom in both others, and blue before red in a bitmap.
+/// The name of a file shows its format: rows from the bottom in raw ones, and blue before red in a bitmap.
 #[test]
 fn formats() {
     let folder = Folder::new("formats");
     for name in ["sheet.png", "sheet.bmp", "sheet.bin"] {
-        let output = with_font(&folder, &["--chars", "A..D", "--imageout", name]);
+        let output = with_font(&folder, &["--chars", "A..D", "--square", "--imageout", name]);
         assert_eq!((output.status.code(), lines(&output)), (Some(0), vec![]), "{name}");
     }
     let (width, height, pixels) = picture::<3>(&folder.file("sheet.png"));
+    assert_ne!(width % 4, 0, "rows of a bitmap are filled");
     let rows: Vec<_> = pixels.chunks(width as usize).rev().collect();
     assert_eq!(fs::read(folder.file("sheet.bin")).unwrap(), rows.concat().concat());
     let bmp = fs::read(folder.file("sheet.bmp")).unwrap();
     let number = |at: usize| u32::from_le_bytes(bmp[at..at + 4].try_into().unwrap());
     assert_eq!((&bmp[..2], number(2) as usize, number(10), number(18), number(22)), (&b"BM"[..], bmp.len(), 54, width, height));
     assert_eq!((number(26), number(30)), (1 | 24 << 16, 0));
-    let expected: Vec<u8> = rows.concat().iter().flat_map(|&[r, g, b]| [b, g, r]).collect();
-    assert_eq!(bmp[54..], expected);
-    let output = with_font(&folder, &["--chars", "A..D", "--format", "bin", "--imageout", "-"]);
+    let filled = |row: &&[[u8; 3]]| {
+        let mut bytes: Vec<u8> = row.iter().flat_map(|&[r, g, b]| [b, g, r]).collect();
+        bytes.resize(bytes.len().next_multiple_of(4), 0);
+        bytes
+    };
+    assert_eq!(bmp[54..], rows.iter().map(filled).collect::<Vec<_>>().concat());
+    let output = with_font(&folder, &["--chars", "A..D", "--square", "--format", "bin", "--imageout", "-"]);
     assert_eq!(output.stdout, fs::read(folder.file("sheet.bin")).unwrap(), "standard output has nothing else");
     assert!(lines(&output)[0].starts_with("4 glyphs, "), "{:?}", lines(&output));
+}
+
+/// Numbers of 32 bits: not rounded, and without corrections the bytes' own values; the same in each format.
+#[test]
+fn numbers() {
+    let folder = Folder::new("numbers");
+    for (kind, channels) in [("sdf", 1), ("msdf", 3), ("mtsdf", 4)] {
+        for (name, format) in
+            [("sheet.bin", "bin"), ("sheet.tif", "tiff"), ("little", "binfloat"), ("big", "binfloatbe"), ("sheet.tiff", "tiff")]
+        {
+            let by_name = name.ends_with(format) || name == "sheet.tif";
+            let format = if by_name { vec![] } else { vec!["--format", format] };
+            let arguments = ["--type", kind, "--chars", "A..D", "--errorcorrection", "disabled", "--imageout", name];
+            let output = with_font(&folder, &[&format, arguments.as_slice()].concat());
+            assert_eq!((output.status.code(), lines(&output)), (Some(0), vec![]), "{kind}, {name}");
+        }
+        let read = |name: &str| fs::read(folder.file(name)).unwrap();
+        let floats = |name: &str, from: fn([u8; 4]) -> f32| {
+            read(name).chunks_exact(4).map(|bytes| from(bytes.try_into().unwrap())).collect::<Vec<f32>>()
+        };
+        let little = floats("little", f32::from_le_bytes);
+        assert_eq!(little, floats("big", f32::from_be_bytes), "{kind}");
+        let rounded = |value: f32| (255.0 * value.clamp(0.0, 1.0)).round();
+        assert!(little.iter().map(|&value| rounded(value) as u8).eq(read("sheet.bin")), "{kind}");
+        let between = little.iter().filter(|&&value| (rounded(value) - 255.0 * value).abs() > 0.01).count();
+        assert!(between > little.len() / 20, "{kind}: {between} of {}", little.len());
+        for name in ["sheet.tif", "sheet.tiff"] {
+            let mut decoder = tiff::decoder::Decoder::new(File::open(folder.file(name)).unwrap()).unwrap();
+            let (width, height) = decoder.dimensions().unwrap();
+            let tiff::decoder::DecodingResult::F32(values) = decoder.read_image().unwrap() else { panic!("{name}: no floats") };
+            assert_eq!(values.len(), (width * height) as usize * channels);
+            let rows: Vec<&[f32]> = values.chunks(width as usize * channels).rev().collect();
+            assert_eq!(rows.concat(), little, "{kind}, {name}");
+        }
+    }
 }
 
 /// One dash or two, characters from a file, a range in ems: all the same sheet.
@@ -377,8 +425,267 @@ fn other_ways_to_say_it() {
     }
     let read = |name: &str| fs::read(folder.file(name)).unwrap();
     assert!(read("a.png") == read("b.png") && read("a.png") == read("c.png"));
-    let output = sheet(&folder, &["-font", &font, "-uniformgrid", "-imageout", "d.png"]);
-    assert!(lines(&output)[0].ends_with("use --json, which has the places of the glyphs"), "{:?}", lines(&output));
+}
+
+fn dejavu_serif() -> String {
+    common::dejavu_sans().replace("DejaVuSans.ttf", "DejaVuSerif.ttf")
+}
+
+/// A glyph of a sheet's JSON by its character, in its only font or in one of several.
+fn glyph(json: &Value, font: Option<usize>, character: char) -> &Value {
+    let part = font.map_or(json, |font| &json["variants"][font]);
+    let mut glyphs = part["glyphs"].as_array().unwrap().iter();
+    glyphs.find(|glyph| glyph["unicode"] == u32::from(character)).unwrap_or_else(|| panic!("no {character}"))
+}
+
+/// The sides of a glyph's box: its left, bottom, right and top.
+fn sides(glyph: &Value, bounds: &str) -> [f64; 4] {
+    ["left", "bottom", "right", "top"].map(|side| glyph[bounds][side].as_f64().unwrap())
+}
+
+/// The pixels of a glyph's box in a sheet.
+fn cut_out(path: &str, glyph: &Value) -> Vec<[u8; 3]> {
+    let (width, height, pixels) = picture::<3>(path);
+    let [left, bottom, right, top] = sides(glyph, "atlasBounds").map(|side| side as usize);
+    let rows = height as usize - 1 - top..height as usize - bottom;
+    rows.flat_map(|row| pixels[row * width as usize..][left..=right].to_vec()).collect()
+}
+
+/// Two fonts in one sheet: each glyph's field is that of its font alone, and options of the sheet may stand anywhere.
+#[test]
+fn several_fonts() {
+    let folder = Folder::new("several_fonts");
+    let (sans, serif) = (common::dejavu_sans(), dejavu_serif());
+    let first = ["-font", &sans, "-chars", "A..C, 0x4", "-size", "24", "-json", "both.json"];
+    let second = ["-and", "--font", &serif, "-fontname", "A \"name\"", "--chars=B..E, 0x5, 0x6"];
+    let outputs = ["-pxrange", "4", "-imageout", "both.png", "-csv", "both.csv", "-jobs", "jobs"];
+    let output = sheet(&folder, &[first.as_slice(), &second, &outputs].concat());
+    let expected = [format!("sheet: not in {sans}: U+0004"), format!("sheet: not in {serif}: U+0005 U+0006")];
+    assert_eq!((output.status.code(), lines(&output)), (Some(0), expected.to_vec()));
+    assert!(words(&output).starts_with("7 glyphs, ") && words(&output).contains(" 3 not in the font, "), "{}", words(&output));
+    let both = folder.json("both.json");
+    let keys: Vec<&str> = both.as_object().unwrap().keys().map(String::as_str).collect();
+    assert_eq!((keys, both["variants"].as_array().unwrap().len()), (vec!["atlas", "variants"], 2));
+    assert_eq!((both["variants"][0].get("name"), &both["variants"][1]["name"]), (None, &Value::from("A \"name\"")));
+    for (i, font, letters) in [(0, &sans, 'A'..='C'), (1, &serif, 'B'..='E')] {
+        let alone = sheet(
+            &folder,
+            &["--font", font, "--chars", "A..E", "--size", "24", "--pxrange", "4", "--imageout", "one.png", "--json", "one.json"],
+        );
+        assert_eq!((alone.status.code(), lines(&alone)), (Some(0), vec![]));
+        let one = folder.json("one.json");
+        assert_eq!(both["variants"][i]["metrics"], one["metrics"]);
+        assert_eq!(both["variants"][i]["glyphs"].as_array().unwrap().len(), letters.clone().count());
+        for letter in letters {
+            let (among, alone) = (glyph(&both, Some(i), letter), glyph(&one, None, letter));
+            assert_eq!((&among["advance"], &among["planeBounds"]), (&alone["advance"], &alone["planeBounds"]));
+            assert_eq!(cut_out(&folder.file("both.png"), among), cut_out(&folder.file("one.png"), alone), "{i}, {letter}");
+        }
+    }
+    let table = fs::read_to_string(folder.file("both.csv")).unwrap();
+    let heads: Vec<String> = table.lines().map(|line| line.split(',').take(2).collect::<Vec<_>>().join(",")).collect();
+    assert_eq!(heads, ["0,65", "0,66", "0,67", "1,66", "1,67", "1,68", "1,69"]);
+    assert_eq!(names(&folder.path().join("jobs"))[2..4], ["0-U+0043.job", "1-U+0042.job"]);
+    let missing = sheet(&folder, &["-font", &sans, "-and", "-chars", "A", "-json", "c.json"]);
+    assert_eq!((missing.status.code(), lines(&missing).len()), (Some(2), 1));
+    assert!(lines(&missing)[0].contains("--font"), "{:?}", lines(&missing));
+}
+
+/// A sheet has the shape that is asked for, and glyphs are as large as it lets them.
+#[test]
+fn shapes_of_the_sheet() {
+    let folder = Folder::new("shapes_of_the_sheet");
+    let atlas = |options: &[&str]| {
+        let output = with_font(&folder, &[options, &["--chars", "A..Z", "--json", "a.json", "--imageout", "a.png"]].concat());
+        assert_eq!((output.status.code(), lines(&output)), (Some(0), vec![]), "{options:?}");
+        let json = folder.json("a.json");
+        let [width, height] = ["width", "height"].map(|key| json["atlas"][key].as_u64().unwrap());
+        let (across, down, _) = picture::<3>(&folder.file("a.png"));
+        assert_eq!((u64::from(across), u64::from(down)), (width, height), "{options:?}");
+        for letter in 'A'..='Z' {
+            let [left, bottom, right, top] = sides(glyph(&json, None, letter), "atlasBounds");
+            assert!(left >= 0.5 && bottom >= 0.5 && right <= width as f64 - 0.5 && top <= height as f64 - 0.5, "{options:?}");
+        }
+        (width, height, json["atlas"]["size"].as_f64().unwrap())
+    };
+    let (side, other, size) = atlas(&[]);
+    assert_eq!((side % 4, other, size), (0, side, 32.0));
+    let exact = atlas(&["--square"]).0;
+    assert!(exact <= side && exact + 4 > side, "{exact} and {side}");
+    assert_eq!(atlas(&["--square2"]), (exact.next_multiple_of(2), exact.next_multiple_of(2), 32.0));
+    assert_eq!(atlas(&["--pots"]), (256, 256, 32.0));
+    assert_eq!(atlas(&["--potr"]), (256, 128, 32.0));
+    assert_eq!(atlas(&["--dimensions", "400", "300", "--size", "20"]), (400, 300, 20.0));
+    let (width, height, size) = atlas(&["--dimensions", "400", "300"]);
+    assert!((width, height) == (400, 300) && size > 45.0 && size < 110.0, "{size}");
+    let (width, height, size) = atlas(&["--pots", "--minsize", "32"]);
+    assert!((width, height) == (256, 256) && size > 32.0 && size < 64.0, "{size}");
+    let output = with_font(&folder, &["--dimensions", "100", "100", "--size", "32", "--json", "a.json"]);
+    assert_eq!(
+        (output.status.code(), lines(&output)),
+        (Some(2), vec!["sheet: the glyphs do not fit into 100 by 100 pixels".to_owned()])
+    );
+}
+
+/// In a grid all boxes are of one size, in order, with the baseline at one height.
+#[test]
+fn a_uniform_grid() {
+    let folder = Folder::new("a_uniform_grid");
+    let atlas = |options: &[&str]| {
+        let arguments = ["--chars", "' ' A..Z", "--json", "a.json", "--imageout", "a.png"];
+        let output = with_font(&folder, &[options, &arguments].concat());
+        assert_eq!((output.status.code(), lines(&output)), (Some(0), vec![]), "{options:?}");
+        folder.json("a.json")
+    };
+    let json = atlas(&["--uniformgrid"]);
+    let grid = |key: &str| json["atlas"]["grid"][key].as_f64().unwrap();
+    let [width, height] = ["width", "height"].map(|key| json["atlas"][key].as_f64().unwrap());
+    assert_eq!((width, height), (grid("columns") * grid("cellWidth"), grid("rows") * grid("cellHeight")));
+    assert!(json["atlas"]["grid"].get("originX").is_none());
+    for (i, letter) in ('A'..='Z').enumerate() {
+        let [left, bottom, right, top] = sides(glyph(&json, None, letter), "atlasBounds");
+        assert_eq!((right - left + 1.0, top - bottom + 1.0), (grid("cellWidth"), grid("cellHeight")));
+        let (column, row) = (i % grid("columns") as usize, i / grid("columns") as usize);
+        assert_eq!((left - 0.5, height - top - 0.5), (column as f64 * grid("cellWidth"), row as f64 * grid("cellHeight")));
+        let plane = sides(glyph(&json, None, letter), "planeBounds");
+        assert!((plane[1] + grid("originY")).abs() < 1e-9, "{letter}");
+    }
+    // a letter is drawn as it is elsewhere: with the same baseline, its pixels in rows are the same
+    let sharp =
+        |json: &Value| cut_out(&folder.file("a.png"), glyph(json, None, 'H')).concat().into_iter().filter(|&v| v > 200).count();
+    assert!(sharp(&json) > 50);
+    let cells = |options: &[&str]| {
+        let json = atlas(options);
+        ["columns", "rows", "cellWidth", "cellHeight"].map(|key| json["atlas"]["grid"][key].as_u64().unwrap())
+    };
+    assert_eq!(cells(&["--uniformcols", "5"])[..2], [5, 6]);
+    assert_eq!(cells(&["--uniformcellconstraint", "pots"])[2..], [64, 64]);
+    assert_eq!(cells(&["--uniformcell", "50", "60"])[2..], [50, 60]);
+    assert!(atlas(&["--uniformcell", "50", "60"])["atlas"]["size"].as_f64().unwrap() > 33.0);
+    let on = atlas(&["--uniformorigin", "on"]);
+    let lefts: BTreeSet<String> = ('A'..='Z').map(|c| glyph(&on, None, c)["planeBounds"]["left"].to_string()).collect();
+    assert!(lefts.len() == 1 && on["atlas"]["grid"]["originX"].is_f64(), "{lefts:?}");
+    let output = with_font(&folder, &["--uniformcell", "9", "9", "--size", "32", "--json", "b.json"]);
+    assert!(output.status.code() == Some(2) && lines(&output)[0].contains("cells of 9 by 9"), "{:?}", lines(&output));
+}
+
+/// Padding widens a glyph's box; outer padding keeps boxes apart and is in none.
+#[test]
+fn paddings() {
+    let folder = Folder::new("paddings");
+    let a = |options: &[&str]| {
+        let output = with_font(&folder, &[options, &["--chars", "A..C", "--json", "a.json", "--imageout", "a.png"]].concat());
+        assert_eq!((output.status.code(), lines(&output)), (Some(0), vec![]), "{options:?}");
+        let json = folder.json("a.json");
+        let letter = glyph(&json, None, 'A');
+        let shown = cut_out(&folder.file("a.png"), letter);
+        (
+            sides(letter, "planeBounds").map(|side| (32.0 * side * 1e6).round() / 1e6),
+            json["atlas"]["width"].as_u64().unwrap(),
+            shown,
+        )
+    };
+    let (plain, side, pixels) = a(&[]);
+    let wider = [plain[0] - 8.0, plain[1] - 8.0, plain[2] + 8.0, plain[3] + 8.0];
+    assert_eq!(a(&["--pxpadding", "8"]).0, wider);
+    assert_eq!(a(&["--empadding", "0.25"]).0, wider);
+    assert_eq!(a(&["--pxpadding", "4", "--empadding", "0.125"]).0, wider);
+    for outer in [["--outerpxpadding", "8"], ["--outerempadding", "0.25"]] {
+        let (bounds, wide, shown) = a(&outer);
+        assert_eq!((bounds, &shown), (plain, &pixels), "{outer:?}");
+        assert!(wide > side + 16, "{outer:?}");
+    }
+    // the left side of the box is then between pixels
+    let aligned = a(&["--pxalign", "on"]).0;
+    assert!((aligned[0] + 0.5).fract().abs() < 1e-6 && (plain[0] + 0.5).fract().abs() > 1e-3, "{aligned:?}, {plain:?}");
+}
+
+/// A field takes long at this size; where only words are wanted none is drawn.
+#[test]
+fn no_field_where_none_is_wanted() {
+    let folder = Folder::new("no_field_where_none_is_wanted");
+    let time = |options: &[&str]| {
+        let start = Instant::now();
+        let output = with_font(&folder, &[options, &["--chars", "A..Z", "--size", "300", "--threads", "1"]].concat());
+        assert_eq!((output.status.code(), lines(&output)), (Some(0), vec![]));
+        start.elapsed()
+    };
+    let drawn = time(&["--imageout", "sheet.bin"]);
+    for options in [["--json", "a.json"], ["--csv", "a.csv"], ["--jobs", "jobs"]] {
+        let undrawn = time(&options);
+        assert!(4 * undrawn < drawn, "{options:?}: {undrawn:?} and {drawn:?}");
+    }
+}
+
+/// On a terminal a bar is there from the start.
+#[test]
+fn progress() {
+    let folder = Folder::new("progress");
+    let call = format!("{} --font {} --json a.json", env!("CARGO_BIN_EXE_sheet"), common::dejavu_sans());
+    let mut command = Command::new("script");
+    let output = command.args(["-q", "-e", "-c", &call, "log"]).current_dir(folder.path()).stdin(Stdio::null()).output().unwrap();
+    let text = String::from_utf8_lossy(&output.stdout).into_owned();
+    assert_eq!(output.status.code(), Some(0), "{text}");
+    assert!(text.contains("0/95") && text.contains("95 glyphs, "), "{text}");
+}
+
+/// Options of msdf-atlas-gen that are not there are refused with what is; each of those is an option.
+#[test]
+fn options_that_are_not_there() {
+    let folder = Folder::new("options_that_are_not_there");
+    let help = words(&sheet(&folder, &["--help"]));
+    let known = ["varfont", "fontscale", "glyphset", "glyphs", "apxrange", "aemrange", "apxpadding", "aempadding"];
+    let others = ["aouterpxpadding", "aouterempadding", "miterlimit", "kerning", "nokerning", "preprocess", "nopreprocess"];
+    for name in known.iter().chain(&others).chain(&["arfont", "shadronpreview", "edgecolors"]) {
+        let output = with_font(&folder, &[&format!("-{name}"), "--json", "a.json"]);
+        assert_eq!((output.status.code(), lines(&output).len()), (Some(2), 1), "{name}");
+        let line = &lines(&output)[0];
+        let there = line.split("not there; use ").nth(1).unwrap_or_else(|| panic!("{line}"));
+        for option in there.split([' ', ',']).filter(|word| word.starts_with("--")) {
+            assert!(help.contains(&format!("{option} ")) || help.contains(&format!("{option}\n")), "{line}");
+        }
+    }
+    assert_eq!(folder.names(), [""; 0]);
+}
+
+/// There may be more job files than a program may have open.
+#[test]
+fn more_jobs_than_open_files() {
+    let folder = Folder::new("more_jobs_than_open_files");
+    let call = r#"ulimit -n 64; exec "$0" --font "$1" --chars '[0x20, 0x17F]' --jobs jobs"#;
+    let mut command = Command::new("sh");
+    let arguments = ["-c", call, env!("CARGO_BIN_EXE_sheet"), &common::dejavu_sans()];
+    let output = command.args(arguments).current_dir(folder.path()).output().unwrap();
+    assert_eq!(output.status.code(), Some(0), "{:?}", lines(&output));
+    assert!(names(&folder.path().join("jobs")).len() > 300);
+}
+
+/// Two fonts in one file.
+#[test]
+fn faces_of_a_collection() {
+    let folder = Folder::new("faces_of_a_collection");
+    let mut file = b"ttcf\0\x01\0\0\0\0\0\x02\0\0\0\0\0\0\0\0".to_vec();
+    for (i, path) in [common::dejavu_sans(), dejavu_serif()].into_iter().enumerate() {
+        let (start, mut font) = (file.len() as u32, fs::read(path).unwrap());
+        file[12 + 4 * i..][..4].copy_from_slice(&start.to_be_bytes());
+        let tables = usize::from(u16::from_be_bytes([font[4], font[5]]));
+        for at in (0..tables).map(|table| 12 + 16 * table + 8) {
+            let offset = u32::from_be_bytes(font[at..at + 4].try_into().unwrap()) + start;
+            font[at..at + 4].copy_from_slice(&offset.to_be_bytes());
+        }
+        file.extend(font);
+    }
+    fs::write(folder.file("both.ttc"), file).unwrap();
+    let read = |arguments: &[&str]| {
+        let output = sheet(&folder, &[arguments, &["--chars", "A..C", "--json", "-"]].concat());
+        assert_eq!(output.status.code(), Some(0), "{:?}", lines(&output));
+        words(&output)
+    };
+    let (sans, serif) = (read(&["--font", &common::dejavu_sans()]), read(&["--font", &dejavu_serif()]));
+    assert_ne!(sans, serif);
+    assert_eq!((read(&["--font", "both.ttc"]), read(&["--font", "both.ttc", "--face", "1"])), (sans, serif));
+    let output = sheet(&folder, &["--font", "both.ttc", "--face", "2", "--json", "a.json"]);
+    assert_eq!(lines(&output), ["sheet: both.ttc: no face 2: there are 2, counted from 0"]);
 }
 
 /// From the top, heights are turned round; the table has the numbers of the JSON.
@@ -456,11 +763,11 @@ fn a_killed_run_leaves_no_files() {
     let folder = Folder::new("a_killed_run_leaves_no_files");
     let mut command = Command::new(env!("CARGO_BIN_EXE_sheet"));
     command.args(["--font", &common::dejavu_sans(), "--chars", "A..Z", "--size", "200", "--testrender", "back.png"]);
-    let mut running = command.current_dir(&folder.0).stdout(Stdio::null()).spawn().unwrap();
+    let mut running = command.current_dir(folder.path()).stdout(Stdio::null()).spawn().unwrap();
     let open = format!("/proc/{}/fd", running.id());
     let writes = || {
         let files = fs::read_dir(&open).into_iter().flatten().flatten();
-        files.filter_map(|file| fs::read_link(file.path()).ok()).any(|file| file.starts_with(&folder.0))
+        files.filter_map(|file| fs::read_link(file.path()).ok()).any(|file| file.starts_with(folder.path()))
     };
     while !writes() {
         assert!(running.try_wait().unwrap().is_none(), "it ended before it was seen to write");
@@ -492,8 +799,7 @@ fn a_damaged_glyph() {
 #[test]
 fn glyphs_by_place() {
     let folder = Folder::new("glyphs_by_place");
-    let serif = common::dejavu_sans().replace("DejaVuSans.ttf", "DejaVuSerif.ttf");
-    let output = sheet(&folder, &["--font", &serif, "--allglyphs", "--size", "4", "--json", "sheet.json"]);
+    let output = sheet(&folder, &["--font", &dejavu_serif(), "--allglyphs", "--size", "4", "--json", "sheet.json"]);
     assert!(matches!(output.status.code(), Some(0 | 1)), "{:?}", lines(&output));
     let json = fs::read_to_string(folder.file("sheet.json")).unwrap();
     assert_eq!(number(&json, "glyphs", "index"), 0.0);
@@ -511,7 +817,8 @@ fn help() {
     {
         assert!(text.contains(&format!("--{option}")), "{option}");
     }
-    for option in ["errorcorrection", "errordeviationratio", "errorimproveratio", "nooverlap", "noscanline"] {
+    for option in ["errorcorrection", "errordeviationratio", "errorimproveratio", "nooverlap", "noscanline", "dimensions", "and"]
+    {
         assert!(text.contains(&format!("--{option}")), "{option}");
     }
 }
@@ -572,6 +879,21 @@ fn bad_input() {
         &["--font", &font, "--emrange", "0"],
         &["--font", &font, "--emrange", "0.01"],
         &["--font", &font, "--yorigin", "left"],
+        &["--font", &font, "--pots", "--square"],
+        &["--font", &font, "--dimensions", "100"],
+        &["--font", &font, "--dimensions", "100", "0"],
+        &["--font", &font, "--dimensions", "100", "8193"],
+        &["--font", &font, "--size", "32", "--minsize", "16"],
+        &["--font", &font, "--pxpadding", "-1"],
+        &["--font", &font, "--pxalign", "left"],
+        &["--font", &font, "--uniformcols", "0"],
+        &["--font", &font, "--uniformcell", "20"],
+        &["--font", &font, "--uniformcellconstraint", "round"],
+        &["--font", &font, "--uniformorigin", "left"],
+        &["--font", &font, "--and"],
+        &["--font", &font, "--and", "--font", "missing.ttf"],
+        &["--font", &font, "--and", "--font", &font, "--chars", "Z..A"],
+        &["--font", "copy.ttf", "--and", "--font", &font, "--json", "copy.ttf"],
         &["--font", &font, "--testrender", "back.bmp"],
         &["--font", &font, "--json", "-", "--csv", "-"],
         &["--font", &font, "--colour", "red"],
@@ -595,7 +917,7 @@ fn bad_input() {
         assert_eq!(folder.names(), before, "{case:?}");
     }
     let unknown = sheet(&folder, &["--font", &font, "--imageout", "sheet.jpg"]);
-    assert_eq!(lines(&unknown), ["sheet: sheet.jpg: the formats are png, bmp and bin"]);
+    assert_eq!(lines(&unknown), ["sheet: sheet.jpg: the formats are png, bmp, tiff, bin, binfloat and binfloatbe"]);
     assert_eq!(folder.names(), before);
     let nothing = sheet(&folder, &["--font", &font]);
     assert_eq!((nothing.status.code(), lines(&nothing).len()), (Some(2), 1));
@@ -605,7 +927,7 @@ fn bad_input() {
 #[test]
 fn what_is_left_alone() {
     let folder = Folder::new("what_is_left_alone");
-    let path = |name: &str| folder.0.join(name);
+    let path = |name: &str| folder.path().join(name);
     fs::write(path("read_only"), "old").unwrap();
     fs::set_permissions(path("read_only"), fs::Permissions::from_mode(0o444)).unwrap();
     assert!(Command::new("mkfifo").arg(path("fifo")).status().unwrap().success());
@@ -627,7 +949,7 @@ fn what_is_left_alone() {
 #[test]
 fn what_is_replaced() {
     let folder = Folder::new("what_is_replaced");
-    let path = |name: &str| folder.0.join(name);
+    let path = |name: &str| folder.path().join(name);
     fs::write(path("old"), "old").unwrap();
     fs::write(path("target"), "old").unwrap();
     symlink("target", path("link")).unwrap();
@@ -635,7 +957,7 @@ fn what_is_replaced() {
     let output = with_font(&folder, &arguments);
     assert_eq!((output.status.code(), lines(&output)), (Some(0), vec![]));
     assert_eq!(folder.names(), ["jobs", "link", "old", "target"]);
-    assert_eq!(Folder(path("jobs")).names(), ["U+0041.job", "sheet.json"]);
+    assert_eq!(names(&path("jobs")), ["U+0041.job", "sheet.json"]);
     assert!(path("link").is_symlink());
     assert_eq!(picture::<1>(&folder.file("target")).0, 8 * picture::<3>(&folder.file("old")).0);
 }
@@ -653,7 +975,7 @@ fn no_room_for_words() {
         (&["--help"], 0),
     ] {
         let mut command = Command::new(env!("CARGO_BIN_EXE_sheet"));
-        let output = command.args(arguments).current_dir(&folder.0).stdout(full()).stderr(full()).output().unwrap();
+        let output = command.args(arguments).current_dir(folder.path()).stdout(full()).stderr(full()).output().unwrap();
         assert_eq!(output.status.code(), Some(status), "{arguments:?}");
     }
 }

@@ -18,11 +18,8 @@ const PXRANGE: f64 = 4.0;
 
 /// By how much of its area a glyph that is drawn back differs from its outline.
 fn error(colored: &Colored, fill: &Fill, frame: &Frame) -> f64 {
-    let side = frame.width.max(frame.height);
-    let mut image = Image { kind: Type::Msdf, side, pixels: vec![[0; 4]; side * side] };
-    for (row, line) in Drawing::new(PXRANGE).pixels(colored, fill, frame).chunks(frame.width).enumerate() {
-        image.pixels[row * side..][..frame.width].copy_from_slice(line);
-    }
+    let pixels = Drawing::new(PXRANGE).pixels(colored, fill, frame);
+    let image = Image { kind: Type::Msdf, width: frame.width, height: frame.height, pixels, floats: vec![] };
     let edges: Vec<_> = colored.contours.iter().flatten().map(|(edge, _)| source::segment(edge)).collect();
     let zoom = ZOOM as f64;
     let (mut wrong, mut area) = (0.0, 0.0);

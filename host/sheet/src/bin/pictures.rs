@@ -1,5 +1,5 @@
-//! Draws the pictures of docs/pictures: `pictures FONT FOLDER`. One letter's outline coloured by each strategy; and the same letter drawn
-//! back from a small field with the right colouring beside one whose edges are all White.
+//! Draws the pictures of docs/pictures: `pictures FONT FOLDER`. One letter's outline coloured by each strategy; and the
+//! same letter drawn back from a small field with the right colouring beside one whose edges are all White.
 
 use merelsplum::job::Strategy;
 use merelsplum::{Colored, EdgeColor};
@@ -76,14 +76,15 @@ fn corners(font: &Font) -> Result<Canvas, String> {
     let panels = [(right.clone(), "coloured", "drawn back"), (white(right), "all White", "drawn back")];
     for (i, (colored, field, back)) in panels.into_iter().enumerate() {
         let (frame, zoom) = fitted(font, &glyph, SIZE, PXRANGE);
-        let image = square(&Drawing::new(PXRANGE).pixels(&colored, &glyph.fill, &frame), &frame);
+        let pixels = Drawing::new(PXRANGE).pixels(&colored, &glyph.fill, &frame);
+        let image = Image { kind: Type::Msdf, width: frame.width, height: frame.height, pixels, floats: vec![] };
         for (panel, name, drawn_back) in [(2 * i, field, false), (2 * i + 1, back, true)] {
             let left = panel * PANEL + (PANEL - (zoom * frame.width as f64) as usize) / 2;
             for (x, y) in (0..PANEL).flat_map(|y| (0..PANEL).map(move |x| (x, y))) {
                 let (across, down) = ((x as f64 + 0.5) / zoom, (y as f64 + 0.5) / zoom);
                 if across < frame.width as f64 && down < frame.height as f64 {
                     let inside = image.coverage(across, down, PXRANGE, zoom);
-                    let [r, g, b, _] = image.pixels[down as usize * image.side + across as usize];
+                    let [r, g, b, _] = image.pixels[down as usize * image.width + across as usize];
                     let row = y + MARGIN as usize;
                     picture.pixels[row * 4 * PANEL + left + x] =
                         if drawn_back { mix([255; 3], [0; 3], inside) } else { [r, g, b] };
@@ -99,16 +100,6 @@ fn corners(font: &Font) -> Result<Canvas, String> {
 fn fitted(font: &Font, glyph: &Glyph, size: f64, pxrange: f64) -> (Frame, f64) {
     let frame = Frame::new(&glyph.shape, size / font.units_per_em(), pxrange);
     (frame, (PANEL as f64 - 2.0 * MARGIN) / frame.width.max(frame.height) as f64)
-}
-
-/// A field as the top left of a square picture.
-fn square(pixels: &[[u8; 4]], frame: &Frame) -> Image {
-    let side = frame.width.max(frame.height);
-    let mut image = Image { kind: Type::Msdf, side, pixels: vec![[0; 4]; side * side] };
-    for (row, line) in pixels.chunks(frame.width).enumerate() {
-        image.pixels[row * side..][..frame.width].copy_from_slice(line);
-    }
-    image
 }
 
 /// Writes a word below a panel, drawn from its glyphs' fields.
