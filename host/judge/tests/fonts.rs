@@ -7,6 +7,8 @@ use sheet::font::{Font, Name};
 use sheet::json::{YOrigin, describe};
 use sheet::layout::Layout;
 use sheet::sheet::Settings;
+use std::fs;
+use std::path::{Path, PathBuf};
 use std::process::Command;
 
 const PXRANGE: f64 = 4.0;
@@ -16,7 +18,7 @@ fn file(package: &str, end: &str) -> Vec<u8> {
     let list = Command::new("dpkg").args(["-L", package]).output().expect("dpkg").stdout;
     let list = String::from_utf8(list).unwrap();
     let path = list.lines().find(|path| path.ends_with(end)).unwrap_or_else(|| panic!("host/setup installs {package}"));
-    std::fs::read(path).unwrap()
+    fs::read(path).unwrap()
 }
 
 /// A sheet as it is preset.
@@ -62,6 +64,10 @@ fn european(font: &Font) -> Vec<Name> {
     (' '..='\u{24F}').map(Name::Character).filter(|&name| font.has(name)).collect()
 }
 
+fn ascii(_: &Font) -> Vec<Name> {
+    (' '..='~').map(Name::Character).collect()
+}
+
 #[test]
 fn dejavu_sans() {
     check(&file("fonts-dejavu-core", "/DejaVuSans.ttf"), all, &[(32.0, 1.5)]);
@@ -77,18 +83,60 @@ fn liberation() {
 
 #[test]
 fn cubic_outlines() {
-    check(&file("fonts-freefont-otf", "/FreeSerif.otf"), european, &[(24.0, 0.5), (32.0, 0.5), (48.0, 0.25)]);
+    let file = file("fonts-freefont-otf", "/FreeSerif.otf");
+    check(&file, european, &[(24.0, 0.5), (32.0, 0.5), (48.0, 0.25)]);
+    check(&file, ascii, &[(32.0, 0.2)]);
+}
+
+#[test]
+fn noto() {
+    for end in ["/NotoSans-Regular.ttf", "/NotoSerif-Regular.ttf"] {
+        check(&file("fonts-noto-core", end), european, &[(24.0, 0.5), (32.0, 0.5), (48.0, 0.25)]);
+    }
+}
+
+/// As rustdoc puts it beside its pages.
+#[test]
+fn source_code_pro() {
+    let folder = Path::new(env!("CARGO_TARGET_TMPDIR")).join("source_code_pro");
+    fs::create_dir_all(&folder).unwrap();
+    fs::write(folder.join("empty.rs"), "").unwrap();
+    let run = |program: &str, arguments: &[&str]| {
+        let status = Command::new(program).args(arguments).current_dir(&folder).status();
+        assert!(status.unwrap_or_else(|error| panic!("{program}: {error}")).success(), "{program} {arguments:?}");
+    };
+    run("rustdoc", &["empty.rs", "--crate-name", "empty", "--output", "."]);
+    let names = fs::read_dir(folder.join("static.files")).unwrap().map(|entry| entry.unwrap().path());
+    let is_regular =
+        |path: &PathBuf| path.to_str().is_some_and(|path| path.contains("/SourceCodePro-Regular") && path.ends_with("woff2"));
+    fs::copy(names.into_iter().find(is_regular).expect("rustdoc has it"), folder.join("regular.woff2")).unwrap();
+    run("woff2_decompress", &["regular.woff2"]);
+    check(&fs::read(folder.join("regular.ttf")).unwrap(), all, &[(24.0, 0.5), (32.0, 0.5), (48.0, 0.25)]);
 }
 
 #[test]
 fn a_variable_font() {
     check(&file("fonts-inter-variable", "/Inter.var.ttf"), european, &[(24.0, 0.5), (32.0, 0.25), (48.0, 0.25)]);
+    check(&file("fonts-inter-variable", "/Inter.var.ttf"), ascii, &[(32.0, 0.03)]);
 }
 
 #[test]
 fn icons() {
     check(&file("fonts-font-awesome", "/FontAwesome.otf"), all, &[(24.0, 1.25), (32.0, 1.0), (48.0, 1.0)]);
-    check(&file("fonts-materialdesignicons-webfont", "/materialdesignicons-webfont.ttf"), all, &[(32.0, 1.0)]);
+    let file = file("fonts-materialdesignicons-webfont", "/materialdesignicons-webfont.ttf");
+    check(&file, all, &[(24.0, 1.0), (32.0, 1.0), (48.0, 0.25)]);
+}
+
+#[test]
+fn symbols() {
+    check(&file("fonts-opensymbol", "/opens___.ttf"), all, &[(32.0, 1.5)]);
+}
+
+/// The first 512 characters of Chinese.
+#[test]
+fn chinese() {
+    let names = |_: &Font| ('\u{4E00}'..='\u{4FFF}').map(Name::Character).collect();
+    check(&file("fonts-noto-cjk", "/NotoSerifCJK-Regular.ttc"), names, &[(32.0, 1.5)]);
 }
 
 /// What is wrong is found: a hole of a pixel in a stem, a speck beside it, and a glyph inside out.
