@@ -1,4 +1,5 @@
-/* Colours the unit square and prints a line for each edge: contour, place in it, kind and colour, as docs/FORMAT.md has it. */
+/* Colours the unit square and prints a line for each edge: contour, place in it, kind and colour, as docs/FORMAT.md has
+ * it. */
 #include <stdio.h>
 
 #include "merelsplum.h"

@@ -1,5 +1,6 @@
-/* How much stack each function uses. A thread's stack is painted; below the caller's frame, what a call has overwritten is its use. The
- * inputs take every way through the library that needs much: 32 drops of two edges, split in thirds, with 64 splines and 2016 distances. */
+/* How much stack each function uses. A thread's stack is painted; below the caller's frame, what a call has overwritten
+ * is its use. The inputs take every way through the library that needs much: 32 drops of two edges, split in thirds,
+ * with 64 splines and 2016 distances. */
 #define _GNU_SOURCE
 #include <pthread.h>
 #include <stdio.h>

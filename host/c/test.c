@@ -1,4 +1,5 @@
-/* What merelsplum.h says, tried: NULL buffers, the helpers, the floating-point state, the job file's entries. Silent where all is well. */
+/* What merelsplum.h says, tried: NULL buffers, the helpers, the floating-point state, the job file's entries. Silent
+ * where all is well. */
 #include <stdio.h>
 #include <string.h>
 #include <xmmintrin.h>
@@ -90,7 +91,8 @@ static void offers(void) {
     CHECK(merelsplum_offer_refusal(answer) == MERELSPLUM_LENGTH_MISMATCH);
 }
 
-/* A square with sides 2^-520, whose squared sides are subnormal, loses its corners with flush to zero or denormals-are-zero on. */
+/* A square with sides 2^-520, whose squared sides are subnormal, loses its corners with flush to zero or
+ * denormals-are-zero on. */
 static void floating_point_state(void) {
     static const unsigned flags[] = {0x8000, 0x40};
     struct result out = {0};

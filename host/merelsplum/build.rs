@@ -1,4 +1,5 @@
-//! Links the proved library, `libcapi.a`: from the folder `MERELSPLUM_LIB_DIR`, or from where `rt staticlib capi` writes it.
+//! Links the proved library, `libcapi.a`: from the folder `MERELSPLUM_LIB_DIR`, or from where `rt staticlib capi`
+//! writes it.
 
 use std::env;
 use std::path::{Path, PathBuf};

@@ -1,5 +1,6 @@
-//! Colours all glyphs of a font through the library and by the Rust of docs/src, and prints both times as a table of Markdown:
-//! `measure FONT`. Both sides colour the glyphs that the library accepts; a time is the best of some runs, by turns.
+//! Colours all glyphs of a font through the library and by the Rust of docs/src, and prints both times as a table of
+//! Markdown: `measure FONT`. Both sides colour the glyphs that the library accepts; a time is the best of some runs, by
+//! turns.
 
 use merelsplum::job::{Job, Strategy};
 use merelsplum::{Colored, Edge, Outline, Refusal, collect_splines, edge_coloring_by_distance};

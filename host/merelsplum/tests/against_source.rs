@@ -1,4 +1,5 @@
-//! Random input, coloured through this crate and by the Rust of docs/src: the same, bit for bit, or the refusal that is due.
+//! Random input, coloured through this crate and by the Rust of docs/src: the same, bit for bit, or the refusal that is
+//! due.
 
 use merelsplum::job::{self, Job};
 use merelsplum::{
