@@ -75,7 +75,8 @@ fn name_beside(path: &Path) -> io::Result<TempPath> {
 
 /// A file without a name in the folder of another one, or with a temporary one.
 fn create(own: &Path, with_name: bool) -> io::Result<(File, Content)> {
-    if !with_name && let Ok(file) = OpenOptions::new().write(true).custom_flags(libc::O_TMPFILE).open(folder(own)) {
+    let unnamed = || OpenOptions::new().write(true).custom_flags(libc::O_TMPFILE).open(folder(own)).ok();
+    if let Some(file) = if with_name { None } else { unnamed() } {
         let content = Content::Unnamed(file.try_clone()?);
         return Ok((file, content));
     }
