@@ -15,7 +15,7 @@ use Rattle.coloring.specs.Places.{total}
 use Rattle.coloring.specs.Sizes.{Sized, sizes, sizes-map, cut-again, flatten-length}
 use Rattle.coloring.specs.Outline.{kindStored, cut, encode, Result, Outcome, outcome, resultFits, delivered, deliver}
 use Rattle.coloring.specs.Shape.{countsOf}
-use Rattle.coloring.specs.Answers.{Answer, gives, refusal, inOrder, firstRefusal, all-passed, one-failed, either-way}
+use Rattle.coloring.specs.Answers.{Answer, gives, refusal, allPass, inOrder, firstRefusal, all-passed, one-failed, either-way}
 use Rattle.coloring.specs.DeliverLaws.{deliver-fits, deliver-passed, deliver-failed, deliver-answer}
 use Rattle.job.specs.Limits.{maxText}
 use Rattle.job.specs.Job.{Job, Reading, readJob}
@@ -130,6 +130,12 @@ module _ (file : List ℕ) (old : Result) (room : HoldsResults old) where
       go (gives job) e = deliver-answer (countsOf (laidIn job)) (colored job) old (checkJob job) (fits-all job e)
       go (refusal number) e = refl
 
+  -- where the checks pass, the coloured shape is written
+  all-written : (job : Job) → readJob file ≡ gives job → firstRefusal (checkJob job) ≡ allPass
+      → deliver (checkJob job) (countsOf (laidIn job)) (colored job) old ≡ delivered (countsOf (laidIn job)) (colored job) old
+  all-written job e passed =
+      deliver-passed (countsOf (laidIn job)) (colored job) old (checkJob job) passed ∙ deliver-fits (countsOf (laidIn job)) (colored job) old (fits-all job e)
+
   answer-in : {a b : Outcome} → a ≡ b → a .answer ≡ b .answer
   answer-in e = ap (λ (o : Outcome). o .answer) e
 
@@ -144,7 +150,7 @@ module _ (file : List ℕ) (old : Result) (room : HoldsResults old) where
           of : (k : Answer Unit) → firstRefusal (checkJob job) ≡ k → Front file (counts .contours) (counts .edges) new
           of (gives u) passed =
               let s = shape-of job file e in
-              let written = deliver-passed (countsOf (laidIn job)) (colored job) old (checkJob job) passed ∙ deliver-fits (countsOf (laidIn job)) (colored job) old (fits-all job e) in
+              let written = all-written job e passed in
               let given = same ∙ written in
               let answer = answer-in given in
               let contours : counts .contours ≡ length (colored job .lengths) = cc in
@@ -166,7 +172,7 @@ module _ (file : List ℕ) (old : Result) (room : HoldsResults old) where
         where
           of : (k : Answer Unit) → firstRefusal (checkJob job) ≡ k → inOrder (checkJob job) refusalLine (jobText job) ≡ refusalLine number
           of (gives u) passed =
-              let written = deliver-passed (countsOf (laidIn job)) (colored job) old (checkJob job) passed ∙ deliver-fits (countsOf (laidIn job)) (colored job) old (fits-all job e) in
+              let written = all-written job e passed in
               let no = answer-in (same ∙ written) in cc
           of (refusal other) failed =
               let told = answer-in (same ∙ sym (deliver-failed (countsOf (laidIn job)) (colored job) old (checkJob job) failed)) in

@@ -12,7 +12,8 @@ ghost use lib.ListN.{length};
 ghost use Rattle.job.specs.declared.records.Mark.the-variants.{Edge, Distances};
 ghost use Rattle.job.specs.declared.records.Marked.the-variants.{Known};
 ghost use Rattle.job.specs.Records.{strategyNumber, strategyOf, byDistance, markOf, controls, headerSize, bodySize, atStart, inside, among, closing};
-ghost use Rattle.job.specs.Records.{allowed, belowMaximum, readHeader, readEdge, readDistances, readEnd, readBody, readMarked, readRecord, foundAnswer, foundOf};
+ghost use Rattle.job.specs.Records.{allowed, belowMaximum, foundAnswer, foundOf};
+ghost use Rattle.job.specs.Records.{readHeader, readEdge, readDistances, readEnd, readBody, readMarked, readRecord};
 
 pub enum Strategy {
     Simple,

@@ -39,12 +39,14 @@ use Rattle.job.proofs.AnswerLaws.{fits-numbered}
 -- one distance a pair, counted, is one distance a pair of a job whose distances are valid
 pairs-checked : (splines : ℕ) (ds : List Float) (counts : Counts) (written old : Result) → counts .splines ≡ splines → length ds ≤ maxDistances
     → distancesValid ds ≡ true → resultFits written old ≡ true
-    → paired (deliver (unless 4 (leb splines maxSplines) ∷ []) counts written old .answer) (length ds) ≡ inOrder (checkSplines splines ds) refusal (gives counts)
+    → paired (deliver (unless 4 (leb splines maxSplines) ∷ []) counts written old .answer) (length ds)
+    ≡ inOrder (checkSplines splines ds) refusal (gives counts)
 unfolding deliver delivered paired
 pairs-checked splines ds counts written old e few valid room = go (leb splines maxSplines) refl
   where
     go : (b : Bool) → leb splines maxSplines ≡ b
-        → paired (deliver (unless 4 (leb splines maxSplines) ∷ []) counts written old .answer) (length ds) ≡ inOrder (checkSplines splines ds) refusal (gives counts)
+        → paired (deliver (unless 4 (leb splines maxSplines) ∷ []) counts written old .answer) (length ds)
+        ≡ inOrder (checkSplines splines ds) refusal (gives counts)
     go true h = rw (h, room, e, h, le-leb (length ds) maxDistances few, valid)
     go false h = rw h
 

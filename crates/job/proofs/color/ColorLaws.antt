@@ -140,7 +140,8 @@ module _ (job : Job) (so : Sound job) (contours-fit : length (job .contours) ≤
     stored-colored : colorStored (job .header .strategy) (job .header .seed) (thresholdOf (job .header)) (storedJob job) old ≡ colorJob job old
     unfolding colorStored colorJob checkJob colored edgeColors coloredEdges laidIn painted splineValues
     stored-colored =
-        rw (stored-is, without (Colors Simple seed), without (Colors InkTrap seed), by-marking (Distances seed) (job .distances) (so .distances-few)) (go (job .header .strategy))
+        rw (stored-is, without (Colors Simple seed), without (Colors InkTrap seed), by-marking (Distances seed) (job .distances) (so .distances-few))
+        (go (job .header .strategy))
       where
         seed : ℕ
         seed = job .header .seed

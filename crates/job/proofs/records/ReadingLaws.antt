@@ -29,7 +29,8 @@ use Rattle.job.specs.declared.records.State.{State}
 use Rattle.job.specs.declared.records.Item.{Item}
 use Rattle.job.specs.Patterns.{number, words, floats, isThreshold, isCoordinate, isDistance}
 use Rattle.job.specs.Records.{strategyOf, recordMark, marked, bytesOf, Record, header, contour, edge, distances, Step, next, ends, fails}
-use Rattle.job.specs.Records.{stepIf, knownStrategy, controls, bodySize, allowed, belowMaximum, kindOf, edgeOf, recordSize, itemOf, finds, finished, faulty, foundOf, markOf}
+use Rattle.job.specs.Records.{stepIf, knownStrategy, controls, bodySize, allowed, belowMaximum, kindOf, edgeOf, recordSize, itemOf, markOf}
+use Rattle.job.specs.Records.{finds, finished, faulty, foundOf}
 use Rattle.job.specs.Records.{readHeader, readEdge, readDistances, readEnd, readBody, readMarked, readRecord, after, Records, complete, fault}
 use Rattle.job.specs.Records.{_then_, recordsWithin, recordsFrom}
 use Rattle.job.specs.Job.{thresholdOf}

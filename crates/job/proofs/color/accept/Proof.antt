@@ -67,7 +67,9 @@ returns-3 c =
 
 returns-4 : tie.Need-returns-4
 unfolding acceptJob
-returns-4 c = accept-unread (readJob (file (c .before .before .before))) _ (sym (ap readAnswer (c .before .refusal2 .given .1)) ∙ c .before .before .before .scan .ensures)
+returns-4 c =
+    let scanned = c .before .before .before in
+    accept-unread (readJob (file scanned)) _ (sym (ap readAnswer (c .before .refusal2 .given .1)) ∙ scanned .scan .ensures)
 
 pub accept-spec : {M : Type 1} → statement M
 accept-spec =

@@ -101,7 +101,8 @@ enum-told-2 c = search needs
 returns-2 : tie.Need-returns-2 Inv-loop μ-loop
 returns-2 c =
     let f = c .before .before in
-    absurd (seeking-fault (file f) (p f) (at f .loop .inv .at) (at f .before .before .before .pre) _ (found-fails _ _ (sym (ap foundAnswer (c .enum-told2 .given .1)) ∙ read f)))
+    let fault = found-fails _ _ (sym (ap foundAnswer (c .enum-told2 .given .1)) ∙ read f) in
+    absurd (seeking-fault (file f) (p f) (at f .loop .inv .at) (at f .before .before .before .pre) _ fault)
 
 pub contour-span-spec : {M : Type 1} → statement M
 contour-span-spec =

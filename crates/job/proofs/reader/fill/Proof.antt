@@ -173,7 +173,8 @@ same-length-8 c = at (c .before .before) .loop .inv .distances-kept
 returns-2 : tie.Need-returns-2 Inv-loop μ-loop
 returns-2 c =
     let f = c .before .before in
-    absurd (filling-fault (file f) (old f) (start f .pre) (p f) _ _ _ _ (at f .loop .inv) _ (found-fails _ _ (sym (ap foundAnswer (c .enum-told2 .given .1)) ∙ read f)))
+    let fault = found-fails _ _ (sym (ap foundAnswer (c .enum-told2 .given .1)) ∙ read f) in
+    absurd (filling-fault (file f) (old f) (start f .pre) (p f) _ _ _ _ (at f .loop .inv) _ fault)
 
 pub fill-spec : {M : Type 1} → statement M
 fill-spec =

@@ -1,4 +1,5 @@
--- `math::sqrt::sqrt_near` meets its contract. The pattern of a value that is no NaN is read; a normal number's root is no NaN.
+-- `math::sqrt::sqrt_near` meets its contract. The pattern of a value that is no NaN is read; a normal number's root is
+-- no NaN.
 use mathlib.Core.Path.{_≡_, sym, ap, subst, _∙_}
 use Prim.Native.Nat.{ℕ, _<_}
 use native.Mathlib.Omega.{arith}
