@@ -5,7 +5,7 @@ mod corners;
 pub mod edge_coloring;
 mod ink_trap;
 mod layout;
-mod limits;
+pub mod limits;
 pub mod outline;
 mod pair_order;
 mod recolor;

@@ -1,20 +1,20 @@
 // The limits (SCOPE, Limits), and what follows from them; specs/Limits.antt has the same.
 
-pub(crate) const MAX_CONTOURS: usize = 64;
+pub const MAX_CONTOURS: usize = 64;
 
-pub(crate) const MAX_EDGES: usize = 256;
+pub const MAX_EDGES: usize = 256;
 
 // Edges of a result.
-pub(crate) const MAX_RESULT_EDGES: usize = 508;
+pub const MAX_RESULT_EDGES: usize = 508;
 
 // Splines of a shape that is coloured with a pen.
 pub(crate) const MAX_SHAPE_SPLINES: usize = 320;
 
 // Splines of a table, and of a shape whose splines are numbered.
-pub(crate) const MAX_SPLINES: usize = 64;
+pub const MAX_SPLINES: usize = 64;
 
 // One distance for each pair of as many splines.
-pub(crate) const MAX_DISTANCES: usize = 2016;
+pub const MAX_DISTANCES: usize = 2016;
 
 // The entries of the largest table.
 pub(crate) const MAX_ENTRIES: usize = 4096;

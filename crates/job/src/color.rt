@@ -1,11 +1,6 @@
 // Reading and colouring in one: a file, and four buffers that its coloured shape goes to.
-use crate::limits::MAX_CONTOURS;
-use crate::limits::MAX_DISTANCES;
-use crate::limits::MAX_EDGES;
 use crate::limits::MAX_PLACES;
-use crate::limits::MAX_RESULT_EDGES;
 use crate::limits::MAX_RESULT_PLACES;
-use crate::limits::MAX_SPLINES;
 use crate::progress;
 use crate::progress::Numbers;
 use crate::progress::Read;
@@ -16,6 +11,11 @@ use coloring::by_distance::collect_splines;
 use coloring::by_distance::edge_coloring_by_distance;
 use coloring::edge_coloring::edge_coloring_ink_trap;
 use coloring::edge_coloring::edge_coloring_simple;
+use coloring::limits::MAX_CONTOURS;
+use coloring::limits::MAX_DISTANCES;
+use coloring::limits::MAX_EDGES;
+use coloring::limits::MAX_RESULT_EDGES;
+use coloring::limits::MAX_SPLINES;
 use coloring::outline::Colored;
 use coloring::refusal::Refusal;
 use math::bits::float;

@@ -1,9 +1,9 @@
 // The text of an answer, written into a byte buffer. Each function gives the place after what it wrote.
 use crate::color;
-use crate::limits::MAX_CONTOURS;
-use crate::limits::MAX_RESULT_EDGES;
 use crate::limits::MAX_RESULT_PLACES;
 use crate::limits::MAX_TEXT;
+use coloring::limits::MAX_CONTOURS;
+use coloring::limits::MAX_RESULT_EDGES;
 use coloring::outline::Colored;
 use coloring::refusal::Refusal;
 ghost use mathlib.Core.Path.{_≡_};

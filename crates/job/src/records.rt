@@ -1,10 +1,10 @@
 // The records of a job file, one after another: a mark of two letters, then its fields (SCOPE, Job file).
-use crate::limits::MAX_CONTOURS;
-use crate::limits::MAX_DISTANCES;
-use crate::limits::MAX_EDGES;
 use crate::patterns;
 use crate::patterns::Range;
 use crate::progress::Numbers;
+use coloring::limits::MAX_CONTOURS;
+use coloring::limits::MAX_DISTANCES;
+use coloring::limits::MAX_EDGES;
 use coloring::refusal::Refusal;
 ghost use mathlib.Core.Path.{_≡_};
 ghost use mathlib.Core.List.{[]};
