@@ -6,11 +6,9 @@ use lib.Dec.{eqb}
 use Rattle.vectors.proofs.is_heading.Statement.{statement}
 use Rattle.vectors.proofs.is_heading.Tie as tie
 
-word-requires : tie.Need-word-requires
-word-requires c κs = search needs
-
 returns : tie.Need-returns
 returns c = ap (λ (w : ℕ). eqb w 0xffff_ffff_ffff_ffff) (c .word .ensures)
 
 pub is-heading-spec : {M : Type 1} → statement M
-is-heading-spec = tie.close (tie.spec word-requires returns)
+is-heading-spec = tie.close
+    (tie.spec (λ c κs. search needs) returns)

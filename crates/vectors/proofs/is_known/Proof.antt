@@ -9,7 +9,4 @@ unfolding known
 returns c = search needs
 
 pub is-known-spec : {M : Type 1} → statement M
-is-known-spec =
-    tie.close
-    (tie.spec
-    returns)
+is-known-spec = tie.close (tie.spec returns)

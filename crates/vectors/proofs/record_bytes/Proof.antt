@@ -29,22 +29,13 @@ other s h k =
     let j : 32 ≤ wordAt s 0 = omega arith in
     simp (h, le-ltb (wordAt s 0) 32 j, le-ltb (wordAt s 0) 64 k)
 
-is-heading-requires : tie.Need-is-heading-requires
-is-heading-requires c κs = search needs
-
 returns : tie.Need-returns
 returns c = sym (heading _ (sym (c .before .is-heading .ensures) ∙ c .if1 .taken))
-
-word-requires : tie.Need-word-requires
-word-requires c κs = search needs
 
 returns-2 : tie.Need-returns-2
 returns-2 c =
     let e = c .before in
     sym (math _ (sym (e .before .before .is-heading .ensures) ∙ e .before .if1 .left) (omega (arith, e .word .ensures, c .if2 .taken)))
-
-word-requires-2 : tie.Need-word-requires-2
-word-requires-2 c κs = search needs
 
 returns-3 : tie.Need-returns-3
 returns-3 c =
@@ -66,11 +57,4 @@ returns-4 c =
 pub record-bytes-spec : {M : Type 1} → statement M
 record-bytes-spec =
     tie.close
-    (tie.spec
-    is-heading-requires
-    returns
-    word-requires
-    returns-2
-    word-requires-2
-    returns-3
-    returns-4)
+    (tie.spec (λ c κs. search needs) returns (λ c κs. search needs) returns-2 (λ c κs. search needs) returns-3 returns-4)

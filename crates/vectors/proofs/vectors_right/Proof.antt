@@ -12,15 +12,6 @@ use Rattle.vectors.proofs.vectors_right.Tie as tie
 of-record : (s : List ℕ) (r : ℕ) → isRecord s ≡ true → r ≤ 1 → r ≤ cond (isRecord s) 1 0
 of-record s r h k = subst (λ (b : Bool). r ≤ cond b 1 0) (sym h) k
 
-is-record-requires : tie.Need-is-record-requires
-is-record-requires c κs = search needs
-
-is-right-requires : tie.Need-is-right-requires
-is-right-requires c κs = search needs
-
-one-if-requires : tie.Need-one-if-requires
-one-if-requires c κs = search needs
-
 returns : tie.Need-returns
 returns c =
     let e = c .before .before in
@@ -30,11 +21,4 @@ returns-2 : tie.Need-returns-2
 returns-2 c = omega arith
 
 pub vectors-right-spec : {M : Type 1} → statement M
-vectors-right-spec =
-    tie.close
-    (tie.spec
-    is-record-requires
-    is-right-requires
-    one-if-requires
-    returns
-    returns-2)
+vectors-right-spec = tie.close (tie.spec (λ c κs. search needs) (λ c κs. search needs) (λ c κs. search needs) returns returns-2)

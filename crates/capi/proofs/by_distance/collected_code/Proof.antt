@@ -5,27 +5,6 @@ use Prim.Native.Nat.{ℕ, _+_}
 use Rattle.capi.proofs.by_distance.collected_code.Statement.{statement}
 use Rattle.capi.proofs.by_distance.collected_code.Tie as tie
 
-enum-known-answer : tie.Need-enum-known-answer
-enum-known-answer c = search needs
-
-mul-result : tie.Need-mul-result
-mul-result c = search needs
-
-add-result : tie.Need-add-result
-add-result c = search needs
-
-enum-known-answer-2 : tie.Need-enum-known-answer-2
-enum-known-answer-2 c = search needs
-
-number-requires : tie.Need-number-requires
-number-requires c κs = search needs
-
-wide-requires : tie.Need-wide-requires
-wide-requires c κs = search needs
-
-add-result-2 : tie.Need-add-result-2
-add-result-2 c = search needs
-
 returns : tie.Need-returns
 returns c = rw (c .before .before .before .answer .given .1)
 
@@ -35,13 +14,5 @@ returns-2 c = rw (c .before .before .before .answer2 .given .1) (ap (λ (k : ℕ
 pub collected-code-spec : {M : Type 1} → statement M
 collected-code-spec =
     tie.close
-    (tie.spec
-    enum-known-answer
-    mul-result
-    add-result
-    enum-known-answer-2
-    number-requires
-    wide-requires
-    add-result-2
-    returns
-    returns-2)
+    (tie.spec (λ c. search needs) (λ c. search needs) (λ c. search needs) (λ c. search needs) (λ c κs. search needs)
+    (λ c κs. search needs) (λ c. search needs) returns returns-2)

@@ -5,14 +5,9 @@ use borrow.Author.Needs.{needs}
 use Rattle.capi.proofs.job_file.merelsplum_job_check.Statement.{statement}
 use Rattle.capi.proofs.job_file.merelsplum_job_check.Tie as tie
 
-check-requires : tie.Need-check-requires
-check-requires c κs = search needs
-
-code-requires : tie.Need-code-requires
-code-requires c κs = search needs
-
 returns : tie.Need-returns
 returns c = c .code .ensures ∙ ap coloredCode (c .before .check .ensures)
 
 pub merelsplum-job-check-spec : {M : Type 1} → statement M
-merelsplum-job-check-spec = tie.close (tie.spec check-requires code-requires returns)
+merelsplum-job-check-spec = tie.close
+    (tie.spec (λ c κs. search needs) (λ c κs. search needs) returns)

@@ -54,13 +54,4 @@ returns c = omega (arith, c .before .loop .inv .2, ap length (places-end (c .bef
 pub count-corners-spec : {M : Type 1} → statement M
 count-corners-spec =
     tie.close
-    (tie.spec
-    Inv-loop
-    μ-loop
-    loop-holds
-    shared-slice-read-if1
-    add-count
-    add-i
-    loop-less
-    loop-again
-    returns)
+    (tie.spec Inv-loop μ-loop loop-holds shared-slice-read-if1 add-count add-i loop-less loop-again returns)

@@ -18,22 +18,14 @@ one-direction (Line p0 p1) h = refl
 one-direction (Quadratic p0 p1 p2) h = absurd (omega arith)
 one-direction (Cubic p0 p1 p2 p3) h = absurd (omega arith)
 
-order-requires : tie.Need-order-requires
-order-requires c κs = search needs
-
 returns : tie.Need-returns
 returns c =
     let start = c .before .before in
     start .pre ∙ ap (λ (d : Vector2). normalize d false) (one-direction (start .args .e) (sym (c .before .order .ensures) ∙ c .if1 .taken))
 
-direction-requires : tie.Need-direction-requires
-direction-requires c κs = search needs
-
-normalize-requires : tie.Need-normalize-requires
-normalize-requires c κs = search needs
-
 returns-2 : tie.Need-returns-2
 returns-2 c = rw (← c .before .direction .ensures) (c .normalize .ensures)
 
 pub end-direction-spec : {M : Type 1} → statement M
-end-direction-spec = tie.close (tie.spec order-requires returns direction-requires normalize-requires returns-2)
+end-direction-spec = tie.close
+    (tie.spec (λ c κs. search needs) returns (λ c κs. search needs) (λ c κs. search needs) returns-2)

@@ -4,45 +4,6 @@ use borrow.Author.Needs.{needs}
 use Rattle.coloring.proofs.corners.estimate_edge_length.Statement.{statement}
 use Rattle.coloring.proofs.corners.estimate_edge_length.Tie as tie
 
-point-requires : tie.Need-point-requires
-point-requires c κs = search needs
-
-point-requires-2 : tie.Need-point-requires-2
-point-requires-2 c κs = search needs
-
-point-requires-3 : tie.Need-point-requires-3
-point-requires-3 c κs = search needs
-
-point-requires-4 : tie.Need-point-requires-4
-point-requires-4 c κs = search needs
-
-point-requires-5 : tie.Need-point-requires-5
-point-requires-5 c κs = search needs
-
-sub-requires : tie.Need-sub-requires
-sub-requires c κs = search needs
-
-length-requires : tie.Need-length-requires
-length-requires c κs = search needs
-
-sub-requires-2 : tie.Need-sub-requires-2
-sub-requires-2 c κs = search needs
-
-next-length-requires : tie.Need-next-length-requires
-next-length-requires c κs = search needs
-
-sub-requires-3 : tie.Need-sub-requires-3
-sub-requires-3 c κs = search needs
-
-next-length-requires-2 : tie.Need-next-length-requires-2
-next-length-requires-2 c κs = search needs
-
-sub-requires-4 : tie.Need-sub-requires-4
-sub-requires-4 c κs = search needs
-
-next-length-requires-3 : tie.Need-next-length-requires-3
-next-length-requires-3 c κs = search needs
-
 returns : tie.Need-returns
 unfolding chord estimateEdgeLength
 returns c =
@@ -69,18 +30,6 @@ returns c =
 pub estimate-edge-length-spec : {M : Type 1} → statement M
 estimate-edge-length-spec =
     tie.close
-    (tie.spec
-    point-requires
-    point-requires-2
-    point-requires-3
-    point-requires-4
-    point-requires-5
-    sub-requires
-    length-requires
-    sub-requires-2
-    next-length-requires
-    sub-requires-3
-    next-length-requires-2
-    sub-requires-4
-    next-length-requires-3
-    returns)
+    (tie.spec (λ c κs. search needs) (λ c κs. search needs) (λ c κs. search needs) (λ c κs. search needs) (λ c κs. search needs)
+    (λ c κs. search needs) (λ c κs. search needs) (λ c κs. search needs) (λ c κs. search needs) (λ c κs. search needs)
+    (λ c κs. search needs) (λ c κs. search needs) (λ c κs. search needs) returns)

@@ -48,4 +48,5 @@ returns-2 : tie.Need-returns-2
 returns-2 c = elsewhere (c .before .args .threshold) (c .before .args .x) (c .if1 .left)
 
 pub exceeds-spec : {M : Type 1} → statement M
-exceeds-spec = tie.close (tie.spec returns returns-2)
+exceeds-spec = tie.close
+    (tie.spec returns returns-2)

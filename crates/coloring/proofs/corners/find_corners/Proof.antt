@@ -114,17 +114,5 @@ returns c =
 pub find-corners-spec : {M : Type 1} → statement M
 find-corners-spec =
     tie.close
-    (tie.spec
-    Inv-loop
-    μ-loop
-    loop-holds
-    mul-end
-    shared-slice-read-end
-    cast-end
-    add-end
-    identify-part-requires
-    add-i
-    loop-less
-    loop-again
-    same-length
-    returns)
+    (tie.spec Inv-loop μ-loop loop-holds mul-end shared-slice-read-end cast-end add-end identify-part-requires add-i loop-less
+    loop-again same-length returns)

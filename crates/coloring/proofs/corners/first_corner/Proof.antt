@@ -44,13 +44,4 @@ returns-2 c = sym (ap (λ (places : List ℕ). getD places 0 0) (c .before .loop
 pub first-corner-spec : {M : Type 1} → statement M
 first-corner-spec =
     tie.close
-    (tie.spec
-    Inv-loop
-    μ-loop
-    loop-holds
-    shared-slice-read-if1
-    returns
-    add-i
-    loop-less
-    loop-again
-    returns-2)
+    (tie.spec Inv-loop μ-loop loop-holds shared-slice-read-if1 returns add-i loop-less loop-again returns-2)

@@ -75,12 +75,6 @@ returns c =
 edge-at-requires : tie.Need-edge-at-requires Inv-loop μ-loop
 edge-at-requires c κs = (omega arith, c .before .before .before .before .pre .places)
 
-direction-requires : tie.Need-direction-requires Inv-loop μ-loop
-direction-requires c κs = search needs
-
-normalize-requires : tie.Need-normalize-requires Inv-loop μ-loop
-normalize-requires c κs = search needs
-
 edge-at-requires-2 : tie.Need-edge-at-requires-2 Inv-loop μ-loop
 edge-at-requires-2 c κs = let read = c .before .before in (omega arith, read .before .before .before .before .before .pre .places)
 
@@ -108,15 +102,6 @@ loop-holds c =
 
 edge-at-requires-3 : tie.Need-edge-at-requires-3 Inv-loop μ-loop
 edge-at-requires-3 c κs = omega arith
-
-direction-requires-2 : tie.Need-direction-requires-2 Inv-loop μ-loop
-direction-requires-2 c κs = search needs
-
-normalize-requires-2 : tie.Need-normalize-requires-2 Inv-loop μ-loop
-normalize-requires-2 c κs = search needs
-
-is-corner-requires : tie.Need-is-corner-requires Inv-loop μ-loop
-is-corner-requires c κs = search needs
 
 slice-write-flags : tie.Need-slice-write-flags Inv-loop μ-loop
 slice-write-flags c = omega arith
@@ -162,9 +147,6 @@ loop-again c =
           (over-next (at .i) _ _ (set (at .flags) 0 b) (omega (arith, length-set (at .flags) 0 b))),
     )
 
-is-corner-requires-2 : tie.Need-is-corner-requires-2 Inv-loop μ-loop
-is-corner-requires-2 c κs = search needs
-
 slice-write-flags-2 : tie.Need-slice-write-flags-2 Inv-loop μ-loop
 slice-write-flags-2 c = omega arith
 
@@ -190,26 +172,7 @@ returns-2 c =
 pub identify-corners-spec : {M : Type 1} → statement M
 identify-corners-spec =
     tie.close
-    (tie.spec
-    Inv-loop
-    μ-loop
-    returns
-    edge-at-requires
-    direction-requires
-    normalize-requires
-    edge-at-requires-2
-    end-direction-requires
-    loop-holds
-    edge-at-requires-3
-    direction-requires-2
-    normalize-requires-2
-    is-corner-requires
-    slice-write-flags
-    end-direction-requires-2
-    add-i
-    loop-less
-    loop-again
-    is-corner-requires-2
-    slice-write-flags-2
-    same-length
+    (tie.spec Inv-loop μ-loop returns edge-at-requires (λ c κs. search needs) (λ c κs. search needs) edge-at-requires-2
+    end-direction-requires loop-holds edge-at-requires-3 (λ c κs. search needs) (λ c κs. search needs) (λ c κs. search needs)
+    slice-write-flags end-direction-requires-2 add-i loop-less loop-again (λ c κs. search needs) slice-write-flags-2 same-length
     returns-2)

@@ -12,42 +12,6 @@ use Rattle.coloring.proofs.outline.EdgeLaws.{edges-length, edges-betwee
 use Rattle.coloring.proofs.corners.identify_part.Statement.{statement}
 use Rattle.coloring.proofs.corners.identify_part.Tie as tie
 
-mul-from : tie.Need-mul-from
-mul-from c = search needs
-
-mul-to : tie.Need-mul-to
-mul-to c = search needs
-
-sub-identify-corners : tie.Need-sub-identify-corners
-sub-identify-corners c = search needs
-
-part-identify-corners-start : tie.Need-part-identify-corners-start
-part-identify-corners-start c = search needs
-
-part-identify-corners-end : tie.Need-part-identify-corners-end
-part-identify-corners-end c = search needs
-
-mul-identify-corners : tie.Need-mul-identify-corners
-mul-identify-corners c = search needs
-
-sub-identify-corners-2 : tie.Need-sub-identify-corners-2
-sub-identify-corners-2 c = search needs
-
-part-identify-corners-start-2 : tie.Need-part-identify-corners-start-2
-part-identify-corners-start-2 c = search needs
-
-part-identify-corners-end-2 : tie.Need-part-identify-corners-end-2
-part-identify-corners-end-2 c = search needs
-
-sub-identify-corners-3 : tie.Need-sub-identify-corners-3
-sub-identify-corners-3 c = search needs
-
-part-identify-corners-start-3 : tie.Need-part-identify-corners-start-3
-part-identify-corners-start-3 c = search needs
-
-part-identify-corners-end-3 : tie.Need-part-identify-corners-end-3
-part-identify-corners-end-3 c = search needs
-
 -- where the function began, from the first part taken
 abbrev begun : tie.After-identify-corners-arg → tie.Start
 begun c = c .before .before .before .before
@@ -56,9 +20,6 @@ identify-corners-requires : tie.Need-identify-corners-requires
 identify-corners-requires c κs =
     let start = begun (c .before .before) in
     part-matching (start .pre)
-
-same-length : tie.Need-same-length
-same-length c = search needs
 
 returns : tie.Need-returns
 returns c =
@@ -74,19 +35,6 @@ returns c =
 pub identify-part-spec : {M : Type 1} → statement M
 identify-part-spec =
     tie.close
-    (tie.spec
-    mul-from
-    mul-to
-    sub-identify-corners
-    part-identify-corners-start
-    part-identify-corners-end
-    mul-identify-corners
-    sub-identify-corners-2
-    part-identify-corners-start-2
-    part-identify-corners-end-2
-    sub-identify-corners-3
-    part-identify-corners-start-3
-    part-identify-corners-end-3
-    identify-corners-requires
-    same-length
-    returns)
+    (tie.spec (λ c. search needs) (λ c. search needs) (λ c. search needs) (λ c. search needs) (λ c. search needs)
+    (λ c. search needs) (λ c. search needs) (λ c. search needs) (λ c. search needs) (λ c. search needs) (λ c. search needs)
+    (λ c. search needs) identify-corners-requires (λ c. search needs) returns)

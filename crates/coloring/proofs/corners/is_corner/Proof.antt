@@ -4,15 +4,6 @@ use borrow.Author.Needs.{needs}
 use Rattle.coloring.proofs.corners.is_corner.Statement.{statement}
 use Rattle.coloring.proofs.corners.is_corner.Tie as tie
 
-dot-requires : tie.Need-dot-requires
-dot-requires c κs = search needs
-
-cross-requires : tie.Need-cross-requires
-cross-requires c κs = search needs
-
-exceeds-requires : tie.Need-exceeds-requires
-exceeds-requires c κs = search needs
-
 returns : tie.Need-returns
 unfolding isCorner
 returns c = rw (← c .before .dot .ensures, c .if1 .taken)
@@ -23,5 +14,4 @@ returns-2 c =
     rw (← c .before .before .before .dot .ensures, c .before .before .if1 .left, ← c .before .cross .ensures) (c .exceeds .ensures)
 
 pub is-corner-spec : {M : Type 1} → statement M
-is-corner-spec =
-    tie.close (tie.spec dot-requires cross-requires exceeds-requires returns returns-2)
+is-corner-spec = tie.close (tie.spec (λ c κs. search needs) (λ c κs. search needs) (λ c κs. search needs) returns returns-2)

@@ -106,12 +106,6 @@ returns c =
     let s = begun (c .before) in
     refused (s .args .settings) (given s) (s .args .distances .now) (old s) (too-many (s .args .settings) (given s) (s .args .distances .now) (c .if1 .taken))
 
-check-requires : tie.Need-check-requires
-check-requires c κs = search needs
-
-enum-known-checked : tie.Need-enum-known-checked
-enum-known-checked c = search needs
-
 returns-2 : tie.Need-returns-2
 returns-2 c =
     let checked = c .before .before .before in
@@ -119,9 +113,6 @@ returns-2 c =
     let failed = sym (checked .check .ensures) ∙ ap checkedAnswer (c .before .checked .given .1) in
     refused (s .args .settings) (given s) (s .args .distances .now) (old s)
     (not-many (s .args .settings) (given s) (s .args .distances .now) (checked .before .if1 .left) ∙ failed)
-
-enum-told : tie.Need-enum-told
-enum-told c = search needs
 
 array-borrow-prefix-flags : tie.Need-array-borrow-prefix-flags
 array-borrow-prefix-flags c = agrees c .few
@@ -155,18 +146,6 @@ color-shape-requires c κs =
       contours-few = a .contours-few;
     }
 
-same-length : tie.Need-same-length
-same-length c = search needs
-
-same-length-2 : tie.Need-same-length-2
-same-length-2 c = search needs
-
-same-length-3 : tie.Need-same-length-3
-same-length-3 c = search needs
-
-same-length-4 : tie.Need-same-length-4
-same-length-4 c = search needs
-
 returns-3 : tie.Need-returns-3
 returns-3 c =
     let points = c .before .before .before .before in
@@ -180,20 +159,6 @@ returns-3 c =
 pub edge-coloring-spec : {M : Type 1} → statement M
 edge-coloring-spec =
     tie.close
-    (tie.spec
-    returns
-    check-requires
-    enum-known-checked
-    returns-2
-    enum-told
-    array-borrow-prefix-flags
-    slice-aggregate-find-corners
-    find-corners-requires
-    array-share-prefix-flags
-    slice-aggregate-color-shape
-    color-shape-requires
-    same-length
-    same-length-2
-    same-length-3
-    same-length-4
-    returns-3)
+    (tie.spec returns (λ c κs. search needs) (λ c. search needs) returns-2 (λ c. search needs) array-borrow-prefix-flags
+    slice-aggregate-find-corners find-corners-requires array-share-prefix-flags slice-aggregate-color-shape color-shape-requires
+    (λ c. search needs) (λ c. search needs) (λ c. search needs) (λ c. search needs) returns-3)

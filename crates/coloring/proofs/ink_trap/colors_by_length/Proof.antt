@@ -148,18 +148,12 @@ module _ (c : tie.After-majors Inv-measure μ-measure Inv-mark μ-mark Inv-major
       at .inv .3 ∙ going-ends (at .j) (count (measured marks)) (at .initial) (at .left)
       (at .ink) (at .corners) (at .inv .0) (c .majors-test .left) (omega (arith, few (measured marks)))
 
-corner-at-requires : tie.Need-corner-at-requires Inv-measure μ-measure Inv-mark μ-mark Inv-majors μ-majors Inv-minors μ-minors
-corner-at-requires c κs = search needs
-
 measure-holds : tie.Need-measure-holds Inv-measure μ-measure Inv-mark μ-mark Inv-majors μ-majors Inv-minors μ-minors
 measure-holds c =
     (omega arith, omega arith, length-replicate 256 (c .corner-at .result), measuring-begins _ (contour (begun c)))
 
 shared-slice-read-if1 : tie.Need-shared-slice-read-if1 Inv-measure μ-measure Inv-mark μ-mark Inv-majors μ-majors Inv-minors μ-minors
 shared-slice-read-if1 c = omega arith
-
-corner-at-requires-2 : tie.Need-corner-at-requires-2 Inv-measure μ-measure Inv-mark μ-mark Inv-majors μ-majors Inv-minors μ-minors
-corner-at-requires-2 c κs = search needs
 
 mul-corners : tie.Need-mul-corners Inv-measure μ-measure Inv-mark μ-mark Inv-majors μ-majors Inv-minors μ-minors
 mul-corners c = omega arith
@@ -169,12 +163,6 @@ array-set-from-corners c = omega arith
 
 add-count : tie.Need-add-count Inv-measure μ-measure Inv-mark μ-mark Inv-majors μ-majors Inv-minors μ-minors
 add-count c = omega arith
-
-edge-at-requires : tie.Need-edge-at-requires Inv-measure μ-measure Inv-mark μ-mark Inv-majors μ-majors Inv-minors μ-minors
-edge-at-requires c κs = search needs
-
-estimate-edge-length-requires : tie.Need-estimate-edge-length-requires Inv-measure μ-measure Inv-mark μ-mark Inv-majors μ-majors Inv-minors μ-minors
-estimate-edge-length-requires c κs = search needs
 
 add-index : tie.Need-add-index Inv-measure μ-measure Inv-mark μ-mark Inv-majors μ-majors Inv-minors μ-minors
 add-index c = omega arith
@@ -211,9 +199,6 @@ measure-again c =
 
 array-copy-out-closed : tie.Need-array-copy-out-closed Inv-measure μ-measure Inv-mark μ-mark Inv-majors μ-majors Inv-minors μ-minors
 array-copy-out-closed c = omega arith
-
-closed-requires : tie.Need-closed-requires Inv-measure μ-measure Inv-mark μ-mark Inv-majors μ-majors Inv-minors μ-minors
-closed-requires c κs = search needs
 
 array-set-from-corners-2 : tie.Need-array-set-from-corners-2 Inv-measure μ-measure Inv-mark μ-mark Inv-majors μ-majors Inv-minors μ-minors
 array-set-from-corners-2 c = omega arith
@@ -259,12 +244,6 @@ array-copy-out-third c =
 
 mul-third : tie.Need-mul-third Inv-measure μ-measure Inv-mark μ-mark Inv-majors μ-majors Inv-minors μ-minors
 mul-third c = omega (arith, array-copy-out-third c)
-
-is-minor-requires : tie.Need-is-minor-requires Inv-measure μ-measure Inv-mark μ-mark Inv-majors μ-majors Inv-minors μ-minors
-is-minor-requires c κs = search needs
-
-with-minor-requires : tie.Need-with-minor-requires Inv-measure μ-measure Inv-mark μ-mark Inv-majors μ-majors Inv-minors μ-minors
-with-minor-requires c κs = search needs
 
 mul-corners-2 : tie.Need-mul-corners-2 Inv-measure μ-measure Inv-mark μ-mark Inv-majors μ-majors Inv-minors μ-minors
 mul-corners-2 c = omega arith
@@ -323,23 +302,11 @@ sub-left-2 c =
     let at = c .before .before .before .before .majors in
     omega (arith, at .inv .2, majors-fall (at .j) (count measured) (at .corners) (omega arith) (omega (arith, few measured)) (not-true _ (c .if3 .taken)))
 
-banned-before-requires : tie.Need-banned-before-requires Inv-measure μ-measure Inv-mark μ-mark Inv-majors μ-majors Inv-minors μ-minors
-banned-before-requires c κs = search needs
-
-switch-color-banned-requires : tie.Need-switch-color-banned-requires Inv-measure μ-measure Inv-mark μ-mark Inv-majors μ-majors Inv-minors μ-minors
-switch-color-banned-requires c κs = search needs
-
-with-color-requires : tie.Need-with-color-requires Inv-measure μ-measure Inv-mark μ-mark Inv-majors μ-majors Inv-minors μ-minors
-with-color-requires c κs = search needs
-
 mul-corners-3 : tie.Need-mul-corners-3 Inv-measure μ-measure Inv-mark μ-mark Inv-majors μ-majors Inv-minors μ-minors
 mul-corners-3 c = let branch = c .before .before .before in omega (arith, at-major (branch .before .before .before))
 
 array-set-from-corners-4 : tie.Need-array-set-from-corners-4 Inv-measure μ-measure Inv-mark μ-mark Inv-majors μ-majors Inv-minors μ-minors
 array-set-from-corners-4 c = let branch = c .before .before .before in at-major (branch .before .before .before)
-
-first-color-requires : tie.Need-first-color-requires Inv-measure μ-measure Inv-mark μ-mark Inv-majors μ-majors Inv-minors μ-minors
-first-color-requires c κs = search needs
 
 add-j : tie.Need-add-j Inv-measure μ-measure Inv-mark μ-mark Inv-majors μ-majors Inv-minors μ-minors
 add-j c = omega arith
@@ -403,20 +370,11 @@ array-copy-out-next-2 c =
 mul-next-2 : tie.Need-mul-next-2 Inv-measure μ-measure Inv-mark μ-mark Inv-majors μ-majors Inv-minors μ-minors
 mul-next-2 c = omega (arith, array-copy-out-next-2 c)
 
-mixed-color-requires : tie.Need-mixed-color-requires Inv-measure μ-measure Inv-mark μ-mark Inv-majors μ-majors Inv-minors μ-minors
-mixed-color-requires c κs = search needs
-
-with-color-requires-2 : tie.Need-with-color-requires-2 Inv-measure μ-measure Inv-mark μ-mark Inv-majors μ-majors Inv-minors μ-minors
-with-color-requires-2 c κs = search needs
-
 mul-corners-4 : tie.Need-mul-corners-4 Inv-measure μ-measure Inv-mark μ-mark Inv-majors μ-majors Inv-minors μ-minors
 mul-corners-4 c = omega arith
 
 array-set-from-corners-5 : tie.Need-array-set-from-corners-5 Inv-measure μ-measure Inv-mark μ-mark Inv-majors μ-majors Inv-minors μ-minors
 array-set-from-corners-5 c = omega arith
-
-bits-requires : tie.Need-bits-requires Inv-measure μ-measure Inv-mark μ-mark Inv-majors μ-majors Inv-minors μ-minors
-bits-requires c κs = search needs
 
 slice-write-colors : tie.Need-slice-write-colors Inv-measure μ-measure Inv-mark μ-mark Inv-majors μ-majors Inv-minors μ-minors
 slice-write-colors c = omega (arith, c .before .before .before .before .minors .inv .2)
@@ -484,77 +442,13 @@ returns c =
 pub colors-by-length-spec : {M : Type 1} → statement M
 colors-by-length-spec =
     tie.close
-    (tie.spec
-    Inv-measure
-    μ-measure
-    Inv-mark
-    μ-mark
-    Inv-majors
-    μ-majors
-    Inv-minors
-    μ-minors
-    corner-at-requires
-    measure-holds
-    shared-slice-read-if1
-    corner-at-requires-2
-    mul-corners
-    array-set-from-corners
-    add-count
-    edge-at-requires
-    estimate-edge-length-requires
-    add-index
-    measure-less
-    measure-again
-    array-copy-out-closed
-    closed-requires
-    array-set-from-corners-2
-    mark-holds
-    mul-corner
-    array-copy-out-corner
-    add-next
-    rem-next
-    mul-next
-    array-copy-out-next
-    add-third
-    rem-third
-    mul-third
-    array-copy-out-third
-    is-minor-requires
-    with-minor-requires
-    mul-corners-2
-    array-set-from-corners-3
-    sub-left
-    add-i
-    mark-less
-    mark-again
-    majors-holds
-    mul-corner-2
-    array-copy-out-corner-2
-    sub-left-2
-    banned-before-requires
-    switch-color-banned-requires
-    with-color-requires
-    mul-corners-3
-    array-set-from-corners-4
-    first-color-requires
-    add-j
-    majors-less
-    majors-again
-    minors-holds
-    mul-corner-3
-    array-copy-out-corner-3
-    add-next-2
-    rem-next-2
-    mul-next-2
-    array-copy-out-next-2
-    mixed-color-requires
-    with-color-requires-2
-    mul-corners-4
-    array-set-from-corners-5
-    bits-requires
-    slice-write-colors
-    add-k
-    minors-less
-    minors-again
-    same-length
-    returns)
+    (tie.spec Inv-measure μ-measure Inv-mark μ-mark Inv-majors μ-majors Inv-minors μ-minors (λ c κs. search needs) measure-holds
+    shared-slice-read-if1 (λ c κs. search needs) mul-corners array-set-from-corners add-count (λ c κs. search needs)
+    (λ c κs. search needs) add-index measure-less measure-again array-copy-out-closed (λ c κs. search needs)
+    array-set-from-corners-2 mark-holds mul-corner array-copy-out-corner add-next rem-next mul-next array-copy-out-next add-third
+    rem-third mul-third array-copy-out-third (λ c κs. search needs) (λ c κs. search needs) mul-corners-2 array-set-from-corners-3
+    sub-left add-i mark-less mark-again majors-holds mul-corner-2 array-copy-out-corner-2 sub-left-2 (λ c κs. search needs)
+    (λ c κs. search needs) (λ c κs. search needs) mul-corners-3 array-set-from-corners-4 (λ c κs. search needs) add-j majors-less
+    majors-again minors-holds mul-corner-3 array-copy-out-corner-3 add-next-2 rem-next-2 mul-next-2 array-copy-out-next-2
+    (λ c κs. search needs) (λ c κs. search needs) mul-corners-4 array-set-from-corners-5 (λ c κs. search needs) slice-write-colors
+    add-k minors-less minors-again same-length returns)

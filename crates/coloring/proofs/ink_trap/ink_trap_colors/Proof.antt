@@ -8,12 +8,6 @@ use Rattle.coloring.proofs.ink_trap.MajorLaws.{few-simple}
 use Rattle.coloring.proofs.ink_trap.ink_trap_colors.Statement.{statement}
 use Rattle.coloring.proofs.ink_trap.ink_trap_colors.Tie as tie
 
-simple-colors-requires : tie.Need-simple-colors-requires
-simple-colors-requires c κs = search needs
-
-same-length : tie.Need-same-length
-same-length c = search needs
-
 returns : tie.Need-returns
 returns c =
     let called = c .before .before in
@@ -23,22 +17,7 @@ returns c =
     let long = start .pre .0 .flagged ∙ sym (edges-length (start .args .kinds .now) (start .args .points .now)) in
     rw (few-simple contour (start .args .pen) long (omega arith) (omega (arith, start .pre .2)), ← start .pre .2) (called .simple-colors .ensures)
 
-colors-by-length-requires : tie.Need-colors-by-length-requires
-colors-by-length-requires c κs = search needs
-
-same-length-2 : tie.Need-same-length-2
-same-length-2 c = search needs
-
-returns-2 : tie.Need-returns-2
-returns-2 c = search needs
-
 pub ink-trap-colors-spec : {M : Type 1} → statement M
 ink-trap-colors-spec =
     tie.close
-    (tie.spec
-    simple-colors-requires
-    same-length
-    returns
-    colors-by-length-requires
-    same-length-2
-    returns-2)
+    (tie.spec (λ c κs. search needs) (λ c. search needs) returns (λ c κs. search needs) (λ c. search needs) (λ c. search needs))

@@ -9,4 +9,5 @@ returns-2 : tie.Need-returns-2
 returns-2 c = rw (c .if1 .left)
 
 pub is-minor-spec : {M : Type 1} → statement M
-is-minor-spec = tie.close (tie.spec returns returns-2)
+is-minor-spec = tie.close
+    (tie.spec returns returns-2)

@@ -10,15 +10,6 @@ use Rattle.coloring.proofs.ChannelLaws.{and-shared, xor-others}
 use Rattle.coloring.proofs.ink_trap.mixed_color.Statement.{statement}
 use Rattle.coloring.proofs.ink_trap.mixed_color.Tie as tie
 
-bits-requires : tie.Need-bits-requires
-bits-requires c κs = search needs
-
-bits-requires-2 : tie.Need-bits-requires-2
-bits-requires-2 c κs = search needs
-
-from-bits-requires : tie.Need-from-bits-requires
-from-bits-requires c κs = search needs
-
 returns : tie.Need-returns
 returns c =
     let a = c .before .before .before .args in
@@ -29,4 +20,5 @@ returns c =
     c .from-bits .ensures ∙ rw (e, xor-others _ below)
 
 pub mixed-color-spec : {M : Type 1} → statement M
-mixed-color-spec = tie.close (tie.spec bits-requires bits-requires-2 from-bits-requires returns)
+mixed-color-spec = tie.close
+    (tie.spec (λ c κs. search needs) (λ c κs. search needs) (λ c κs. search needs) returns)

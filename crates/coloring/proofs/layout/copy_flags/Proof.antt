@@ -44,14 +44,5 @@ returns c = sym (c .before .loop .inv .2 ∙ over-done _ _ _ (c .loop-test .left
 pub copy-flags-spec : {M : Type 1} → statement M
 copy-flags-spec =
     tie.close
-    (tie.spec
-    Inv-loop
-    μ-loop
-    loop-holds
-    shared-slice-read-out-flags
-    slice-write-out-flags
-    add-i
-    loop-less
-    loop-again
-    same-length
+    (tie.spec Inv-loop μ-loop loop-holds shared-slice-read-out-flags slice-write-out-flags add-i loop-less loop-again same-length
     returns)

@@ -64,13 +64,4 @@ returns c =
 pub flag-first-spec : {M : Type 1} → statement M
 flag-first-spec =
     tie.close
-    (tie.spec
-    Inv-loop
-    μ-loop
-    loop-holds
-    slice-write-out-flags
-    add-i
-    loop-less
-    loop-again
-    same-length
-    returns)
+    (tie.spec Inv-loop μ-loop loop-holds slice-write-out-flags add-i loop-less loop-again same-length returns)

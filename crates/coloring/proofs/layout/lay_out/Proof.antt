@@ -215,25 +215,6 @@ returns c =
 pub lay-out-spec : {M : Type 1} → statement M
 lay-out-spec =
     tie.close
-    (tie.spec
-    Inv-loop
-    μ-loop
-    loop-holds
-    mul-end
-    shared-slice-read-end
-    cast-end
-    add-end
-    part-edges-requires
-    add-next
-    cast-out-lengths
-    mul-out-lengths
-    slice-write-out-lengths
-    lay-out-part-requires
-    add-i
-    loop-less
-    loop-again
-    same-length
-    same-length-2
-    same-length-3
-    same-length-4
-    returns)
+    (tie.spec Inv-loop μ-loop loop-holds mul-end shared-slice-read-end cast-end add-end part-edges-requires add-next
+    cast-out-lengths mul-out-lengths slice-write-out-lengths lay-out-part-requires add-i loop-less loop-again same-length
+    same-length-2 same-length-3 same-length-4 returns)

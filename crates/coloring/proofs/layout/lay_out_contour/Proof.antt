@@ -52,12 +52,6 @@ module _ (c : tie.Else1) where
   same-edges : length (start (c .before) .args .out-kinds .now) ≡ length (start (c .before) .args .flags .now)
   same-edges = start (c .before) .pre .1 .0 ∙ edges-same _ same
 
-splits-requires : tie.Need-splits-requires
-splits-requires c κs = search needs
-
-first-corner-requires : tie.Need-first-corner-requires
-first-corner-requires c κs = search needs
-
 split-edges-requires : tie.Need-split-edges-requires
 split-edges-requires c κs =
     let branch = c .before .before .before in
@@ -68,18 +62,6 @@ split-edges-requires c κs =
       (m .places, omega (arith, few .1, m .flagged), rw (c .before .before .first-corner .ensures) (omega (arith, inside, m .flagged))),
       (long branch, s .pre .1 .1),
     )
-
-flag-first-requires : tie.Need-flag-first-requires
-flag-first-requires c κs = search needs
-
-same-length : tie.Need-same-length
-same-length c = search needs
-
-same-length-2 : tie.Need-same-length-2
-same-length-2 c = search needs
-
-same-length-3 : tie.Need-same-length-3
-same-length-3 c = search needs
 
 returns : tie.Need-returns
 unfolding splitContour
@@ -108,15 +90,6 @@ copy-flags-requires c κs =
     let branch = edges .before .before .before in
     start (branch .before) .pre .0 .1 ∙ edges-same _ (same branch)
 
-same-length-4 : tie.Need-same-length-4
-same-length-4 c = search needs
-
-same-length-5 : tie.Need-same-length-5
-same-length-5 c = search needs
-
-same-length-6 : tie.Need-same-length-6
-same-length-6 c = search needs
-
 returns-2 : tie.Need-returns-2
 returns-2 c =
     let flags = c .before .before in
@@ -129,18 +102,6 @@ returns-2 c =
 pub lay-out-contour-spec : {M : Type 1} → statement M
 lay-out-contour-spec =
     tie.close
-    (tie.spec
-    splits-requires
-    first-corner-requires
-    split-edges-requires
-    flag-first-requires
-    same-length
-    same-length-2
-    same-length-3
-    returns
-    copy-edges-requires
-    copy-flags-requires
-    same-length-4
-    same-length-5
-    same-length-6
-    returns-2)
+    (tie.spec (λ c κs. search needs) (λ c κs. search needs) split-edges-requires (λ c κs. search needs) (λ c. search needs)
+    (λ c. search needs) (λ c. search needs) returns copy-edges-requires copy-flags-requires (λ c. search needs)
+    (λ c. search needs) (λ c. search needs) returns-2)

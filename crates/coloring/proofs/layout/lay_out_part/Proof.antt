@@ -14,29 +14,11 @@ use Rattle.coloring.proofs.outline.EdgeLaws.{edges-length, edges-betwee
 use Rattle.coloring.proofs.layout.lay_out_part.Statement.{statement}
 use Rattle.coloring.proofs.layout.lay_out_part.Tie as tie
 
-mul-from : tie.Need-mul-from
-mul-from c = search needs
-
-mul-up-to : tie.Need-mul-up-to
-mul-up-to c = search needs
-
-mul-first : tie.Need-mul-first
-mul-first c = search needs
-
-mul-last : tie.Need-mul-last
-mul-last c = search needs
-
 sub-lay-out-contour : tie.Need-sub-lay-out-contour
 sub-lay-out-contour c = search needs
 
 part-lay-out-contour-start : tie.Need-part-lay-out-contour-start
 part-lay-out-contour-start c = sub-lay-out-contour c
-
-part-lay-out-contour-end : tie.Need-part-lay-out-contour-end
-part-lay-out-contour-end c = search needs
-
-mul-lay-out-contour : tie.Need-mul-lay-out-contour
-mul-lay-out-contour c = search needs
 
 sub-lay-out-contour-2 : tie.Need-sub-lay-out-contour-2
 sub-lay-out-contour-2 c = search needs
@@ -44,17 +26,11 @@ sub-lay-out-contour-2 c = search needs
 part-lay-out-contour-start-2 : tie.Need-part-lay-out-contour-start-2
 part-lay-out-contour-start-2 c = sub-lay-out-contour-2 c
 
-part-lay-out-contour-end-2 : tie.Need-part-lay-out-contour-end-2
-part-lay-out-contour-end-2 c = search needs
-
 sub-lay-out-contour-3 : tie.Need-sub-lay-out-contour-3
 sub-lay-out-contour-3 c = sub-lay-out-contour (c .before .before)
 
 part-lay-out-contour-start-3 : tie.Need-part-lay-out-contour-start-3
 part-lay-out-contour-start-3 c = sub-lay-out-contour-3 c
-
-part-lay-out-contour-end-3 : tie.Need-part-lay-out-contour-end-3
-part-lay-out-contour-end-3 c = search needs
 
 sub-lay-out-contour-4 : tie.Need-sub-lay-out-contour-4
 sub-lay-out-contour-4 c = search needs
@@ -62,29 +38,17 @@ sub-lay-out-contour-4 c = search needs
 part-lay-out-contour-start-4 : tie.Need-part-lay-out-contour-start-4
 part-lay-out-contour-start-4 c = sub-lay-out-contour-4 c
 
-part-lay-out-contour-end-4 : tie.Need-part-lay-out-contour-end-4
-part-lay-out-contour-end-4 c = search needs
-
-mul-lay-out-contour-2 : tie.Need-mul-lay-out-contour-2
-mul-lay-out-contour-2 c = search needs
-
 sub-lay-out-contour-5 : tie.Need-sub-lay-out-contour-5
 sub-lay-out-contour-5 c = omega (arith, sub-lay-out-contour-4 (c .before))
 
 part-lay-out-contour-start-5 : tie.Need-part-lay-out-contour-start-5
 part-lay-out-contour-start-5 c = sub-lay-out-contour-5 c
 
-part-lay-out-contour-end-5 : tie.Need-part-lay-out-contour-end-5
-part-lay-out-contour-end-5 c = search needs
-
 sub-lay-out-contour-6 : tie.Need-sub-lay-out-contour-6
 sub-lay-out-contour-6 c = sub-lay-out-contour-4 (c .before .before)
 
 part-lay-out-contour-start-6 : tie.Need-part-lay-out-contour-start-6
 part-lay-out-contour-start-6 c = sub-lay-out-contour-6 c
-
-part-lay-out-contour-end-6 : tie.Need-part-lay-out-contour-end-6
-part-lay-out-contour-end-6 c = search needs
 
 module _ (c : tie.After-slice-known3) where
   abbrev start : tie.Start
@@ -140,33 +104,9 @@ returns c =
 pub lay-out-part-spec : {M : Type 1} → statement M
 lay-out-part-spec =
     tie.close
-    (tie.spec
-    mul-from
-    mul-up-to
-    mul-first
-    mul-last
-    sub-lay-out-contour
-    part-lay-out-contour-start
-    part-lay-out-contour-end
-    mul-lay-out-contour
-    sub-lay-out-contour-2
-    part-lay-out-contour-start-2
-    part-lay-out-contour-end-2
-    sub-lay-out-contour-3
-    part-lay-out-contour-start-3
-    part-lay-out-contour-end-3
-    sub-lay-out-contour-4
-    part-lay-out-contour-start-4
-    part-lay-out-contour-end-4
-    mul-lay-out-contour-2
-    sub-lay-out-contour-5
-    part-lay-out-contour-start-5
-    part-lay-out-contour-end-5
-    sub-lay-out-contour-6
-    part-lay-out-contour-start-6
-    part-lay-out-contour-end-6
-    lay-out-contour-requires
-    same-length
-    same-length-2
-    same-length-3
-    returns)
+    (tie.spec (λ c. search needs) (λ c. search needs) (λ c. search needs) (λ c. search needs) sub-lay-out-contour
+    part-lay-out-contour-start (λ c. search needs) (λ c. search needs) sub-lay-out-contour-2 part-lay-out-contour-start-2
+    (λ c. search needs) sub-lay-out-contour-3 part-lay-out-contour-start-3 (λ c. search needs) sub-lay-out-contour-4
+    part-lay-out-contour-start-4 (λ c. search needs) (λ c. search needs) sub-lay-out-contour-5 part-lay-out-contour-start-5
+    (λ c. search needs) sub-lay-out-contour-6 part-lay-out-contour-start-6 (λ c. search needs) lay-out-contour-requires
+    same-length same-length-2 same-length-3 returns)

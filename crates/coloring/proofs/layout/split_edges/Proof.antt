@@ -119,18 +119,5 @@ returns c =
 pub split-edges-spec : {M : Type 1} → statement M
 split-edges-spec =
     tie.close
-    (tie.spec
-    Inv-loop
-    μ-loop
-    loop-holds
-    add-edge-at
-    rem-edge-at
-    edge-at-requires
-    mul-write-thirds
-    write-thirds-requires
-    add-i
-    loop-less
-    loop-again
-    same-length
-    same-length-2
-    returns)
+    (tie.spec Inv-loop μ-loop loop-holds add-edge-at rem-edge-at edge-at-requires mul-write-thirds write-thirds-requires add-i
+    loop-less loop-again same-length same-length-2 returns)

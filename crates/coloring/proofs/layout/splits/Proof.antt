@@ -5,9 +5,6 @@ use Rattle.coloring.specs.Layout.{splits}
 use Rattle.coloring.proofs.layout.splits.Statement.{statement}
 use Rattle.coloring.proofs.layout.splits.Tie as tie
 
-count-corners-requires : tie.Need-count-corners-requires
-count-corners-requires c κs = search needs
-
 returns : tie.Need-returns
 unfolding splits
 returns c = rw (le-leb _ 2 (c .before .if1 .taken), c .count-corners .ensures)
@@ -17,4 +14,5 @@ unfolding splits
 returns-2 c = rw (lt-leb _ 2 (c .if1 .left))
 
 pub splits-spec : {M : Type 1} → statement M
-splits-spec = tie.close (tie.spec count-corners-requires returns returns-2)
+splits-spec = tie.close
+    (tie.spec (λ c κs. search needs) returns returns-2)

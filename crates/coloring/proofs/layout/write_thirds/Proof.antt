@@ -10,30 +10,6 @@ use Rattle.coloring.proofs.outline.StoreLaws.{storing-part, storing-one
 use Rattle.coloring.proofs.layout.write_thirds.Statement.{statement}
 use Rattle.coloring.proofs.layout.write_thirds.Tie as tie
 
-split-in-thirds-requires : tie.Need-split-in-thirds-requires
-split-in-thirds-requires c κs = search needs
-
-write-edge-requires : tie.Need-write-edge-requires
-write-edge-requires c κs = search needs
-
-add-write-edge : tie.Need-add-write-edge
-add-write-edge c = search needs
-
-write-edge-requires-2 : tie.Need-write-edge-requires-2
-write-edge-requires-2 c κs = search needs
-
-add-write-edge-2 : tie.Need-add-write-edge-2
-add-write-edge-2 c = search needs
-
-write-edge-requires-3 : tie.Need-write-edge-requires-3
-write-edge-requires-3 c κs = search needs
-
-same-length : tie.Need-same-length
-same-length c = search needs
-
-same-length-2 : tie.Need-same-length-2
-same-length-2 c = search needs
-
 returns : tie.Need-returns
 unfolding thirds
 returns c =
@@ -65,13 +41,5 @@ returns c =
 pub write-thirds-spec : {M : Type 1} → statement M
 write-thirds-spec =
     tie.close
-    (tie.spec
-    split-in-thirds-requires
-    write-edge-requires
-    add-write-edge
-    write-edge-requires-2
-    add-write-edge-2
-    write-edge-requires-3
-    same-length
-    same-length-2
-    returns)
+    (tie.spec (λ c κs. search needs) (λ c κs. search needs) (λ c. search needs) (λ c κs. search needs) (λ c. search needs)
+    (λ c κs. search needs) (λ c. search needs) (λ c. search needs) returns)

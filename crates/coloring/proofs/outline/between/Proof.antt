@@ -9,4 +9,5 @@ returns-2 : tie.Need-returns-2
 returns-2 c = rw (c .if1 .left)
 
 pub between-spec : {M : Type 1} → statement M
-between-spec = tie.close (tie.spec returns returns-2)
+between-spec = tie.close
+    (tie.spec returns returns-2)

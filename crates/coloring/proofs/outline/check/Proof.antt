@@ -29,9 +29,6 @@ returns : tie.Need-returns
 unfolding check firstRefusal
 returns c = rw (lt-leb _ 64 (c .if1 .taken))
 
-total-requires : tie.Need-total-requires
-total-requires c κs = search needs
-
 returns-2 : tie.Need-returns-2
 unfolding check firstRefusal
 returns-2 c =
@@ -43,9 +40,6 @@ unfolding check firstRefusal
 returns-3 c =
     let counted = c .before .before .total in
     rw (few (c .before), ← counted .ensures, ne-eqb _ _ (c .if3 .taken))
-
-mul-if4 : tie.Need-mul-if4
-mul-if4 c = search needs
 
 returns-4 : tie.Need-returns-4
 unfolding check firstRefusal
@@ -64,9 +58,6 @@ module _ (c : tie.Else4) where
       let counted = within .before .total in
       let a = start within .args in
       rw (← counted .ensures, eq-eqb _ _ (c .before .if3 .left), eq-eqb _ _ (c .if4 .left))
-
-kinds-known-requires : tie.Need-kinds-known-requires
-kinds-known-requires c κs = search needs
 
 returns-5 : tie.Need-returns-5
 unfolding check firstRefusal
@@ -97,9 +88,6 @@ fit : (c : tie.Else6)
     coordinatesFit (a .kinds .now) (a .points .now) ≡ true
 fit c = sym (c .before .coordinates-fit .ensures) ∙ not-false _ (c .if6 .left)
 
-between-requires : tie.Need-between-requires
-between-requires c κs = search needs
-
 returns-7 : tie.Need-returns-7
 unfolding check firstRefusal
 returns-7 c =
@@ -119,17 +107,5 @@ returns-8 c =
 pub check-spec : {M : Type 1} → statement M
 check-spec =
     tie.close
-    (tie.spec
-    returns
-    total-requires
-    returns-2
-    returns-3
-    mul-if4
-    returns-4
-    kinds-known-requires
-    returns-5
-    coordinates-fit-requires
-    returns-6
-    between-requires
-    returns-7
-    returns-8)
+    (tie.spec returns (λ c κs. search needs) returns-2 returns-3 (λ c. search needs) returns-4 (λ c κs. search needs) returns-5
+    coordinates-fit-requires returns-6 (λ c κs. search needs) returns-7 returns-8)

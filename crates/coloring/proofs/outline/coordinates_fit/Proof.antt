@@ -51,9 +51,6 @@ part-places-fit-start c = omega (arith, used c)
 part-places-fit-end : tie.Need-part-places-fit-end Inv-loop μ-loop
 part-places-fit-end c = omega (arith, used c)
 
-places-fit-requires : tie.Need-places-fit-requires Inv-loop μ-loop
-places-fit-requires c κs = search needs
-
 -- the part that was tested holds the used places of the edge
 module _ (c : tie.After-places-fit Inv-loop μ-loop) where
   abbrev turn : tie.In-loop Inv-loop μ-loop
@@ -92,21 +89,5 @@ returns-2 c = fit-end _ _ _ (c .before .loop .inv .1) (c .loop-test .left)
 pub coordinates-fit-spec : {M : Type 1} → statement M
 coordinates-fit-spec =
     tie.close
-    (tie.spec
-    Inv-loop
-    μ-loop
-    loop-holds
-    mul-at
-    shared-slice-read-used-places
-    used-places-requires
-    add-end
-    mul-places-fit
-    sub-places-fit
-    part-places-fit-start
-    part-places-fit-end
-    places-fit-requires
-    returns
-    add-i
-    loop-less
-    loop-again
-    returns-2)
+    (tie.spec Inv-loop μ-loop loop-holds mul-at shared-slice-read-used-places used-places-requires add-end mul-places-fit
+    sub-places-fit part-places-fit-start part-places-fit-end (λ c κs. search needs) returns add-i loop-less loop-again returns-2)

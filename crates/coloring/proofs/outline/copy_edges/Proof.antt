@@ -78,15 +78,5 @@ returns c =
 pub copy-edges-spec : {M : Type 1} → statement M
 copy-edges-spec =
     tie.close
-    (tie.spec
-    Inv-loop
-    μ-loop
-    loop-holds
-    edge-at-requires
-    write-edge-requires
-    add-i
-    loop-less
-    loop-again
-    same-length
-    same-length-2
+    (tie.spec Inv-loop μ-loop loop-holds edge-at-requires write-edge-requires add-i loop-less loop-again same-length same-length-2
     returns)

@@ -10,48 +10,6 @@ use borrow.Author.Needs.{needs}
 use Rattle.coloring.proofs.outline.edge_at.Statement.{statement}
 use Rattle.coloring.proofs.outline.edge_at.Tie as tie
 
-mul-at : tie.Need-mul-at
-mul-at c = search needs
-
-add-end : tie.Need-add-end
-add-end c = search needs
-
-mul-copy : tie.Need-mul-copy
-mul-copy c = search needs
-
-sub-copy : tie.Need-sub-copy
-sub-copy c = search needs
-
-part-copy-start : tie.Need-part-copy-start
-part-copy-start c = search needs
-
-part-copy-end : tie.Need-part-copy-end
-part-copy-end c = search needs
-
-slice-aggregate-copy : tie.Need-slice-aggregate-copy
-slice-aggregate-copy c = search needs
-
-copy-requires : tie.Need-copy-requires
-copy-requires c κs = search needs
-
-shared-slice-read-from-stored : tie.Need-shared-slice-read-from-stored
-shared-slice-read-from-stored c = search needs
-
-from-stored-requires : tie.Need-from-stored-requires
-from-stored-requires c κs = search needs
-
-enum-known-e : tie.Need-enum-known-e
-enum-known-e c = search needs
-
-enum-told : tie.Need-enum-told
-enum-told c = search needs
-
-zero-requires : tie.Need-zero-requires
-zero-requires c κs = search needs
-
-zero-requires-2 : tie.Need-zero-requires-2
-zero-requires-2 c κs = search needs
-
 -- what was decoded is the edge at place i
 module _ (c : tie.After-from-stored) where
   abbrev copied : tie.After-copy
@@ -79,20 +37,6 @@ returns-2 c = rw (c .before .zero .ensures, c .zero2 .ensures)
 pub edge-at-spec : {M : Type 1} → statement M
 edge-at-spec =
     tie.close
-    (tie.spec
-    mul-at
-    add-end
-    mul-copy
-    sub-copy
-    part-copy-start
-    part-copy-end
-    slice-aggregate-copy
-    copy-requires
-    shared-slice-read-from-stored
-    from-stored-requires
-    enum-known-e
-    enum-told
-    zero-requires
-    zero-requires-2
-    returns
-    returns-2)
+    (tie.spec (λ c. search needs) (λ c. search needs) (λ c. search needs) (λ c. search needs) (λ c. search needs)
+    (λ c. search needs) (λ c. search needs) (λ c κs. search needs) (λ c. search needs) (λ c κs. search needs) (λ c. search needs)
+    (λ c. search needs) (λ c κs. search needs) (λ c κs. search needs) returns returns-2)

@@ -23,9 +23,6 @@ loop-holds c = (omega arith, refl)
 shared-slice-read-known-kind : tie.Need-shared-slice-read-known-kind Inv-loop μ-loop
 shared-slice-read-known-kind c = omega arith
 
-known-kind-requires : tie.Need-known-kind-requires Inv-loop μ-loop
-known-kind-requires c κs = search needs
-
 returns : tie.Need-returns Inv-loop μ-loop
 returns c =
     let turn = c .before .before .before in
@@ -50,14 +47,5 @@ returns-2 c = scan-end knownKind 0 _ _ (c .before .loop .inv .1) (c .loop-test .
 pub kinds-known-spec : {M : Type 1} → statement M
 kinds-known-spec =
     tie.close
-    (tie.spec
-    Inv-loop
-    μ-loop
-    loop-holds
-    shared-slice-read-known-kind
-    known-kind-requires
-    returns
-    add-i
-    loop-less
-    loop-again
+    (tie.spec Inv-loop μ-loop loop-holds shared-slice-read-known-kind (λ c κs. search needs) returns add-i loop-less loop-again
     returns-2)

@@ -10,4 +10,5 @@ returns-2 : tie.Need-returns-2
 returns-2 c = rw (lt-leb _ _ (c .if1 .left))
 
 pub known-kind-spec : {M : Type 1} → statement M
-known-kind-spec = tie.close (tie.spec returns returns-2)
+known-kind-spec = tie.close
+    (tie.spec returns returns-2)

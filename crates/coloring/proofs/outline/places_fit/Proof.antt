@@ -27,9 +27,6 @@ mul-in-range c = omega arith
 shared-slice-read-in-range : tie.Need-shared-slice-read-in-range Inv-loop μ-loop
 shared-slice-read-in-range c = omega arith
 
-in-range-requires : tie.Need-in-range-requires Inv-loop μ-loop
-in-range-requires c κs = search needs
-
 returns : tie.Need-returns Inv-loop μ-loop
 returns c =
     let turn = c .before .before .before in
@@ -54,15 +51,5 @@ returns-2 c = scan-end inRange nan _ _ (c .before .loop .inv .1) (c .loop-test .
 pub places-fit-spec : {M : Type 1} → statement M
 places-fit-spec =
     tie.close
-    (tie.spec
-    Inv-loop
-    μ-loop
-    loop-holds
-    mul-in-range
-    shared-slice-read-in-range
-    in-range-requires
-    returns
-    add-i
-    loop-less
-    loop-again
-    returns-2)
+    (tie.spec Inv-loop μ-loop loop-holds mul-in-range shared-slice-read-in-range (λ c κs. search needs) returns add-i loop-less
+    loop-again returns-2)

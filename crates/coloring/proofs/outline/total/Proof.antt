@@ -48,15 +48,4 @@ returns c = omega (arith, total-end (c .before .before .args .lengths .now) (c .
 pub total-spec : {M : Type 1} → statement M
 total-spec =
     tie.close
-    (tie.spec
-    Inv-loop
-    μ-loop
-    loop-holds
-    mul-sum
-    shared-slice-read-sum
-    cast-sum
-    add-sum
-    add-i
-    loop-less
-    loop-again
-    returns)
+    (tie.spec Inv-loop μ-loop loop-holds mul-sum shared-slice-read-sum cast-sum add-sum add-i loop-less loop-again returns)

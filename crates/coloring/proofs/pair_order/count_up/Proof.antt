@@ -58,15 +58,4 @@ returns c =
 pub count-up-spec : {M : Type 1} → statement M
 count-up-spec =
     tie.close
-    (tie.spec
-    Inv-loop
-    μ-loop
-    loop-holds
-    cast-order
-    mul-order
-    slice-write-order
-    add-k
-    loop-less
-    loop-again
-    same-length
-    returns)
+    (tie.spec Inv-loop μ-loop loop-holds cast-order mul-order slice-write-order add-k loop-less loop-again same-length returns)

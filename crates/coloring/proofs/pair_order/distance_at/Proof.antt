@@ -12,12 +12,6 @@ use Rattle.coloring.proofs.pair_order.distance_at.Tie as tie
 number : (c : tie.Start) → getD (c .args .order .now) (c .args .i) 0 < length (c .args .distances .now)
 number c = each-at _ (c .args .order .now) 0 (c .pre .0) (c .args .i) (c .pre .1)
 
-mul-result : tie.Need-mul-result
-mul-result c = search needs
-
-shared-slice-read-result : tie.Need-shared-slice-read-result
-shared-slice-read-result c = search needs
-
 cast-result : tie.Need-cast-result
 cast-result c = omega (arith, c .shared-slice-known .given (c .before .args .i))
 
@@ -33,10 +27,4 @@ returns c = getD-any (c .before .before .args .distances .now) _ nan _ (number (
 pub distance-at-spec : {M : Type 1} → statement M
 distance-at-spec =
     tie.close
-    (tie.spec
-    mul-result
-    shared-slice-read-result
-    cast-result
-    mul-result-2
-    shared-slice-read-result-2
-    returns)
+    (tie.spec (λ c. search needs) (λ c. search needs) cast-result mul-result-2 shared-slice-read-result-2 returns)

@@ -51,15 +51,5 @@ returns-2 c = scan-end validDistance nan _ (c .before .loop .i) (c .before .loop
 pub distances-valid-spec : {M : Type 1} → statement M
 distances-valid-spec =
     tie.close
-    (tie.spec
-    Inv-loop
-    μ-loop
-    loop-holds
-    mul-valid-distance
-    shared-slice-read-valid-distance
-    valid-distance-requires
-    returns
-    add-i
-    loop-less
-    loop-again
-    returns-2)
+    (tie.spec Inv-loop μ-loop loop-holds mul-valid-distance shared-slice-read-valid-distance valid-distance-requires returns add-i
+    loop-less loop-again returns-2)

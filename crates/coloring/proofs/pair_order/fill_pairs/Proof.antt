@@ -92,25 +92,5 @@ returns c = written-all _ _ _ (subst (Written _ _ _) (rows-end _ (c .before .loo
 pub fill-pairs-spec : {M : Type 1} → statement M
 fill-pairs-spec =
     tie.close
-    (tie.spec
-    Inv-loop2
-    μ-loop2
-    Inv-loop
-    μ-loop
-    loop-holds
-    add-j
-    loop2-holds
-    mul-codes
-    add-codes
-    cast-codes
-    mul-codes-2
-    slice-write-codes
-    add-k
-    add-j-2
-    loop2-less
-    loop2-again
-    add-i
-    loop-less
-    loop-again
-    same-length
-    returns)
+    (tie.spec Inv-loop2 μ-loop2 Inv-loop μ-loop loop-holds add-j loop2-holds mul-codes add-codes cast-codes mul-codes-2
+    slice-write-codes add-k add-j-2 loop2-less loop2-again add-i loop-less loop-again same-length returns)

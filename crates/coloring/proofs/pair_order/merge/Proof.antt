@@ -98,27 +98,6 @@ returns c = merged-all _ _ _ _ (c .before .loop .i) (c .before .loop .j) (c .bef
 pub merge-spec : {M : Type 1} → statement M
 merge-spec =
     tie.close
-    (tie.spec
-    Inv-loop
-    μ-loop
-    loop-holds
-    add-loop
-    takes-right-requires
-    mul-to
-    shared-slice-read-to
-    add-to
-    mul-to-2
-    slice-write-to
-    add-j
-    loop-less
-    loop-again
-    mul-to-3
-    shared-slice-read-to-2
-    add-to-2
-    mul-to-4
-    slice-write-to-2
-    add-i
-    loop-less-2
-    loop-again-2
-    same-length
-    returns)
+    (tie.spec Inv-loop μ-loop loop-holds add-loop takes-right-requires mul-to shared-slice-read-to add-to mul-to-2 slice-write-to
+    add-j loop-less loop-again mul-to-3 shared-slice-read-to-2 add-to-2 mul-to-4 slice-write-to-2 add-i loop-less-2 loop-again-2
+    same-length returns)

@@ -26,18 +26,6 @@ slice-aggregate-merge c =
     let s = start (c .before) in
     sym (length-take-le (s .args .half) (s .args .order .now) (s .pre .1))
 
-mul-merge : tie.Need-mul-merge
-mul-merge c = search needs
-
-sub-merge : tie.Need-sub-merge
-sub-merge c = search needs
-
-part-merge-start : tie.Need-part-merge-start
-part-merge-start c = search needs
-
-part-merge-end : tie.Need-part-merge-end
-part-merge-end c = search needs
-
 merge-requires : tie.Need-merge-requires
 merge-requires c κs =
     let s = start (c .before .before .before) in
@@ -45,15 +33,6 @@ merge-requires c κs =
       numbers = record { first = each-take _ (s .args .half) _ (s .pre .0 .numbers); second = each-drop _ (s .args .half) _ (s .pre .0 .numbers) };
       room = simp (length-take, length-drop) (omega arith);
     })
-
-copy-requires : tie.Need-copy-requires
-copy-requires c κs = search needs
-
-same-length : tie.Need-same-length
-same-length c = search needs
-
-same-length-2 : tie.Need-same-length-2
-same-length-2 c = search needs
 
 returns : tie.Need-returns
 returns c =
@@ -66,14 +45,5 @@ returns c =
 pub merge-halves-spec : {M : Type 1} → statement M
 merge-halves-spec =
     tie.close
-    (tie.spec
-    slice-aggregate-merge
-    mul-merge
-    sub-merge
-    part-merge-start
-    part-merge-end
-    merge-requires
-    copy-requires
-    same-length
-    same-length-2
-    returns)
+    (tie.spec slice-aggregate-merge (λ c. search needs) (λ c. search needs) (λ c. search needs) (λ c. search needs) merge-requires
+    (λ c κs. search needs) (λ c. search needs) (λ c. search needs) returns)

@@ -64,12 +64,6 @@ sort-by-distance-requires c κs =
     let at = c .before .before .before .before in
     record { numbers = subst (Below _) (sym (numbers at)) (range-below 0 _ _ (omega arith)); room = work-size at; valid = start at .pre .0 .valid }
 
-same-length : tie.Need-same-length
-same-length c = search needs
-
-same-length-2 : tie.Need-same-length-2
-same-length-2 c = search needs
-
 returns : tie.Need-returns
 returns c =
     let sort = c .before .before .before in
@@ -80,12 +74,5 @@ returns c =
 pub order-pairs-spec : {M : Type 1} → statement M
 order-pairs-spec =
     tie.close
-    (tie.spec
-    fill-pairs-requires
-    count-up-requires
-    array-borrow-prefix-work
-    slice-aggregate-sort-by-distance
-    sort-by-distance-requires
-    same-length
-    same-length-2
-    returns)
+    (tie.spec fill-pairs-requires count-up-requires array-borrow-prefix-work slice-aggregate-sort-by-distance
+    sort-by-distance-requires (λ c. search needs) (λ c. search needs) returns)

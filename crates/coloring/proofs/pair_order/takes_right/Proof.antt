@@ -19,12 +19,6 @@ returns-2 c =
     let args = start (c .before) .args in
     rw (c .if2 .taken) (next-left (distanceOf (args .distances .now)) (args .left .now) (args .right .now) (args .i) (omega arith))
 
-distance-at-requires : tie.Need-distance-at-requires
-distance-at-requires c κs = search needs
-
-distance-at-requires-2 : tie.Need-distance-at-requires-2
-distance-at-requires-2 c κs = search needs
-
 returns-3 : tie.Need-returns-3
 returns-3 c =
     let args = start (c .before .before .before) .args in
@@ -32,5 +26,4 @@ returns-3 c =
     (next-compare (distanceOf (args .distances .now)) (args .left .now) (args .right .now) (args .i) (args .j) (omega arith) (omega arith))
 
 pub takes-right-spec : {M : Type 1} → statement M
-takes-right-spec =
-    tie.close (tie.spec returns returns-2 distance-at-requires distance-at-requires-2 returns-3)
+takes-right-spec = tie.close (tie.spec returns returns-2 (λ c κs. search needs) (λ c κs. search needs) returns-3)

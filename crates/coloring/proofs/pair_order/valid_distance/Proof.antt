@@ -13,4 +13,5 @@ unfolding validDistance
 returns-2 c = rw (c .if1 .left)
 
 pub valid-distance-spec : {M : Type 1} → statement M
-valid-distance-spec = tie.close (tie.spec returns returns-2)
+valid-distance-spec = tie.close
+    (tie.spec returns returns-2)

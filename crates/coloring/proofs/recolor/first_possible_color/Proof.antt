@@ -7,12 +7,10 @@ use borrow.Author.Needs.{needs}
 use Rattle.coloring.proofs.recolor.first_possible_color.Statement.{statement}
 use Rattle.coloring.proofs.recolor.first_possible_color.Tie as tie
 
-array-read-result : tie.Need-array-read-result
-array-read-result c = search needs
-
 returns : tie.Need-returns
 unfolding firstPossibleColor
 returns c = getD-any (3 ∷ 0 ∷ 1 ∷ 0 ∷ 2 ∷ 2 ∷ 1 ∷ 0 ∷ []) (c .args .possible) 0 3 (omega arith)
 
 pub first-possible-color-spec : {M : Type 1} → statement M
-first-possible-color-spec = tie.close (tie.spec array-read-result returns)
+first-possible-color-spec = tie.close
+    (tie.spec (λ c. search needs) returns)

@@ -4,9 +4,6 @@ use borrow.Author.Needs.{needs}
 use Rattle.coloring.proofs.recolor.other_colors.Statement.{statement}
 use Rattle.coloring.proofs.recolor.other_colors.Tie as tie
 
-shl-result : tie.Need-shl-result
-shl-result c = search needs
-
 sub-result : tie.Need-sub-result
 sub-result c = rw (shifted (c .args .c) (c .pre)) (others (c .args .c) (c .pre) .0)
 
@@ -14,4 +11,5 @@ returns : tie.Need-returns
 returns c = rw (shifted (c .args .c) (c .pre))
 
 pub other-colors-spec : {M : Type 1} → statement M
-other-colors-spec = tie.close (tie.spec shl-result sub-result returns)
+other-colors-spec = tie.close
+    (tie.spec (λ c. search needs) sub-result returns)

@@ -119,34 +119,13 @@ module _ (c : tie.After-uncolor-same-neighbors) where
 abbrev uncolored-before : tie.After-queue3 → tie.After-uncolor-same-neighbors
 uncolored-before c = c .before .before .before .before .before
 
-copy-requires : tie.Need-copy-requires
-copy-requires c κs = search needs
-
-shared-slice-read-c : tie.Need-shared-slice-read-c
-shared-slice-read-c c = search needs
-
-other-colors-requires : tie.Need-other-colors-requires
-other-colors-requires c κs = search needs
-
-first-possible-color-requires : tie.Need-first-possible-color-requires
-first-possible-color-requires c κs = search needs
-
-slice-write-buffer : tie.Need-slice-write-buffer
-slice-write-buffer c = search needs
-
 row-requires : tie.Need-row-requires
 row-requires c κs = let o = start c .pre .0 in (o .entries, o .second, o .few)
-
-slice-aggregate-uncolor-same-neighbors : tie.Need-slice-aggregate-uncolor-same-neighbors
-slice-aggregate-uncolor-same-neighbors c = search needs
 
 uncolor-same-neighbors-requires : tie.Need-uncolor-same-neighbors-requires
 uncolor-same-neighbors-requires c κs =
     let r = c .before .before in
     (ready r, omega (arith, size (r .before), start (r .before) .pre .0 .second))
-
-slice-aggregate-walk : tie.Need-slice-aggregate-walk
-slice-aggregate-walk c = search needs
 
 walk-requires : tie.Need-walk-requires
 walk-requires c κs = walking (uncolored-before c)
@@ -168,16 +147,5 @@ returns c =
 pub recolor-spec : {M : Type 1} → statement M
 recolor-spec =
     tie.close
-    (tie.spec
-    copy-requires
-    shared-slice-read-c
-    other-colors-requires
-    first-possible-color-requires
-    slice-write-buffer
-    row-requires
-    slice-aggregate-uncolor-same-neighbors
-    uncolor-same-neighbors-requires
-    slice-aggregate-walk
-    walk-requires
-    same-length
-    returns)
+    (tie.spec (λ c κs. search needs) (λ c. search needs) (λ c κs. search needs) (λ c κs. search needs) (λ c. search needs)
+    row-requires (λ c. search needs) uncolor-same-neighbors-requires (λ c. search needs) walk-requires same-length returns)

@@ -11,12 +11,6 @@ mul-start c = omega (arith, row-inside (c .args .n) (c .args .v) (c .pre .1), sq
 add-end : tie.Need-add-end
 add-end c = omega (arith, row-inside (c .args .n) (c .args .v) (c .pre .1), square-below (c .pre .2))
 
-sub-result : tie.Need-sub-result
-sub-result c = search needs
-
-part-result-start : tie.Need-part-result-start
-part-result-start c = search needs
-
 part-result-end : tie.Need-part-result-end
 part-result-end c = omega (arith, row-inside (c .args .n) (c .args .v) (c .pre .1))
 
@@ -24,4 +18,5 @@ returns : tie.Need-returns
 returns c = row-part _ _ _
 
 pub row-spec : {M : Type 1} → statement M
-row-spec = tie.close (tie.spec mul-start add-end sub-result part-result-start part-result-end returns)
+row-spec = tie.close
+    (tie.spec mul-start add-end (λ c. search needs) (λ c. search needs) part-result-end returns)

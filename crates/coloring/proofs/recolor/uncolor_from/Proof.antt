@@ -74,14 +74,4 @@ returns c =
 pub uncolor-from-spec : {M : Type 1} → statement M
 uncolor-from-spec =
     tie.close
-    (tie.spec
-    Inv-loop
-    μ-loop
-    loop-holds
-    uncolor-one-requires
-    add-i
-    loop-less
-    loop-again
-    same-length
-    same-length-2
-    returns)
+    (tie.spec Inv-loop μ-loop loop-holds uncolor-one-requires add-i loop-less loop-again same-length same-length-2 returns)

@@ -9,18 +9,6 @@ use borrow.Author.Needs.{needs}
 use Rattle.coloring.proofs.recolor.uncolor_one.Statement.{statement}
 use Rattle.coloring.proofs.recolor.uncolor_one.Tie as tie
 
-shared-slice-read-if1 : tie.Need-shared-slice-read-if1
-shared-slice-read-if1 c = search needs
-
-slice-read-if2 : tie.Need-slice-read-if2
-slice-read-if2 c = search needs
-
-slice-write-coloring : tie.Need-slice-write-coloring
-slice-write-coloring c = search needs
-
-cast-queue : tie.Need-cast-queue
-cast-queue c = search needs
-
 room : (c : tie.Then2) → c .before .before .before .before .args .waiting < 64
 room c =
     let start = c .before .before .before .before in
@@ -29,17 +17,8 @@ room c =
 add-queue : tie.Need-add-queue
 add-queue c = omega (arith, room c)
 
-slice-write-queue : tie.Need-slice-write-queue
-slice-write-queue c = search needs
-
 add-result : tie.Need-add-result
 add-result c = omega (arith, room c)
-
-same-length : tie.Need-same-length
-same-length c = search needs
-
-same-length-2 : tie.Need-same-length-2
-same-length-2 c = search needs
 
 returns : tie.Need-returns
 unfolding uncolored
@@ -58,15 +37,5 @@ returns-2 c =
 pub uncolor-one-spec : {M : Type 1} → statement M
 uncolor-one-spec =
     tie.close
-    (tie.spec
-    shared-slice-read-if1
-    slice-read-if2
-    slice-write-coloring
-    cast-queue
-    add-queue
-    slice-write-queue
-    add-result
-    same-length
-    same-length-2
-    returns
-    returns-2)
+    (tie.spec (λ c. search needs) (λ c. search needs) (λ c. search needs) (λ c. search needs) add-queue (λ c. search needs)
+    add-result (λ c. search needs) (λ c. search needs) returns returns-2)

@@ -33,12 +33,6 @@ module _ (c : tie.After-slice-known4) where
       ≡ uncolorFrom (start .args .entries .now) (start .args .c) (suc (start .args .v)) left given
   moved = rw add-one at (upper .uncolor-from .ensures)
 
-add-above : tie.Need-add-above
-add-above c = search needs
-
-uncolor-from-requires : tie.Need-uncolor-from-requires
-uncolor-from-requires c κs = search needs
-
 uncolor-from-requires-2 : tie.Need-uncolor-from-requires-2
 uncolor-from-requires-2 c κs =
     let u = c .before .before in
@@ -47,12 +41,6 @@ uncolor-from-requires-2 c κs =
     let run = upper u .uncolor-from in
     let lost = from-uncolors (args .entries .now) (args .c) (ready .color) (suc (args .v)) (left u) (given u) in
     (ring-kept ready lost (run .last .0) (run .last .1 .0) (run .result) (moved u) (run .kept .1 .0), omega arith)
-
-same-length : tie.Need-same-length
-same-length c = search needs
-
-same-length-2 : tie.Need-same-length-2
-same-length-2 c = search needs
 
 returns : tie.Need-returns
 unfolding uncolorSameNeighbors
@@ -63,10 +51,4 @@ returns c =
 pub uncolor-same-neighbors-spec : {M : Type 1} → statement M
 uncolor-same-neighbors-spec =
     tie.close
-    (tie.spec
-    add-above
-    uncolor-from-requires
-    uncolor-from-requires-2
-    same-length
-    same-length-2
-    returns)
+    (tie.spec (λ c. search needs) (λ c κs. search needs) uncolor-from-requires-2 (λ c. search needs) (λ c. search needs) returns)

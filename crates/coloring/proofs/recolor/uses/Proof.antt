@@ -47,13 +47,4 @@ returns c =
 pub uses-spec : {M : Type 1} → statement M
 uses-spec =
     tie.close
-    (tie.spec
-    Inv-loop
-    μ-loop
-    loop-holds
-    shared-slice-read-found
-    shared-slice-read-found-2
-    add-i
-    loop-less
-    loop-again
-    returns)
+    (tie.spec Inv-loop μ-loop loop-holds shared-slice-read-found shared-slice-read-found-2 add-i loop-less loop-again returns)

@@ -6,24 +6,6 @@ use borrow.Author.Needs.{needs}
 use Rattle.coloring.proofs.recolor.vertex_possible_colors.Statement.{statement}
 use Rattle.coloring.proofs.recolor.vertex_possible_colors.Tie as tie
 
-uses-requires : tie.Need-uses-requires
-uses-requires c κs = search needs
-
-unless-used-requires : tie.Need-unless-used-requires
-unless-used-requires c κs = search needs
-
-uses-requires-2 : tie.Need-uses-requires-2
-uses-requires-2 c κs = search needs
-
-unless-used-requires-2 : tie.Need-unless-used-requires-2
-unless-used-requires-2 c κs = search needs
-
-uses-requires-3 : tie.Need-uses-requires-3
-uses-requires-3 c κs = search needs
-
-unless-used-requires-3 : tie.Need-unless-used-requires-3
-unless-used-requires-3 c κs = search needs
-
 returns : tie.Need-returns
 unfolding vertexPossibleColors
 returns c =
@@ -44,13 +26,5 @@ add-result c = omega (arith, add-result-2 c)
 pub vertex-possible-colors-spec : {M : Type 1} → statement M
 vertex-possible-colors-spec =
     tie.close
-    (tie.spec
-    uses-requires
-    unless-used-requires
-    uses-requires-2
-    unless-used-requires-2
-    uses-requires-3
-    unless-used-requires-3
-    add-result
-    add-result-2
-    returns)
+    (tie.spec (λ c κs. search needs) (λ c κs. search needs) (λ c κs. search needs) (λ c κs. search needs) (λ c κs. search needs)
+    (λ c κs. search needs) add-result add-result-2 returns)

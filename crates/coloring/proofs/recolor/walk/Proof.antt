@@ -280,34 +280,7 @@ returns-2 c =
 pub walk-spec : {M : Type 1} → statement M
 walk-spec =
     tie.close
-    (tie.spec
-    Inv-loop
-    μ-loop
-    Inv-walk
-    μ-walk
-    walk-holds
-    slice-read-i
-    cast-i
-    row-requires
-    vertex-possible-colors-requires
-    add-head
-    sub-waiting
-    first-possible-color-requires
-    slice-write-coloring
-    walk-less
-    walk-again
-    shared-slice-read-joined
-    loop-holds
-    add-step
-    loop-less
-    loop-again
-    slice-write-coloring-2
-    uncolor-same-neighbors-requires
-    walk-less-2
-    walk-again-2
-    same-length
-    same-length-2
-    returns
-    same-length-3
-    same-length-4
-    returns-2)
+    (tie.spec Inv-loop μ-loop Inv-walk μ-walk walk-holds slice-read-i cast-i row-requires vertex-possible-colors-requires add-head
+    sub-waiting first-possible-color-requires slice-write-coloring walk-less walk-again shared-slice-read-joined loop-holds
+    add-step loop-less loop-again slice-write-coloring-2 uncolor-same-neighbors-requires walk-less-2 walk-again-2 same-length
+    same-length-2 returns same-length-3 same-length-4 returns-2)

@@ -132,23 +132,7 @@ returns c =
 pub color-second-degree-graph-spec : {M : Type 1} → statement M
 color-second-degree-graph-spec =
     tie.close
-    (tie.spec
-    Inv-loop
-    μ-loop
-    loop-holds
-    mul-start
-    add-end
-    slice-reshare-prefix-vertex-possible-colors
-    slice-aggregate-vertex-possible-colors
-    sub-vertex-possible-colors
-    part-vertex-possible-colors-start
-    part-vertex-possible-colors-end
-    vertex-possible-colors-requires
-    starting-color-requires
-    cast-coloring
-    slice-write-coloring
-    add-i
-    loop-less
-    loop-again
-    same-length
-    returns)
+    (tie.spec Inv-loop μ-loop loop-holds mul-start add-end slice-reshare-prefix-vertex-possible-colors
+    slice-aggregate-vertex-possible-colors sub-vertex-possible-colors part-vertex-possible-colors-start
+    part-vertex-possible-colors-end vertex-possible-colors-requires starting-color-requires cast-coloring slice-write-coloring
+    add-i loop-less loop-again same-length returns)

@@ -26,20 +26,8 @@ two-drawn : (possible i seed : ℕ) (b : Bool) (draw : Draw) → possible ≡ 5 
 unfolding startingColor
 two-drawn possible i seed b draw five drawn e = rw (five, e, drawn)
 
-seed-extract2-requires : tie.Need-seed-extract2-requires
-seed-extract2-requires c κs = search needs
-
-seed-extract2-requires-2 : tie.Need-seed-extract2-requires-2
-seed-extract2-requires-2 c κs = search needs
-
-seed-extract2-requires-3 : tie.Need-seed-extract2-requires-3
-seed-extract2-requires-3 c κs = search needs
-
 add-t11 : tie.Need-add-t11
 add-t11 c = omega (arith, ap (λ (d : Draw). d .value) (c .before .seed-extract23 .ensures))
-
-seed-extract3-requires : tie.Need-seed-extract3-requires
-seed-extract3-requires c κs = search needs
 
 add-t13 : tie.Need-add-t13
 add-t13 c = omega (arith, ap (λ (d : Draw). d .value) (c .before .seed-extract3 .ensures))
@@ -93,19 +81,5 @@ returns-9 c =
 pub starting-color-spec : {M : Type 1} → statement M
 starting-color-spec =
     tie.close
-    (tie.spec
-    seed-extract2-requires
-    seed-extract2-requires-2
-    seed-extract2-requires-3
-    add-t11
-    seed-extract3-requires
-    add-t13
-    returns
-    returns-2
-    returns-3
-    returns-4
-    returns-5
-    returns-6
-    returns-7
-    returns-8
-    returns-9)
+    (tie.spec (λ c κs. search needs) (λ c κs. search needs) (λ c κs. search needs) add-t11 (λ c κs. search needs) add-t13 returns
+    returns-2 returns-3 returns-4 returns-5 returns-6 returns-7 returns-8 returns-9)

@@ -103,17 +103,11 @@ slice-aggregate-spline-values c = sym (long (c .before))
 spline-values-requires : tie.Need-spline-values-requires
 spline-values-requires c κs = (start (c .before) .pre, long (c .before) ∙ c .before .count-shape .ensures .splines-are)
 
-enum-known-checked : tie.Need-enum-known-checked
-enum-known-checked c = search needs
-
 returns : tie.Need-returns
 returns c =
     let valued = c .before .before .before .before in
     let s = s valued in
     values-failed (marking valued) (s .args .distances .now) (found s) (old s) (sym (answer valued) ∙ ap checkedAnswer (c .before .checked .given .1))
-
-enum-told : tie.Need-enum-told
-enum-told c = search needs
 
 array-share-prefix-values : tie.Need-array-share-prefix-values
 array-share-prefix-values c = within (c .before .before .before)
@@ -128,18 +122,6 @@ paint-shape-requires c κs =
     let handed = c .before .before .before .before in
     let valued = handed .before .before .before .before in
     (s valued .pre, (counted valued .count-shape .ensures, ap length (front valued) ∙ size valued))
-
-same-length : tie.Need-same-length
-same-length c = search needs
-
-same-length-2 : tie.Need-same-length-2
-same-length-2 c = search needs
-
-same-length-3 : tie.Need-same-length-3
-same-length-3 c = search needs
-
-same-length-4 : tie.Need-same-length-4
-same-length-4 c = search needs
 
 returns-2 : tie.Need-returns-2
 returns-2 c =
@@ -159,19 +141,6 @@ returns-2 c =
 pub color-shape-spec : {M : Type 1} → statement M
 color-shape-spec =
     tie.close
-    (tie.spec
-    count-shape-requires
-    array-borrow-prefix-values
-    slice-aggregate-spline-values
-    spline-values-requires
-    enum-known-checked
-    returns
-    enum-told
-    array-share-prefix-values
-    slice-aggregate-paint-shape
-    paint-shape-requires
-    same-length
-    same-length-2
-    same-length-3
-    same-length-4
-    returns-2)
+    (tie.spec count-shape-requires array-borrow-prefix-values slice-aggregate-spline-values spline-values-requires
+    (λ c. search needs) returns (λ c. search needs) array-share-prefix-values slice-aggregate-paint-shape paint-shape-requires
+    (λ c. search needs) (λ c. search needs) (λ c. search needs) (λ c. search needs) returns-2)

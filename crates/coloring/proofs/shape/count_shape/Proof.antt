@@ -123,19 +123,5 @@ returns c =
 pub count-shape-spec : {M : Type 1} → statement M
 count-shape-spec =
     tie.close
-    (tie.spec
-    Inv-loop
-    μ-loop
-    loop-holds
-    mul-end
-    shared-slice-read-end
-    cast-end
-    add-end
-    part-edges-requires
-    add-edges
-    part-splines-requires
-    add-splines
-    add-i
-    loop-less
-    loop-again
-    returns)
+    (tie.spec Inv-loop μ-loop loop-holds mul-end shared-slice-read-end cast-end add-end part-edges-requires add-edges
+    part-splines-requires add-splines add-i loop-less loop-again returns)

@@ -16,9 +16,6 @@ returns-2 c =
     let a = first .before .before .args in
     rw (le-leb (a .counts .contours) (a .lengths) (first .if1 .left), lt-leb (a .counts .edges) (a .kinds) (c .if2 .taken))
 
-mul-if3 : tie.Need-mul-if3
-mul-if3 c = search needs
-
 returns-3 : tie.Need-returns-3
 returns-3 c =
     let second = c .before .before in
@@ -43,4 +40,5 @@ returns-4 c =
     )
 
 pub has-room-spec : {M : Type 1} → statement M
-has-room-spec = tie.close (tie.spec returns returns-2 mul-if3 returns-3 returns-4)
+has-room-spec = tie.close
+    (tie.spec returns returns-2 (λ c. search needs) returns-3 returns-4)

@@ -104,9 +104,6 @@ has-room-requires c κs =
 returns : tie.Need-returns
 returns c = sym (deliver-short _ _ _ (fit (c .before) ∙ not-true (c .before .has-room .result) (c .if1 .taken)))
 
-slice-aggregate-lay-out : tie.Need-slice-aggregate-lay-out
-slice-aggregate-lay-out c = search needs
-
 lay-out-requires : tie.Need-lay-out-requires
 lay-out-requires c κs =
     let branch = c .before .before .before .before in
@@ -143,9 +140,6 @@ slice-aggregate-paint-contours-2 c =
     let laid = points .before .before .before .before .before in
     sym (length-take-le _ (outFlags laid) (edges-within laid))
 
-middle-value-requires : tie.Need-middle-value-requires
-middle-value-requires c κs = search needs
-
 slice-relend-prefix-paint-contours : tie.Need-slice-relend-prefix-paint-contours
 slice-relend-prefix-paint-contours c = room (branch (laying c)) .3
 
@@ -166,18 +160,6 @@ paint-contours-requires c κs =
     let colors = length-take-le (a .counts .edges) (a .out-colors .now) (room (branch laid) .3) in
     ((whole, omega (arith, long, b .pre .1 .0 .edges-few), colors ∙ sym long), b .pre .1 .1 ∙ splines)
 
-same-length : tie.Need-same-length
-same-length c = search needs
-
-same-length-2 : tie.Need-same-length-2
-same-length-2 c = search needs
-
-same-length-3 : tie.Need-same-length-3
-same-length-3 c = search needs
-
-same-length-4 : tie.Need-same-length-4
-same-length-4 c = search needs
-
 returns-2 : tie.Need-returns-2
 returns-2 c =
     let paint = c .before .before in
@@ -192,21 +174,7 @@ returns-2 c =
 pub paint-shape-spec : {M : Type 1} → statement M
 paint-shape-spec =
     tie.close
-    (tie.spec
-    has-room-requires
-    returns
-    slice-aggregate-lay-out
-    lay-out-requires
-    slice-reshare-prefix-paint-contours
-    slice-aggregate-paint-contours
-    array-share-prefix-out-flags
-    slice-aggregate-paint-contours-2
-    middle-value-requires
-    slice-relend-prefix-paint-contours
-    slice-aggregate-paint-contours-3
-    paint-contours-requires
-    same-length
-    same-length-2
-    same-length-3
-    same-length-4
-    returns-2)
+    (tie.spec has-room-requires returns (λ c. search needs) lay-out-requires slice-reshare-prefix-paint-contours
+    slice-aggregate-paint-contours array-share-prefix-out-flags slice-aggregate-paint-contours-2 (λ c κs. search needs)
+    slice-relend-prefix-paint-contours slice-aggregate-paint-contours-3 paint-contours-requires (λ c. search needs)
+    (λ c. search needs) (λ c. search needs) (λ c. search needs) returns-2)

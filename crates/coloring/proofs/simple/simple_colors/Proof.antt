@@ -26,12 +26,6 @@ Inv-loop colors₀ k initial pen₀ i₀ colors pen i =
 abbrev μ-loop : tie.MeasureT-loop
 μ-loop colors₀ k initial pen₀ i₀ colors pen i = k - i
 
-switch-color-requires : tie.Need-switch-color-requires Inv-loop μ-loop
-switch-color-requires c κs = search needs
-
-bits-requires : tie.Need-bits-requires Inv-loop μ-loop
-bits-requires c κs = search needs
-
 slice-write-colors : tie.Need-slice-write-colors Inv-loop μ-loop
 slice-write-colors c = omega arith
 
@@ -50,15 +44,6 @@ sub-banned-before c = omega arith
 
 sub-banned-before-2 : tie.Need-sub-banned-before-2 Inv-loop μ-loop
 sub-banned-before-2 c = omega arith
-
-banned-before-requires : tie.Need-banned-before-requires Inv-loop μ-loop
-banned-before-requires c κs = search needs
-
-switch-color-banned-requires : tie.Need-switch-color-banned-requires Inv-loop μ-loop
-switch-color-banned-requires c κs = search needs
-
-bits-requires-2 : tie.Need-bits-requires-2 Inv-loop μ-loop
-bits-requires-2 c κs = search needs
 
 slice-write-colors-2 : tie.Need-slice-write-colors-2 Inv-loop μ-loop
 slice-write-colors-2 c = omega arith
@@ -99,21 +84,6 @@ returns c =
 pub simple-colors-spec : {M : Type 1} → statement M
 simple-colors-spec =
     tie.close
-    (tie.spec
-    Inv-loop
-    μ-loop
-    switch-color-requires
-    bits-requires
-    slice-write-colors
-    loop-holds
-    sub-banned-before
-    sub-banned-before-2
-    banned-before-requires
-    switch-color-banned-requires
-    bits-requires-2
-    slice-write-colors-2
-    add-i
-    loop-less
-    loop-again
-    same-length
-    returns)
+    (tie.spec Inv-loop μ-loop (λ c κs. search needs) (λ c κs. search needs) slice-write-colors loop-holds sub-banned-before
+    sub-banned-before-2 (λ c κs. search needs) (λ c κs. search needs) (λ c κs. search needs) slice-write-colors-2 add-i loop-less
+    loop-again same-length returns)

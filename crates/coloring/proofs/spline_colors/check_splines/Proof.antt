@@ -28,9 +28,6 @@ module _ (c : tie.Else2) where
   few : (leb (start .args .splines) 64 && leb (length (start .args .distances .now)) 2016) ≡ true
   few = rw (le-leb (start .args .splines) 64 (c .before .if1 .left), le-leb (length (start .args .distances .now)) 2016 (c .if2 .left))
 
-pair-count-requires : tie.Need-pair-count-requires
-pair-count-requires c κs = search needs
-
 returns-3 : tie.Need-returns-3
 unfolding firstRefusal
 returns-3 c =
@@ -45,9 +42,6 @@ module _ (c : tie.Else3) where
 
   count : let a = start within .args in eqb (length (a .distances .now)) (a .splines * (a .splines - 1) / 2) ≡ true
   count = eq-eqb _ _ (c .if3 .left ∙ c .before .pair-count .ensures)
-
-distances-valid-requires : tie.Need-distances-valid-requires
-distances-valid-requires c κs = search needs
 
 returns-4 : tie.Need-returns-4
 unfolding firstRefusal
@@ -64,4 +58,4 @@ returns-5 c =
 pub check-splines-spec : {M : Type 1} → statement M
 check-splines-spec =
     tie.close
-    (tie.spec returns returns-2 pair-count-requires returns-3 distances-valid-requires returns-4 returns-5)
+    (tie.spec returns returns-2 (λ c κs. search needs) returns-3 (λ c κs. search needs) returns-4 returns-5)

@@ -10,12 +10,6 @@ use Rattle.coloring.proofs.spline_colors.code_at.Tie as tie
 number : (c : tie.Start) → getD (c .args .order .now) (c .args .k) 0 < length (c .args .codes .now)
 number c = each-at _ (c .args .order .now) 0 (c .pre .0) (c .args .k) (c .pre .1)
 
-mul-result : tie.Need-mul-result
-mul-result c = search needs
-
-shared-slice-read-result : tie.Need-shared-slice-read-result
-shared-slice-read-result c = search needs
-
 cast-result : tie.Need-cast-result
 cast-result c = omega (arith, c .shared-slice-known .given (c .before .args .k))
 
@@ -25,16 +19,7 @@ mul-result-2 c = omega (arith, number (c .before))
 shared-slice-read-result-2 : tie.Need-shared-slice-read-result-2
 shared-slice-read-result-2 c = number (c .before .before)
 
-returns : tie.Need-returns
-returns c = search needs
-
 pub code-at-spec : {M : Type 1} → statement M
 code-at-spec =
     tie.close
-    (tie.spec
-    mul-result
-    shared-slice-read-result
-    cast-result
-    mul-result-2
-    shared-slice-read-result-2
-    returns)
+    (tie.spec (λ c. search needs) (λ c. search needs) cast-result mul-result-2 shared-slice-read-result-2 (λ c. search needs))

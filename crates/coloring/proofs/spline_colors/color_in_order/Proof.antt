@@ -22,9 +22,6 @@ module _ (c : tie.After-enter-zero-pairs) where
 abbrev zeros : tie.After-color-second-degree-graph → tie.After-enter-zero-pairs
 zeros c = c .before .before .before .before .before
 
-enter-zero-pairs-requires : tie.Need-enter-zero-pairs-requires
-enter-zero-pairs-requires c κs = search needs
-
 color-second-degree-graph-requires : tie.Need-color-second-degree-graph-requires
 color-second-degree-graph-requires c κs =
     let entered = c .before .before .before .before in
@@ -37,12 +34,6 @@ offer-pairs-requires c κs =
     offerable _ _ _ _ _ _ _ (entered .enter-zero-pairs .result) (start entered .args .seed) (start entered .pre) (entered .enter-zero-pairs .ensures)
     (colored .color-second-degree-graph .ensures)
 
-same-length : tie.Need-same-length
-same-length c = search needs
-
-same-length-2 : tie.Need-same-length-2
-same-length-2 c = search needs
-
 returns : tie.Need-returns
 returns c =
     let offered = c .before .before .before .before in
@@ -54,10 +45,5 @@ returns c =
 pub color-in-order-spec : {M : Type 1} → statement M
 color-in-order-spec =
     tie.close
-    (tie.spec
-    enter-zero-pairs-requires
-    color-second-degree-graph-requires
-    offer-pairs-requires
-    same-length
-    same-length-2
-    returns)
+    (tie.spec (λ c κs. search needs) color-second-degree-graph-requires offer-pairs-requires (λ c. search needs)
+    (λ c. search needs) returns)

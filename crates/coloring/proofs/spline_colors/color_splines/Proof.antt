@@ -7,20 +7,11 @@ use Rattle.coloring.proofs.spline_colors.CheckLaws.{check-passed, splin
 use Rattle.coloring.proofs.spline_colors.color_splines.Statement.{statement}
 use Rattle.coloring.proofs.spline_colors.color_splines.Tie as tie
 
-check-splines-requires : tie.Need-check-splines-requires
-check-splines-requires c κs = search needs
-
-enum-told : tie.Need-enum-told
-enum-told c = search needs
-
 returns : tie.Need-returns
 returns c =
     let checked = c .before .before in
     let a = checked .before .before .before .args in
     splines-refused (a .distances .now) (a .seed) (a .coloring .now) (ap checkedAnswer (c .enum-told .given .1)) (checked .check-splines .ensures)
-
-enum-told-2 : tie.Need-enum-told-2
-enum-told-2 c = search needs
 
 color-valid-requires : tie.Need-color-valid-requires
 color-valid-requires c κs =
@@ -28,9 +19,6 @@ color-valid-requires c κs =
     let a = checked .before .before .before .args in
     check-passed (length (a .coloring .now)) (a .distances .now)
     (sym (checked .check-splines .ensures) ∙ ap checkedAnswer (c .before .enum-told2 .given .1))
-
-same-length : tie.Need-same-length
-same-length c = search needs
 
 returns-2 : tie.Need-returns-2
 returns-2 c =
@@ -44,4 +32,5 @@ returns-2 c =
 pub color-splines-spec : {M : Type 1} → statement M
 color-splines-spec =
     tie.close
-    (tie.spec check-splines-requires enum-told returns enum-told-2 color-valid-requires same-length returns-2)
+    (tie.spec (λ c κs. search needs) (λ c. search needs) returns (λ c. search needs) color-valid-requires (λ c. search needs)
+    returns-2)

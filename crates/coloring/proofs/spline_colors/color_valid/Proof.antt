@@ -126,28 +126,10 @@ slice-aggregate-color-in-order-3 c =
 color-in-order-requires : tie.Need-color-in-order-requires
 color-in-order-requires c κs = ordered (made (c .before .before .before))
 
-same-length : tie.Need-same-length
-same-length c = search needs
-
-returns : tie.Need-returns
-returns c = search needs
-
 pub color-valid-spec : {M : Type 1} → statement M
 color-valid-spec =
     tie.close
-    (tie.spec
-    mul-size
-    array-borrow-prefix-codes
-    slice-aggregate-order-pairs
-    array-borrow-prefix-order
-    slice-aggregate-order-pairs-2
-    order-pairs-requires
-    array-borrow-prefix-edge-matrix
-    slice-aggregate-color-in-order
-    array-share-prefix-codes
-    slice-aggregate-color-in-order-2
-    array-share-prefix-order
-    slice-aggregate-color-in-order-3
-    color-in-order-requires
-    same-length
-    returns)
+    (tie.spec mul-size array-borrow-prefix-codes slice-aggregate-order-pairs array-borrow-prefix-order
+    slice-aggregate-order-pairs-2 order-pairs-requires array-borrow-prefix-edge-matrix slice-aggregate-color-in-order
+    array-share-prefix-codes slice-aggregate-color-in-order-2 array-share-prefix-order slice-aggregate-color-in-order-3
+    color-in-order-requires (λ c. search needs) (λ c. search needs))

@@ -110,19 +110,5 @@ returns-2 c = zeros-end _ _ _ _ _ _ _ (c .before .loop .inv) (started (c .before
 pub enter-zero-pairs-spec : {M : Type 1} → statement M
 enter-zero-pairs-spec =
     tie.close
-    (tie.spec
-    Inv-loop
-    μ-loop
-    loop-holds
-    distance-at-requires
-    same-length
-    returns
-    code-at-requires
-    cast-a
-    cast-b
-    enter-pair-requires
-    add-k
-    loop-less
-    loop-again
-    same-length-2
-    returns-2)
+    (tie.spec Inv-loop μ-loop loop-holds distance-at-requires same-length returns code-at-requires cast-a cast-b
+    enter-pair-requires add-k loop-less loop-again same-length-2 returns-2)

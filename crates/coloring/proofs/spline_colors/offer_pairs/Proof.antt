@@ -74,17 +74,5 @@ returns c = offers-end _ _ _ _ _ (c .before .loop .k) (c .before .loop .inv) (c 
 pub offer-pairs-spec : {M : Type 1} → statement M
 offer-pairs-spec =
     tie.close
-    (tie.spec
-    Inv-loop
-    μ-loop
-    loop-holds
-    code-at-requires
-    cast-a
-    cast-b
-    try-add-edge-unchecked-requires
-    add-k
-    loop-less
-    loop-again
-    same-length
-    same-length-2
-    returns)
+    (tie.spec Inv-loop μ-loop loop-holds code-at-requires cast-a cast-b try-add-edge-unchecked-requires add-k loop-less loop-again
+    same-length same-length-2 returns)

@@ -57,17 +57,11 @@ module _ (c : tie.After-recolor) where
   front-size : length (take (n start) (after ++ drop (n start) zeros)) ≡ n start
   front-size = ap length front ∙ after-size
 
-array-borrow-prefix-buffer : tie.Need-array-borrow-prefix-buffer
-array-borrow-prefix-buffer c = search needs
-
 slice-aggregate-recolor : tie.Need-slice-aggregate-recolor
 slice-aggregate-recolor c = sym (copy-size (c .before .before .before))
 
 recolor-requires : tie.Need-recolor-requires
 recolor-requires c κs = let s = c .before .before .before .before .before in (s .pre, copy-size s)
-
-enum-known-step : tie.Need-enum-known-step
-enum-known-step c = search needs
 
 array-share-prefix-buffer : tie.Need-array-share-prefix-buffer
 array-share-prefix-buffer c =
@@ -80,17 +74,8 @@ slice-aggregate-copy c = sym (front-size (c .before .before .before .before .bef
 copy-requires : tie.Need-copy-requires
 copy-requires c κs = let told = c .before .before in omega (arith, front-size (told .before .before .before .before))
 
-enum-known-step-2 : tie.Need-enum-known-step-2
-enum-known-step-2 c = search needs
-
 enter-pair-requires : tie.Need-enter-pair-requires
 enter-pair-requires c κs = let told = c .before in pair-inside (start (told .before .before .before .before) .pre)
-
-same-length : tie.Need-same-length
-same-length c = search needs
-
-same-length-2 : tie.Need-same-length-2
-same-length-2 c = search needs
 
 returns : tie.Need-returns
 returns c =
@@ -99,12 +84,6 @@ returns c =
     let r = recolored .before .before .before in
     let taken = copies .copy .ensures .1 ∙ copied _ (start r .args .coloring .now) (sym (front-size r)) ∙ front r in
     ap (λ (l : List ℕ). outcome (kept (recolored .step .given .0 .0)) l (start r .args .edge-matrix .now)) taken ∙ by-end r _ (recolored .step .given .1)
-
-same-length-3 : tie.Need-same-length-3
-same-length-3 c = search needs
-
-same-length-4 : tie.Need-same-length-4
-same-length-4 c = search needs
 
 returns-2 : tie.Need-returns-2
 returns-2 c =
@@ -116,19 +95,6 @@ returns-2 c =
 pub add-edge-by-walk-spec : {M : Type 1} → statement M
 add-edge-by-walk-spec =
     tie.close
-    (tie.spec
-    array-borrow-prefix-buffer
-    slice-aggregate-recolor
-    recolor-requires
-    enum-known-step
-    array-share-prefix-buffer
-    slice-aggregate-copy
-    copy-requires
-    enum-known-step-2
-    enter-pair-requires
-    same-length
-    same-length-2
-    returns
-    same-length-3
-    same-length-4
-    returns-2)
+    (tie.spec (λ c. search needs) slice-aggregate-recolor recolor-requires (λ c. search needs) array-share-prefix-buffer
+    slice-aggregate-copy copy-requires (λ c. search needs) enter-pair-requires (λ c. search needs) (λ c. search needs) returns
+    (λ c. search needs) (λ c. search needs) returns-2)

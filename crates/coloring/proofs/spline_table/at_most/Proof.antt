@@ -41,6 +41,4 @@ returns c =
     rw e at (at .loop .inv .1)
 
 pub at-most-spec : {M : Type 1} → statement M
-at-most-spec =
-    tie.close
-    (tie.spec Inv-loop μ-loop loop-holds shared-slice-read-good add-i loop-less loop-again returns)
+at-most-spec = tie.close (tie.spec Inv-loop μ-loop loop-holds shared-slice-read-good add-i loop-less loop-again returns)

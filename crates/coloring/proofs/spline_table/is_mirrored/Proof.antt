@@ -47,13 +47,4 @@ returns c =
 pub is-mirrored-spec : {M : Type 1} → statement M
 is-mirrored-spec =
     tie.close
-    (tie.spec
-    Inv-loop
-    μ-loop
-    loop-holds
-    entry-requires
-    entry-requires-2
-    add-j
-    loop-less
-    loop-again
-    returns)
+    (tie.spec Inv-loop μ-loop loop-holds entry-requires entry-requires-2 add-j loop-less loop-again returns)

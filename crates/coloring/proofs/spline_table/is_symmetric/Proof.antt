@@ -48,13 +48,4 @@ returns c =
 pub is-symmetric-spec : {M : Type 1} → statement M
 is-symmetric-spec =
     tie.close
-    (tie.spec
-    Inv-loop
-    μ-loop
-    loop-holds
-    is-mirrored-requires
-    entry-requires
-    add-i
-    loop-less
-    loop-again
-    returns)
+    (tie.spec Inv-loop μ-loop loop-holds is-mirrored-requires entry-requires add-i loop-less loop-again returns)

@@ -53,15 +53,6 @@ mul-if2 c = omega (arith, square-below (c .if1 .left))
 returns-2 : tie.Need-returns-2
 returns-2 c = let s = c .before .before .before .before in sym (offer-lengths (given s) (s .args .a) (s .args .b) (c .before .if1 .left) (c .if2 .taken))
 
-is-sound-requires : tie.Need-is-sound-requires
-is-sound-requires c κs = search needs
-
-same-length : tie.Need-same-length
-same-length c = search needs
-
-same-length-2 : tie.Need-same-length-2
-same-length-2 c = search needs
-
 returns-3 : tie.Need-returns-3
 returns-3 c =
     let r = c .before in
@@ -69,12 +60,6 @@ returns-3 c =
     sym
     (offer-unsound (given s) (s .args .a) (s .args .b) (sized r .before .if1 .left) (sized r .if2 .left)
     (sym (r .is-sound .ensures) ∙ not-true _ (c .if3 .taken)))
-
-same-length-3 : tie.Need-same-length-3
-same-length-3 c = search needs
-
-same-length-4 : tie.Need-same-length-4
-same-length-4 c = search needs
 
 returns-4 : tie.Need-returns-4
 returns-4 c =
@@ -93,12 +78,6 @@ try-add-edge-unchecked-requires c κs =
     let pair = c .before .before in
     unrefused-offerable (given (entry pair)) _ _ (passes pair)
 
-same-length-5 : tie.Need-same-length-5
-same-length-5 c = search needs
-
-same-length-6 : tie.Need-same-length-6
-same-length-6 c = search needs
-
 returns-5 : tie.Need-returns-5
 returns-5 c =
     let tries = c .before .before .before .before in
@@ -109,18 +88,6 @@ returns-5 c =
 pub try-add-edge-spec : {M : Type 1} → statement M
 try-add-edge-spec =
     tie.close
-    (tie.spec
-    returns
-    mul-if2
-    returns-2
-    is-sound-requires
-    same-length
-    same-length-2
-    returns-3
-    same-length-3
-    same-length-4
-    returns-4
-    try-add-edge-unchecked-requires
-    same-length-5
-    same-length-6
+    (tie.spec returns mul-if2 returns-2 (λ c κs. search needs) (λ c. search needs) (λ c. search needs) returns-3
+    (λ c. search needs) (λ c. search needs) returns-4 try-add-edge-unchecked-requires (λ c. search needs) (λ c. search needs)
     returns-5)

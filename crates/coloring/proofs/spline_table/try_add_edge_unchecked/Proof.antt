@@ -74,15 +74,6 @@ module _ (c : tie.After-vertex-possible-colors) where
 enter-pair-requires : tie.Need-enter-pair-requires
 enter-pair-requires c κs = pair-inside (c .before .before .before .pre)
 
-slice-read-if1 : tie.Need-slice-read-if1
-slice-read-if1 c = search needs
-
-slice-read-if1-2 : tie.Need-slice-read-if1-2
-slice-read-if1-2 c = search needs
-
-same-length : tie.Need-same-length
-same-length c = search needs
-
 returns : tie.Need-returns
 returns c =
     let p = c .before in
@@ -101,15 +92,6 @@ first-possible-color-requires c κs =
     let p = of-pair (c .before) in
     omega (arith, free (c .before), possible-below (coloring p) (row (n p) (entered (table p) (a p) (b p)) (b p)))
 
-slice-write-coloring : tie.Need-slice-write-coloring
-slice-write-coloring c = search needs
-
-same-length-2 : tie.Need-same-length-2
-same-length-2 c = search needs
-
-same-length-3 : tie.Need-same-length-3
-same-length-3 c = search needs
-
 returns-2 : tie.Need-returns-2
 returns-2 c =
     let v = c .before .before in
@@ -121,12 +103,6 @@ returns-2 c =
 
 add-edge-by-walk-requires : tie.Need-add-edge-by-walk-requires
 add-edge-by-walk-requires c κs = offerable (of-pair (c .before .before .before))
-
-same-length-4 : tie.Need-same-length-4
-same-length-4 c = search needs
-
-same-length-5 : tie.Need-same-length-5
-same-length-5 c = search needs
 
 returns-3 : tie.Need-returns-3
 returns-3 c =
@@ -141,20 +117,6 @@ returns-3 c =
 pub try-add-edge-unchecked-spec : {M : Type 1} → statement M
 try-add-edge-unchecked-spec =
     tie.close
-    (tie.spec
-    enter-pair-requires
-    slice-read-if1
-    slice-read-if1-2
-    same-length
-    returns
-    row-requires
-    vertex-possible-colors-requires
-    first-possible-color-requires
-    slice-write-coloring
-    same-length-2
-    same-length-3
-    returns-2
-    add-edge-by-walk-requires
-    same-length-4
-    same-length-5
-    returns-3)
+    (tie.spec enter-pair-requires (λ c. search needs) (λ c. search needs) (λ c. search needs) returns row-requires
+    vertex-possible-colors-requires first-possible-color-requires (λ c. search needs) (λ c. search needs) (λ c. search needs)
+    returns-2 add-edge-by-walk-requires (λ c. search needs) (λ c. search needs) returns-3)

@@ -42,12 +42,6 @@ returns c =
     let none = c .if1 .taken in
     length-zero (start .args .out .now) (start .pre .room ∙ none) ∙ sym (length-zero _ (paint-length _ _ (start .args .flags .now) ∙ none))
 
-count-corners-requires : tie.Need-count-corners-requires
-count-corners-requires c κs = search needs
-
-first-corner-requires : tie.Need-first-corner-requires
-first-corner-requires c κs = search needs
-
 shared-slice-read-paint-runs : tie.Need-shared-slice-read-paint-runs
 shared-slice-read-paint-runs c = omega (arith, two (c .before .before))
 
@@ -60,9 +54,6 @@ paint-runs-requires c κs =
     let branch = corner .before in
     let pre = start (branch .before) .pre in
     (rw (corner .first-corner .ensures, pre .room) (first-within _ (omega (arith, one branch))), rw (pre .room) (pre .few))
-
-same-length : tie.Need-same-length
-same-length c = search needs
 
 returns-2 : tie.Need-returns-2
 returns-2 c =
@@ -82,9 +73,6 @@ returns-2 c =
 spread-requires : tie.Need-spread-requires
 spread-requires c κs = (values-some (c .before), start (c .before .before) .pre .room)
 
-same-length-2 : tie.Need-same-length-2
-same-length-2 c = search needs
-
 returns-3 : tie.Need-returns-3
 returns-3 c =
     let branch = c .before .before .before .before in
@@ -96,15 +84,5 @@ returns-3 c =
 pub paint-spec : {M : Type 1} → statement M
 paint-spec =
     tie.close
-    (tie.spec
-    returns
-    count-corners-requires
-    first-corner-requires
-    shared-slice-read-paint-runs
-    shared-slice-read-paint-runs-2
-    paint-runs-requires
-    same-length
-    returns-2
-    spread-requires
-    same-length-2
-    returns-3)
+    (tie.spec returns (λ c κs. search needs) (λ c κs. search needs) shared-slice-read-paint-runs shared-slice-read-paint-runs-2
+    paint-runs-requires (λ c. search needs) returns-2 spread-requires (λ c. search needs) returns-3)

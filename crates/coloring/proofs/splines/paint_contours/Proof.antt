@@ -150,19 +150,5 @@ returns c =
 pub paint-contours-spec : {M : Type 1} → statement M
 paint-contours-spec =
     tie.close
-    (tie.spec
-    Inv-loop
-    μ-loop
-    loop-holds
-    mul-end
-    shared-slice-read-end
-    cast-end
-    add-end
-    part-splines-requires
-    add-to
-    paint-part-requires
-    add-i
-    loop-less
-    loop-again
-    same-length
-    returns)
+    (tie.spec Inv-loop μ-loop loop-holds mul-end shared-slice-read-end cast-end add-end part-splines-requires add-to
+    paint-part-requires add-i loop-less loop-again same-length returns)

@@ -11,33 +11,6 @@ use Rattle.coloring.proofs.Lists.{part-front}
 use Rattle.coloring.proofs.splines.paint_part.Statement.{statement}
 use Rattle.coloring.proofs.splines.paint_part.Tie as tie
 
-sub-paint : tie.Need-sub-paint
-sub-paint c = search needs
-
-part-paint-start : tie.Need-part-paint-start
-part-paint-start c = search needs
-
-part-paint-end : tie.Need-part-paint-end
-part-paint-end c = search needs
-
-sub-paint-2 : tie.Need-sub-paint-2
-sub-paint-2 c = search needs
-
-part-paint-start-2 : tie.Need-part-paint-start-2
-part-paint-start-2 c = search needs
-
-part-paint-end-2 : tie.Need-part-paint-end-2
-part-paint-end-2 c = search needs
-
-sub-paint-3 : tie.Need-sub-paint-3
-sub-paint-3 c = search needs
-
-part-paint-start-3 : tie.Need-part-paint-start-3
-part-paint-start-3 c = search needs
-
-part-paint-end-3 : tie.Need-part-paint-end-3
-part-paint-end-3 c = search needs
-
 module _ (c : tie.After-slice-known) where
   abbrev start : tie.Start
   start = c .before .before .before
@@ -50,9 +23,6 @@ paint-requires c κs =
       valued = simp (length-take, length-drop) (omega (arith, pre .1));
       room = simp (length-take, length-drop) (omega (arith, pre .0 .3));
     }
-
-same-length : tie.Need-same-length
-same-length c = search needs
 
 returns : tie.Need-returns
 returns c =
@@ -67,16 +37,5 @@ returns c =
 pub paint-part-spec : {M : Type 1} → statement M
 paint-part-spec =
     tie.close
-    (tie.spec
-    sub-paint
-    part-paint-start
-    part-paint-end
-    sub-paint-2
-    part-paint-start-2
-    part-paint-end-2
-    sub-paint-3
-    part-paint-start-3
-    part-paint-end-3
-    paint-requires
-    same-length
-    returns)
+    (tie.spec (λ c. search needs) (λ c. search needs) (λ c. search needs) (λ c. search needs) (λ c. search needs)
+    (λ c. search needs) (λ c. search needs) (λ c. search needs) (λ c. search needs) paint-requires (λ c. search needs) returns)

@@ -27,12 +27,6 @@ some (flag ∷ flags) h = refl
 returns : tie.Need-returns
 returns c = none _ (c .if1 .taken)
 
-count-corners-requires : tie.Need-count-corners-requires
-count-corners-requires c κs = search needs
-
-add-result : tie.Need-add-result
-add-result c = search needs
-
 returns-2 : tie.Need-returns-2
 returns-2 c =
     let e = some _ (c .before .before .if1 .left) in
@@ -44,5 +38,4 @@ returns-3 c =
     sym (e ∙ rw (← c .before .count-corners .ensures, le-ltb _ _ (c .if2 .left)))
 
 pub spline-count-spec : {M : Type 1} → statement M
-spline-count-spec =
-    tie.close (tie.spec returns count-corners-requires add-result returns-2 returns-3)
+spline-count-spec = tie.close (tie.spec returns (λ c κs. search needs) (λ c. search needs) returns-2 returns-3)

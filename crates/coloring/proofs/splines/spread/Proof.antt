@@ -99,18 +99,5 @@ returns c =
 pub spread-spec : {M : Type 1} → statement M
 spread-spec =
     tie.close
-    (tie.spec
-    Inv-loop
-    μ-loop
-    sub-value
-    shared-slice-read-value
-    loop-holds
-    shared-slice-read-if1
-    shared-slice-read-value-2
-    add-next
-    slice-write-out
-    add-i
-    loop-less
-    loop-again
-    same-length
-    returns)
+    (tie.spec Inv-loop μ-loop sub-value shared-slice-read-value loop-holds shared-slice-read-if1 shared-slice-read-value-2
+    add-next slice-write-out add-i loop-less loop-again same-length returns)

@@ -20,9 +20,6 @@ drawn : (draw : Draw) (seed value : ℕ) → draw ≡ seedExtract3 seed → draw
 unfolding initColor
 drawn draw seed value e k = cc
 
-seed-extract3-requires : tie.Need-seed-extract3-requires
-seed-extract3-requires c κs = search needs
-
 returns : tie.Need-returns
 returns c = drawn (c .before .seed-extract3 .result) (c .before .before .args .seed) 0 (c .before .seed-extract3 .ensures) (c .match .keys1)
 
@@ -36,4 +33,5 @@ returns-3 c =
     (c .before .seed-extract3 .ensures) (omega (arith, c .match .rest .1, c .match .rest .0 .1))
 
 pub init-color-spec : {M : Type 1} → statement M
-init-color-spec = tie.close (tie.spec seed-extract3-requires returns returns-2 returns-3)
+init-color-spec = tie.close
+    (tie.spec (λ c κs. search needs) returns returns-2 returns-3)

@@ -16,4 +16,5 @@ returns-4 : tie.Need-returns-4
 returns-4 c = simp (ne-eqb _ 1 (c .match .rest .0 .0 .1), ne-eqb _ 2 (c .match .rest .0 .1), ne-eqb _ 4 (c .match .rest .1))
 
 pub one-channel-spec : {M : Type 1} → statement M
-one-channel-spec = tie.close (tie.spec returns returns-2 returns-3 returns-4)
+one-channel-spec = tie.close
+    (tie.spec returns returns-2 returns-3 returns-4)

@@ -34,12 +34,6 @@ unfolding switchColor
 switches pen draw bits color d b e =
     rw (e, b, d) (ap (λ (c : EdgeColor). record { color = c; seed = pen .seed / 2 }) (turns (pen .color) (pen .seed % 2) (omega arith)))
 
-seed-extract2-requires : tie.Need-seed-extract2-requires
-seed-extract2-requires c κs = search needs
-
-bits-requires : tie.Need-bits-requires
-bits-requires c κs = search needs
-
 add-shifted : tie.Need-add-shifted
 add-shifted c = omega (arith, ap (λ d. d .value) (c .before .before .seed-extract2 .ensures))
 
@@ -49,9 +43,6 @@ cast-shifted c = omega (arith, ap (λ d. d .value) (c .before .before .seed-extr
 shl-shifted : tie.Need-shl-shifted
 shl-shifted c = omega (arith, ap (λ d. d .value) (c .before .before .seed-extract2 .ensures))
 
-from-bits-requires : tie.Need-from-bits-requires
-from-bits-requires c κs = search needs
-
 returns : tie.Need-returns
 returns c =
     switches (c .before .before .before .before .args .pen) (c .before .before .before .seed-extract2 .result) (c .before .before .bits .result)
@@ -60,11 +51,4 @@ returns c =
 pub switch-color-spec : {M : Type 1} → statement M
 switch-color-spec =
     tie.close
-    (tie.spec
-    seed-extract2-requires
-    bits-requires
-    add-shifted
-    cast-shifted
-    shl-shifted
-    from-bits-requires
-    returns)
+    (tie.spec (λ c κs. search needs) (λ c κs. search needs) add-shifted cast-shifted shl-shifted (λ c κs. search needs) returns)

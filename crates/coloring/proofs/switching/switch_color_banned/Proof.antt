@@ -30,21 +30,6 @@ module _ (pen : Pen) (banned : EdgeColor) (bits banned-bits : ℕ) (b : bits ≡
   unfolding switchColorBanned
   draws left = rw (← combined, ← f, left)
 
-bits-requires : tie.Need-bits-requires
-bits-requires c κs = search needs
-
-bits-requires-2 : tie.Need-bits-requires-2
-bits-requires-2 c κs = search needs
-
-one-channel-requires : tie.Need-one-channel-requires
-one-channel-requires c κs = search needs
-
-from-bits-requires : tie.Need-from-bits-requires
-from-bits-requires c κs = search needs
-
-switch-color-requires : tie.Need-switch-color-requires
-switch-color-requires c κs = search needs
-
 returns : tie.Need-returns
 returns c =
     let start = c .before .before .before .before .before in
@@ -63,4 +48,6 @@ returns-2 c =
 
 pub switch-color-banned-spec : {M : Type 1} → statement M
 switch-color-banned-spec =
-    tie.close (tie.spec bits-requires bits-requires-2 one-channel-requires from-bits-requires switch-color-requires returns returns-2)
+    tie.close
+    (tie.spec (λ c κs. search needs) (λ c κs. search needs) (λ c κs. search needs) (λ c κs. search needs) (λ c κs. search needs)
+    returns returns-2)

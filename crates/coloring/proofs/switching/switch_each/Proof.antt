@@ -28,12 +28,6 @@ loop-holds c =
     let e : n - 0 ≡ n = omega arith in
     (omega arith, rw e (drawing-starts (switchEach n (c .before .args .pen)) (c .before .args .colors .now) (each-length n (c .before .args .pen))))
 
-switch-color-requires : tie.Need-switch-color-requires Inv-loop μ-loop
-switch-color-requires c κs = search needs
-
-bits-requires : tie.Need-bits-requires Inv-loop μ-loop
-bits-requires c κs = search needs
-
 slice-write-colors : tie.Need-slice-write-colors Inv-loop μ-loop
 slice-write-colors c = omega arith
 
@@ -65,15 +59,5 @@ returns c =
 pub switch-each-spec : {M : Type 1} → statement M
 switch-each-spec =
     tie.close
-    (tie.spec
-    Inv-loop
-    μ-loop
-    loop-holds
-    switch-color-requires
-    bits-requires
-    slice-write-colors
-    add-i
-    loop-less
-    loop-again
-    same-length
-    returns)
+    (tie.spec Inv-loop μ-loop loop-holds (λ c κs. search needs) (λ c κs. search needs) slice-write-colors add-i loop-less
+    loop-again same-length returns)

@@ -37,12 +37,6 @@ abbrev μ-loop : tie.MeasureT-loop
 loop-holds : tie.Need-loop-holds Inv-loop μ-loop
 loop-holds c = (omega arith, walked-none _ _ _ _ refl)
 
-symmetrical-trichotomy-requires : tie.Need-symmetrical-trichotomy-requires Inv-loop μ-loop
-symmetrical-trichotomy-requires c κs = search needs
-
-third-of-requires : tie.Need-third-of-requires Inv-loop μ-loop
-third-of-requires c κs = search needs
-
 add-out : tie.Need-add-out Inv-loop μ-loop
 add-out c = omega arith
 
@@ -86,17 +80,5 @@ returns c =
 pub paint-runs-spec : {M : Type 1} → statement M
 paint-runs-spec =
     tie.close
-    (tie.spec
-    Inv-loop
-    μ-loop
-    loop-holds
-    symmetrical-trichotomy-requires
-    third-of-requires
-    add-out
-    rem-out
-    slice-write-out
-    add-i
-    loop-less
-    loop-again
-    same-length
-    returns)
+    (tie.spec Inv-loop μ-loop loop-holds (λ c κs. search needs) (λ c κs. search needs) add-out rem-out slice-write-out add-i
+    loop-less loop-again same-length returns)

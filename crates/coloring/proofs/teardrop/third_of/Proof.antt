@@ -42,4 +42,5 @@ returns-3 c =
     (λ e. c .if2 .left (ap (ofZ w32) e))
 
 pub third-of-spec : {M : Type 1} → statement M
-third-of-spec = tie.close (tie.spec returns returns-2 returns-3)
+third-of-spec = tie.close
+    (tie.spec returns returns-2 returns-3)

@@ -5,27 +5,9 @@ use Rattle.coloring.specs.Trichotomy.{symmetricalTrichotomy}
 use Rattle.coloring.proofs.trichotomy.symmetrical_trichotomy.Statement.{statement}
 use Rattle.coloring.proofs.trichotomy.symmetrical_trichotomy.Tie as tie
 
-mul-if1 : tie.Need-mul-if1
-mul-if1 c = search needs
-
-sub-if1 : tie.Need-sub-if1
-sub-if1 c = search needs
-
-mul-if1-2 : tie.Need-mul-if1-2
-mul-if1-2 c = search needs
-
 returns : tie.Need-returns
 unfolding symmetricalTrichotomy
 returns c = rw (lt-ltb _ _ (c .if1 .taken))
-
-mul-if2 : tie.Need-mul-if2
-mul-if2 c = search needs
-
-sub-if2 : tie.Need-sub-if2
-sub-if2 c = search needs
-
-mul-if2-2 : tie.Need-mul-if2-2
-mul-if2-2 c = search needs
 
 returns-2 : tie.Need-returns-2
 unfolding symmetricalTrichotomy
@@ -38,4 +20,5 @@ returns-3 c = rw (le-ltb _ _ (c .before .if1 .left), le-ltb _ _ (c .if2 .left))
 pub symmetrical-trichotomy-spec : {M : Type 1} → statement M
 symmetrical-trichotomy-spec =
     tie.close
-    (tie.spec mul-if1 sub-if1 mul-if1-2 returns mul-if2 sub-if2 mul-if2-2 returns-2 returns-3)
+    (tie.spec (λ c. search needs) (λ c. search needs) (λ c. search needs) returns (λ c. search needs) (λ c. search needs)
+    (λ c. search needs) returns-2 returns-3)

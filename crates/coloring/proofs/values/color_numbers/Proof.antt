@@ -35,12 +35,6 @@ loop-holds c =
 slice-read-spline-color : tie.Need-slice-read-spline-color Inv-loop μ-loop
 slice-read-spline-color c = omega arith
 
-spline-color-requires : tie.Need-spline-color-requires Inv-loop μ-loop
-spline-color-requires c κs = search needs
-
-bits-requires : tie.Need-bits-requires Inv-loop μ-loop
-bits-requires c κs = search needs
-
 slice-write-colors : tie.Need-slice-write-colors Inv-loop μ-loop
 slice-write-colors c = omega arith
 
@@ -78,16 +72,5 @@ returns c =
 pub color-numbers-spec : {M : Type 1} → statement M
 color-numbers-spec =
     tie.close
-    (tie.spec
-    Inv-loop
-    μ-loop
-    loop-holds
-    slice-read-spline-color
-    spline-color-requires
-    bits-requires
-    slice-write-colors
-    add-i
-    loop-less
-    loop-again
-    same-length
-    returns)
+    (tie.spec Inv-loop μ-loop loop-holds slice-read-spline-color (λ c κs. search needs) (λ c κs. search needs) slice-write-colors
+    add-i loop-less loop-again same-length returns)

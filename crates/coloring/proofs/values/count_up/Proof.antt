@@ -60,14 +60,4 @@ returns c =
 pub count-up-spec : {M : Type 1} → statement M
 count-up-spec =
     tie.close
-    (tie.spec
-    Inv-loop
-    μ-loop
-    loop-holds
-    cast-numbers
-    slice-write-numbers
-    add-i
-    loop-less
-    loop-again
-    same-length
-    returns)
+    (tie.spec Inv-loop μ-loop loop-holds cast-numbers slice-write-numbers add-i loop-less loop-again same-length returns)

@@ -14,23 +14,11 @@ use Rattle.coloring.proofs.outline.EdgeLaws.{edges-between, part-matchi
 use Rattle.coloring.proofs.values.part_colors.Statement.{statement}
 use Rattle.coloring.proofs.values.part_colors.Tie as tie
 
-mul-from : tie.Need-mul-from
-mul-from c = search needs
-
-mul-up-to : tie.Need-mul-up-to
-mul-up-to c = search needs
-
 sub-spline-colors : tie.Need-sub-spline-colors
 sub-spline-colors c = search needs
 
 part-spline-colors-start : tie.Need-part-spline-colors-start
 part-spline-colors-start c = sub-spline-colors c
-
-part-spline-colors-end : tie.Need-part-spline-colors-end
-part-spline-colors-end c = search needs
-
-mul-spline-colors : tie.Need-mul-spline-colors
-mul-spline-colors c = search needs
 
 sub-spline-colors-2 : tie.Need-sub-spline-colors-2
 sub-spline-colors-2 c = search needs
@@ -38,26 +26,17 @@ sub-spline-colors-2 c = search needs
 part-spline-colors-start-2 : tie.Need-part-spline-colors-start-2
 part-spline-colors-start-2 c = sub-spline-colors-2 c
 
-part-spline-colors-end-2 : tie.Need-part-spline-colors-end-2
-part-spline-colors-end-2 c = search needs
-
 sub-spline-colors-3 : tie.Need-sub-spline-colors-3
 sub-spline-colors-3 c = sub-spline-colors (c .before .before)
 
 part-spline-colors-start-3 : tie.Need-part-spline-colors-start-3
 part-spline-colors-start-3 c = sub-spline-colors-3 c
 
-part-spline-colors-end-3 : tie.Need-part-spline-colors-end-3
-part-spline-colors-end-3 c = search needs
-
 sub-spline-colors-4 : tie.Need-sub-spline-colors-4
 sub-spline-colors-4 c = search needs
 
 part-spline-colors-start-4 : tie.Need-part-spline-colors-start-4
 part-spline-colors-start-4 c = sub-spline-colors-4 c
-
-part-spline-colors-end-4 : tie.Need-part-spline-colors-end-4
-part-spline-colors-end-4 c = search needs
 
 module _ (c : tie.After-slice-known) where
   abbrev start : tie.Start
@@ -92,22 +71,7 @@ returns c =
 pub part-colors-spec : {M : Type 1} → statement M
 part-colors-spec =
     tie.close
-    (tie.spec
-    mul-from
-    mul-up-to
-    sub-spline-colors
-    part-spline-colors-start
-    part-spline-colors-end
-    mul-spline-colors
-    sub-spline-colors-2
-    part-spline-colors-start-2
-    part-spline-colors-end-2
-    sub-spline-colors-3
-    part-spline-colors-start-3
-    part-spline-colors-end-3
-    sub-spline-colors-4
-    part-spline-colors-start-4
-    part-spline-colors-end-4
-    spline-colors-requires
-    same-length
-    returns)
+    (tie.spec (λ c. search needs) (λ c. search needs) sub-spline-colors part-spline-colors-start (λ c. search needs)
+    (λ c. search needs) sub-spline-colors-2 part-spline-colors-start-2 (λ c. search needs) sub-spline-colors-3
+    part-spline-colors-start-3 (λ c. search needs) sub-spline-colors-4 part-spline-colors-start-4 (λ c. search needs)
+    spline-colors-requires same-length returns)

@@ -103,9 +103,6 @@ module _ (c : tie.After-part-splines Inv-loop μ-loop) where
       let a = start turn .args in
       omega (arith, counted, s .inv .long, s .inv .splines, left-step splineCount (a .lengths .now) (a .flags .now) (s .i) (s .at) (turn .loop-test .taken))
 
-init-color-requires : tie.Need-init-color-requires Inv-loop μ-loop
-init-color-requires c κs = search needs
-
 loop-holds : tie.Need-loop-holds Inv-loop μ-loop
 loop-holds c =
     let known = c .before in
@@ -177,20 +174,5 @@ returns c =
 pub shape-colors-spec : {M : Type 1} → statement M
 shape-colors-spec =
     tie.close
-    (tie.spec
-    Inv-loop
-    μ-loop
-    init-color-requires
-    loop-holds
-    mul-end
-    shared-slice-read-end
-    cast-end
-    add-end
-    part-splines-requires
-    add-next
-    part-colors-requires
-    add-i
-    loop-less
-    loop-again
-    same-length
-    returns)
+    (tie.spec Inv-loop μ-loop (λ c κs. search needs) loop-holds mul-end shared-slice-read-end cast-end add-end
+    part-splines-requires add-next part-colors-requires add-i loop-less loop-again same-length returns)

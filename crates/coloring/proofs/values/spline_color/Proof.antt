@@ -13,14 +13,9 @@ other (suc zero) h k = absurd (h refl)
 other (suc (suc zero)) h k = absurd (k refl)
 other (suc (suc (suc n))) h k = refl
 
-returns : tie.Need-returns
-returns c = search needs
-
-returns-2 : tie.Need-returns-2
-returns-2 c = search needs
-
 returns-3 : tie.Need-returns-3
 returns-3 c = sym (other _ (c .match .rest .0 .1) (c .match .rest .1))
 
 pub spline-color-spec : {M : Type 1} → statement M
-spline-color-spec = tie.close (tie.spec returns returns-2 returns-3)
+spline-color-spec = tie.close
+    (tie.spec (λ c. search needs) (λ c. search needs) returns-3)

@@ -29,15 +29,6 @@ size c =
     let s = start (c .before) in
     s .pre .1 ∙ splines-many (s .args .flags .now) (many c)
 
-count-corners-requires : tie.Need-count-corners-requires
-count-corners-requires c κs = search needs
-
-switch-each-requires : tie.Need-switch-each-requires
-switch-each-requires c κs = search needs
-
-same-length : tie.Need-same-length
-same-length c = search needs
-
 returns : tie.Need-returns
 returns c =
     let branch = c .before .before .before .before in
@@ -45,22 +36,13 @@ returns c =
     rw (colors-few (s .args .strategy) (s .args .pen) (contour s) (few branch), ← s .pre .1)
     (c .before .before .switch-each .ensures)
 
-enum-told : tie.Need-enum-told
-enum-told c = search needs
-
 simple-colors-requires : tie.Need-simple-colors-requires
 simple-colors-requires c κs = omega (arith, size (c .before .before .before), many (c .before .before .before))
-
-enum-told-2 : tie.Need-enum-told-2
-enum-told-2 c = search needs
 
 ink-trap-colors-requires : tie.Need-ink-trap-colors-requires
 ink-trap-colors-requires c κs =
     let branch = c .before .before .before in
     (start (branch .before) .pre .0, many branch, size branch)
-
-same-length-2 : tie.Need-same-length-2
-same-length-2 c = search needs
 
 returns-2 : tie.Need-returns-2
 returns-2 c =
@@ -69,9 +51,6 @@ returns-2 c =
     let start = start (branch .before) in
     rw (colors-simple (start .args .strategy) (start .args .pen) (contour start) (told .enum-told .given .1) (many branch), ← size branch)
     (c .before .before .simple-colors .ensures)
-
-same-length-3 : tie.Need-same-length-3
-same-length-3 c = search needs
 
 returns-3 : tie.Need-returns-3
 returns-3 c =
@@ -84,16 +63,5 @@ returns-3 c =
 pub spline-colors-spec : {M : Type 1} → statement M
 spline-colors-spec =
     tie.close
-    (tie.spec
-    count-corners-requires
-    switch-each-requires
-    same-length
-    returns
-    enum-told
-    simple-colors-requires
-    enum-told-2
-    ink-trap-colors-requires
-    same-length-2
-    returns-2
-    same-length-3
-    returns-3)
+    (tie.spec (λ c κs. search needs) (λ c κs. search needs) (λ c. search needs) returns (λ c. search needs) simple-colors-requires
+    (λ c. search needs) ink-trap-colors-requires (λ c. search needs) returns-2 (λ c. search needs) returns-3)

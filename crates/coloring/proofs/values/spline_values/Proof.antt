@@ -68,35 +68,11 @@ module _ (c : tie.After-slice-known) where
   size : length (start .args .values .now) ≡ splineTotal found
   size = start .pre .1 ∙ sym (splines-cut (start .args .lengths .now) _ (start .args .flags .now))
 
-enum-known-marking : tie.Need-enum-known-marking
-enum-known-marking c = search needs
-
-shape-colors-requires : tie.Need-shape-colors-requires
-shape-colors-requires c κs = search needs
-
-enum-told : tie.Need-enum-told
-enum-told c = search needs
-
 returns : tie.Need-returns
 returns c =
     let told = c .before in
     let known = told .before .before in
     too-many (start known .args .distances .now) (found known) _ (size known) (told .enum-told .given .1) (c .if1 .taken)
-
-count-up-requires : tie.Need-count-up-requires
-count-up-requires c κs = search needs
-
-enum-known-marking-2 : tie.Need-enum-known-marking-2
-enum-known-marking-2 c = search needs
-
-color-splines-requires : tie.Need-color-splines-requires
-color-splines-requires c κs = search needs
-
-color-numbers-requires : tie.Need-color-numbers-requires
-color-numbers-requires c κs = search needs
-
-same-length : tie.Need-same-length
-same-length c = search needs
 
 returns-2 : tie.Need-returns-2
 returns-2 c =
@@ -105,9 +81,6 @@ returns-2 c =
     let known = told .before .before in
     by-colors (start known .args .distances .now) (found known) _ (size known) (told .marking .given .1) (colored .shape-colors .ensures)
 
-same-length-2 : tie.Need-same-length-2
-same-length-2 c = search needs
-
 returns-3 : tie.Need-returns-3
 returns-3 c =
     let counted = c .before .before in
@@ -115,9 +88,6 @@ returns-3 c =
     let told = few .before in
     let known = told .before .before in
     by-numbers (start known .args .distances .now) (found known) _ (size known) (told .enum-told .given .1) (few .if1 .left) (counted .count-up .ensures)
-
-same-length-3 : tie.Need-same-length-3
-same-length-3 c = search needs
 
 returns-4 : tie.Need-returns-4
 returns-4 c =
@@ -131,18 +101,6 @@ returns-4 c =
 pub spline-values-spec : {M : Type 1} → statement M
 spline-values-spec =
     tie.close
-    (tie.spec
-    enum-known-marking
-    shape-colors-requires
-    enum-told
-    returns
-    count-up-requires
-    enum-known-marking-2
-    color-splines-requires
-    color-numbers-requires
-    same-length
-    returns-2
-    same-length-2
-    returns-3
-    same-length-3
+    (tie.spec (λ c. search needs) (λ c κs. search needs) (λ c. search needs) returns (λ c κs. search needs) (λ c. search needs)
+    (λ c κs. search needs) (λ c κs. search needs) (λ c. search needs) returns-2 (λ c. search needs) returns-3 (λ c. search needs)
     returns-4)

@@ -4,21 +4,12 @@ use borrow.Author.Needs.{needs}
 use Rattle.geometry.proofs.edge_segment.cubic_direction.Statement.{statement}
 use Rattle.geometry.proofs.edge_segment.cubic_direction.Tie as tie
 
-cubic-tangent-requires : tie.Need-cubic-tangent-requires
-cubic-tangent-requires c κs = search needs
-
-is-nonzero-requires : tie.Need-is-nonzero-requires
-is-nonzero-requires c κs = search needs
-
 returns : tie.Need-returns
 unfolding cubicDirection
 returns c =
     let tested = c .before in
     let made = tested .before in
     rw (← made .cubic-tangent .ensures, ← tested .is-nonzero .ensures, c .if1 .taken)
-
-sub-requires : tie.Need-sub-requires
-sub-requires c κs = search needs
 
 returns-2 : tie.Need-returns-2
 unfolding cubicDirection
@@ -28,9 +19,6 @@ returns-2 c =
     let tested = zero .before in
     let made = tested .before in
     rw (← made .cubic-tangent .ensures, ← tested .is-nonzero .ensures, zero .if1 .left, at-0 .if2 .taken) (c .sub .ensures)
-
-sub-requires-2 : tie.Need-sub-requires-2
-sub-requires-2 c κs = search needs
 
 returns-3 : tie.Need-returns-3
 unfolding cubicDirection
@@ -54,12 +42,5 @@ returns-4 c =
 pub cubic-direction-spec : {M : Type 1} → statement M
 cubic-direction-spec =
     tie.close
-    (tie.spec
-    cubic-tangent-requires
-    is-nonzero-requires
-    returns
-    sub-requires
-    returns-2
-    sub-requires-2
-    returns-3
-    returns-4)
+    (tie.spec (λ c κs. search needs) (λ c κs. search needs) returns (λ c κs. search needs) returns-2 (λ c κs. search needs)
+    returns-3 returns-4)

@@ -4,24 +4,6 @@ use borrow.Author.Needs.{needs}
 use Rattle.geometry.proofs.edge_segment.cubic_point.Statement.{statement}
 use Rattle.geometry.proofs.edge_segment.cubic_point.Tie as tie
 
-vmix-requires : tie.Need-vmix-requires
-vmix-requires c κs = search needs
-
-vmix-requires-2 : tie.Need-vmix-requires-2
-vmix-requires-2 c κs = search needs
-
-vmix-requires-3 : tie.Need-vmix-requires-3
-vmix-requires-3 c κs = search needs
-
-vmix-requires-4 : tie.Need-vmix-requires-4
-vmix-requires-4 c κs = search needs
-
-vmix-requires-5 : tie.Need-vmix-requires-5
-vmix-requires-5 c κs = search needs
-
-vmix-requires-6 : tie.Need-vmix-requires-6
-vmix-requires-6 c κs = search needs
-
 returns : tie.Need-returns
 unfolding cubicPoint
 returns c =
@@ -35,11 +17,5 @@ returns c =
 pub cubic-point-spec : {M : Type 1} → statement M
 cubic-point-spec =
     tie.close
-    (tie.spec
-    vmix-requires
-    vmix-requires-2
-    vmix-requires-3
-    vmix-requires-4
-    vmix-requires-5
-    vmix-requires-6
-    returns)
+    (tie.spec (λ c κs. search needs) (λ c κs. search needs) (λ c κs. search needs) (λ c κs. search needs) (λ c κs. search needs)
+    (λ c κs. search needs) returns)

@@ -4,21 +4,12 @@ use borrow.Author.Needs.{needs}
 use Rattle.geometry.proofs.edge_segment.quadratic_direction.Statement.{statement}
 use Rattle.geometry.proofs.edge_segment.quadratic_direction.Tie as tie
 
-quadratic-tangent-requires : tie.Need-quadratic-tangent-requires
-quadratic-tangent-requires c κs = search needs
-
-is-nonzero-requires : tie.Need-is-nonzero-requires
-is-nonzero-requires c κs = search needs
-
 returns : tie.Need-returns
 unfolding quadraticDirection
 returns c =
     let tested = c .before in
     let made = tested .before in
     rw (← made .quadratic-tangent .ensures, ← tested .is-nonzero .ensures, c .if1 .taken)
-
-sub-requires : tie.Need-sub-requires
-sub-requires c κs = search needs
 
 returns-2 : tie.Need-returns-2
 unfolding quadraticDirection
@@ -31,4 +22,4 @@ returns-2 c =
 pub quadratic-direction-spec : {M : Type 1} → statement M
 quadratic-direction-spec =
     tie.close
-    (tie.spec quadratic-tangent-requires is-nonzero-requires returns sub-requires returns-2)
+    (tie.spec (λ c κs. search needs) (λ c κs. search needs) returns (λ c κs. search needs) returns-2)

@@ -4,36 +4,6 @@ use borrow.Author.Needs.{needs}
 use Rattle.geometry.proofs.edge_segment.split_cubic.Statement.{statement}
 use Rattle.geometry.proofs.edge_segment.split_cubic.Tie as tie
 
-cubic-point-requires : tie.Need-cubic-point-requires
-cubic-point-requires c κs = search needs
-
-cubic-point-requires-2 : tie.Need-cubic-point-requires-2
-cubic-point-requires-2 c κs = search needs
-
-quadratic-point-requires : tie.Need-quadratic-point-requires
-quadratic-point-requires c κs = search needs
-
-quadratic-point-requires-2 : tie.Need-quadratic-point-requires-2
-quadratic-point-requires-2 c κs = search needs
-
-quadratic-point-requires-3 : tie.Need-quadratic-point-requires-3
-quadratic-point-requires-3 c κs = search needs
-
-quadratic-point-requires-4 : tie.Need-quadratic-point-requires-4
-quadratic-point-requires-4 c κs = search needs
-
-start-control-requires : tie.Need-start-control-requires
-start-control-requires c κs = search needs
-
-vmix-requires : tie.Need-vmix-requires
-vmix-requires c κs = search needs
-
-vmix-requires-2 : tie.Need-vmix-requires-2
-vmix-requires-2 c κs = search needs
-
-end-control-requires : tie.Need-end-control-requires
-end-control-requires c κs = search needs
-
 returns : tie.Need-returns
 unfolding splitCubic
 returns c =
@@ -62,15 +32,5 @@ returns c =
 pub split-cubic-spec : {M : Type 1} → statement M
 split-cubic-spec =
     tie.close
-    (tie.spec
-    cubic-point-requires
-    cubic-point-requires-2
-    quadratic-point-requires
-    quadratic-point-requires-2
-    quadratic-point-requires-3
-    quadratic-point-requires-4
-    start-control-requires
-    vmix-requires
-    vmix-requires-2
-    end-control-requires
-    returns)
+    (tie.spec (λ c κs. search needs) (λ c κs. search needs) (λ c κs. search needs) (λ c κs. search needs) (λ c κs. search needs)
+    (λ c κs. search needs) (λ c κs. search needs) (λ c κs. search needs) (λ c κs. search needs) (λ c κs. search needs) returns)

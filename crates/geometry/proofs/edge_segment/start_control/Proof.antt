@@ -4,19 +4,14 @@ use borrow.Author.Needs.{needs}
 use Rattle.geometry.proofs.edge_segment.start_control.Statement.{statement}
 use Rattle.geometry.proofs.edge_segment.start_control.Tie as tie
 
-eq-requires : tie.Need-eq-requires
-eq-requires c κs = search needs
-
 returns : tie.Need-returns
 unfolding startControl
 returns c = rw (← c .before .eq .ensures, c .if1 .taken)
-
-vmix-requires : tie.Need-vmix-requires
-vmix-requires c κs = search needs
 
 returns-2 : tie.Need-returns-2
 unfolding startControl
 returns-2 c = rw (← c .before .before .eq .ensures, c .before .if1 .left) (c .vmix .ensures)
 
 pub start-control-spec : {M : Type 1} → statement M
-start-control-spec = tie.close (tie.spec eq-requires returns vmix-requires returns-2)
+start-control-spec = tie.close
+    (tie.spec (λ c κs. search needs) returns (λ c κs. search needs) returns-2)

@@ -43,9 +43,6 @@ part-number-end c = omega arith
 number-requires : tie.Need-number-requires Inv-loop μ-loop
 number-requires c κs = simp (length-take, length-drop) (omega arith)
 
-float-requires : tie.Need-float-requires Inv-loop μ-loop
-float-requires c κs = search needs
-
 mul-to : tie.Need-mul-to Inv-loop μ-loop
 mul-to c = omega arith
 
@@ -85,21 +82,5 @@ returns c =
 pub write-floats-spec : {M : Type 1} → statement M
 write-floats-spec =
     tie.close
-    (tie.spec
-    Inv-loop
-    μ-loop
-    loop-holds
-    mul-at
-    add-end
-    sub-number
-    part-number-start
-    part-number-end
-    number-requires
-    float-requires
-    mul-to
-    slice-write-to
-    add-i
-    loop-less
-    loop-again
-    same-length
-    returns)
+    (tie.spec Inv-loop μ-loop loop-holds mul-at add-end sub-number part-number-start part-number-end number-requires
+    (λ c κs. search needs) mul-to slice-write-to add-i loop-less loop-again same-length returns)

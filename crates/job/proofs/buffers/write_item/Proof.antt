@@ -52,12 +52,6 @@ module _ (c : tie.After-item2) where
       (buffers (entry2 .args .lengths .now) (entry2 .args .kinds .now) (entry2 .args .points .now) (entry2 .args .distances .now))
   distances-room = room entry2 (Distances (c .item2 .given .0 .0)) (c .item2 .given .1)
 
-enum-told : tie.Need-enum-told
-enum-told c = search needs
-
-enum-told-2 : tie.Need-enum-told-2
-enum-told-2 c = search needs
-
 mul-lengths : tie.Need-mul-lengths
 mul-lengths c =
     let place = c .before .before .before .before .before .before .before in
@@ -67,9 +61,6 @@ slice-write-lengths : tie.Need-slice-write-lengths
 slice-write-lengths c =
     let place = c .before .before .before .before .before .before .before in
     omega (arith, room place Contour (c .enum-told2 .given .1))
-
-enum-known-item : tie.Need-enum-known-item
-enum-known-item c = search needs
 
 sub-last : tie.Need-sub-last
 sub-last c = last-room (c .before .before) .0
@@ -89,14 +80,8 @@ mul-lengths-3 c = omega (arith, last-room (c .before .before .before))
 slice-write-lengths-2 : tie.Need-slice-write-lengths-2
 slice-write-lengths-2 c = last-room (c .before .before .before) .1
 
-kind-number-requires : tie.Need-kind-number-requires
-kind-number-requires c κs = search needs
-
 slice-write-kinds : tie.Need-slice-write-kinds
 slice-write-kinds c = omega (arith, edge-room (c .before .before .before .before))
-
-body-size-requires : tie.Need-body-size-requires
-body-size-requires c κs = search needs
 
 add-end : tie.Need-add-end
 add-end c = omega (arith, end-is c, controls-few (kind (chosen c)))
@@ -107,41 +92,20 @@ mul-from c = omega (arith, edge-room (chosen c))
 add-to : tie.Need-add-to
 add-to c = omega (arith, edge-room (chosen c))
 
-sub-write-points : tie.Need-sub-write-points
-sub-write-points c = search needs
-
-part-write-points-start : tie.Need-part-write-points-start
-part-write-points-start c = search needs
-
 part-write-points-end : tie.Need-part-write-points-end
 part-write-points-end c = omega (arith, end-is c, edge-room (chosen c))
 
 mul-write-points : tie.Need-mul-write-points
 mul-write-points c = omega (arith, edge-room (chosen (c .before)))
 
-sub-write-points-2 : tie.Need-sub-write-points-2
-sub-write-points-2 c = search needs
-
-part-write-points-start-2 : tie.Need-part-write-points-start-2
-part-write-points-start-2 c = search needs
-
 part-write-points-end-2 : tie.Need-part-write-points-end-2
 part-write-points-end-2 c = omega (arith, edge-room (chosen (c .before)))
-
-write-points-requires : tie.Need-write-points-requires
-write-points-requires c κs = search needs
-
-enum-known-item-2 : tie.Need-enum-known-item-2
-enum-known-item-2 c = search needs
 
 sub-write-floats : tie.Need-sub-write-floats
 sub-write-floats c = omega (arith, distances-room (c .before))
 
 part-write-floats-start : tie.Need-part-write-floats-start
 part-write-floats-start c = omega (arith, distances-room (c .before))
-
-part-write-floats-end : tie.Need-part-write-floats-end
-part-write-floats-end c = search needs
 
 write-floats-requires : tie.Need-write-floats-requires
 write-floats-requires c κs = (
@@ -153,21 +117,9 @@ returns : tie.Need-returns
 unfolding written
 returns c = rw (c .enum-told .given .1) (record { lengths-are = refl; kinds-are = refl; points-are = refl; distances-are = refl })
 
-same-length : tie.Need-same-length
-same-length c = search needs
-
 returns-2 : tie.Need-returns-2
 unfolding written
 returns-2 c = rw (c .enum-told2 .given .1) (record { lengths-are = refl; kinds-are = refl; points-are = refl; distances-are = refl })
-
-same-length-2 : tie.Need-same-length-2
-same-length-2 c = search needs
-
-same-length-3 : tie.Need-same-length-3
-same-length-3 c = search needs
-
-same-length-4 : tie.Need-same-length-4
-same-length-4 c = search needs
 
 returns-3 : tie.Need-returns-3
 unfolding written
@@ -183,9 +135,6 @@ returns-3 c =
       points-are = rw (eight, c .before .before .write-points .ensures, size);
       distances-are = refl;
     })
-
-same-length-5 : tie.Need-same-length-5
-same-length-5 c = search needs
 
 returns-4 : tie.Need-returns-4
 unfolding written
@@ -203,43 +152,9 @@ returns-4 c =
 pub write-item-spec : {M : Type 1} → statement M
 write-item-spec =
     tie.close
-    (tie.spec
-    enum-told
-    enum-told-2
-    mul-lengths
-    slice-write-lengths
-    enum-known-item
-    sub-last
-    mul-lengths-2
-    slice-read-lengths
-    add-lengths
-    mul-lengths-3
-    slice-write-lengths-2
-    kind-number-requires
-    slice-write-kinds
-    body-size-requires
-    add-end
-    mul-from
-    add-to
-    sub-write-points
-    part-write-points-start
-    part-write-points-end
-    mul-write-points
-    sub-write-points-2
-    part-write-points-start-2
-    part-write-points-end-2
-    write-points-requires
-    enum-known-item-2
-    sub-write-floats
-    part-write-floats-start
-    part-write-floats-end
-    write-floats-requires
-    returns
-    same-length
-    returns-2
-    same-length-2
-    same-length-3
-    same-length-4
-    returns-3
-    same-length-5
-    returns-4)
+    (tie.spec (λ c. search needs) (λ c. search needs) mul-lengths slice-write-lengths (λ c. search needs) sub-last mul-lengths-2
+    slice-read-lengths add-lengths mul-lengths-3 slice-write-lengths-2 (λ c κs. search needs) slice-write-kinds
+    (λ c κs. search needs) add-end mul-from add-to (λ c. search needs) (λ c. search needs) part-write-points-end mul-write-points
+    (λ c. search needs) (λ c. search needs) part-write-points-end-2 (λ c κs. search needs) (λ c. search needs) sub-write-floats
+    part-write-floats-start (λ c. search needs) write-floats-requires returns (λ c. search needs) returns-2 (λ c. search needs)
+    (λ c. search needs) (λ c. search needs) returns-3 (λ c. search needs) returns-4)

@@ -8,15 +8,6 @@ use borrow.Author.Needs.{needs}
 use Rattle.job.proofs.buffers.write_points.Statement.{statement}
 use Rattle.job.proofs.buffers.write_points.Tie as tie
 
-clear-requires : tie.Need-clear-requires
-clear-requires c κs = search needs
-
-controls-requires : tie.Need-controls-requires
-controls-requires c κs = search needs
-
-mul-write-floats : tie.Need-mul-write-floats
-mul-write-floats c = search needs
-
 write-floats-requires : tie.Need-write-floats-requires
 write-floats-requires c κs =
     let start = c .before .before .before .before .before .before .before .before in (
@@ -24,9 +15,6 @@ write-floats-requires c κs =
       rw (c .before .before .before .before .clear .ensures, length-replicate)
           (omega (arith, c .before .controls .ensures, controls-few (start .args .kind))),
     )
-
-same-length : tie.Need-same-length
-same-length c = search needs
 
 returns : tie.Need-returns
 returns c =
@@ -38,10 +26,4 @@ returns c =
 pub write-points-spec : {M : Type 1} → statement M
 write-points-spec =
     tie.close
-    (tie.spec
-    clear-requires
-    controls-requires
-    mul-write-floats
-    write-floats-requires
-    same-length
-    returns)
+    (tie.spec (λ c κs. search needs) (λ c κs. search needs) (λ c. search needs) write-floats-requires (λ c. search needs) returns)

@@ -26,31 +26,10 @@ scanned c = read-at c .before .before
 numbers-are : (c : tie.After-n) → gives (c .n .given .0 .0) ≡ answerOf (readJob (file (c .before .before)))
 numbers-are c = sym (ap readAnswer (c .n .given .1)) ∙ c .before .before .scan .ensures
 
-scan-requires : tie.Need-scan-requires
-scan-requires c κs = search needs
-
-enum-known-n : tie.Need-enum-known-n
-enum-known-n c = search needs
-
-by-distance-requires : tie.Need-by-distance-requires
-by-distance-requires c κs = search needs
-
 returns : tie.Need-returns
 unfolding acceptJob
 returns c = accept-plain (readJob (file (scanned (c .before)))) _ (numbers-are (read-at (c .before)))
     (sym (c .before .by-distance .ensures) ∙ not-true (c .before .by-distance .result) (c .if1 .taken))
-
-check-requires : tie.Need-check-requires
-check-requires c κs = search needs
-
-enum-told : tie.Need-enum-told
-enum-told c = search needs
-
-enum-known-refusal : tie.Need-enum-known-refusal
-enum-known-refusal c = search needs
-
-enum-known-refusal-2 : tie.Need-enum-known-refusal-2
-enum-known-refusal-2 c = search needs
 
 returns-2 : tie.Need-returns-2
 unfolding acceptJob checkFile
@@ -74,15 +53,5 @@ returns-4 c =
 pub accept-spec : {M : Type 1} → statement M
 accept-spec =
     tie.close
-    (tie.spec
-    scan-requires
-    enum-known-n
-    by-distance-requires
-    returns
-    check-requires
-    enum-told
-    enum-known-refusal
-    enum-known-refusal-2
-    returns-2
-    returns-3
-    returns-4)
+    (tie.spec (λ c κs. search needs) (λ c. search needs) (λ c κs. search needs) returns (λ c κs. search needs) (λ c. search needs)
+    (λ c. search needs) (λ c. search needs) returns-2 returns-3 returns-4)

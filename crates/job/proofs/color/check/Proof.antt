@@ -18,39 +18,6 @@ only Simple h = cc
 only InkTrap h = cc
 only ByDistance h = refl
 
-scan-requires : tie.Need-scan-requires
-scan-requires c κs = search needs
-
-enum-known-n : tie.Need-enum-known-n
-enum-known-n c = search needs
-
-by-distance-requires : tie.Need-by-distance-requires
-by-distance-requires c κs = search needs
-
-slice-aggregate-check-by-distance : tie.Need-slice-aggregate-check-by-distance
-slice-aggregate-check-by-distance c = search needs
-
-slice-aggregate-check-by-distance-2 : tie.Need-slice-aggregate-check-by-distance-2
-slice-aggregate-check-by-distance-2 c = search needs
-
-slice-aggregate-check-by-distance-3 : tie.Need-slice-aggregate-check-by-distance-3
-slice-aggregate-check-by-distance-3 c = search needs
-
-slice-aggregate-check-by-distance-4 : tie.Need-slice-aggregate-check-by-distance-4
-slice-aggregate-check-by-distance-4 c = search needs
-
-slice-aggregate-check-by-distance-5 : tie.Need-slice-aggregate-check-by-distance-5
-slice-aggregate-check-by-distance-5 c = search needs
-
-slice-aggregate-check-by-distance-6 : tie.Need-slice-aggregate-check-by-distance-6
-slice-aggregate-check-by-distance-6 c = search needs
-
-slice-aggregate-check-by-distance-7 : tie.Need-slice-aggregate-check-by-distance-7
-slice-aggregate-check-by-distance-7 c = search needs
-
-slice-aggregate-check-by-distance-8 : tie.Need-slice-aggregate-check-by-distance-8
-slice-aggregate-check-by-distance-8 c = search needs
-
 check-by-distance-requires : tie.Need-check-by-distance-requires
 check-by-distance-requires c κs =
     let asked = c .before .before .before .before .before .before .before .before in
@@ -71,24 +38,6 @@ returns c =
     let counted = c .before .before .before .before .before .before .before .before in
     counted .check-by-distance .ensures
 
-enum-told : tie.Need-enum-told
-enum-told c = search needs
-
-slice-aggregate-color : tie.Need-slice-aggregate-color
-slice-aggregate-color c = search needs
-
-slice-aggregate-color-2 : tie.Need-slice-aggregate-color-2
-slice-aggregate-color-2 c = search needs
-
-slice-aggregate-color-3 : tie.Need-slice-aggregate-color-3
-slice-aggregate-color-3 c = search needs
-
-slice-aggregate-color-4 : tie.Need-slice-aggregate-color-4
-slice-aggregate-color-4 c = search needs
-
-color-requires : tie.Need-color-requires
-color-requires c κs = search needs
-
 returns-2 : tie.Need-returns-2
 returns-2 c =
     let colored = c .before .before .before .before in
@@ -98,24 +47,7 @@ returns-2 c =
 pub check-spec : {M : Type 1} → statement M
 check-spec =
     tie.close
-    (tie.spec
-    scan-requires
-    enum-known-n
-    by-distance-requires
-    slice-aggregate-check-by-distance
-    slice-aggregate-check-by-distance-2
-    slice-aggregate-check-by-distance-3
-    slice-aggregate-check-by-distance-4
-    slice-aggregate-check-by-distance-5
-    slice-aggregate-check-by-distance-6
-    slice-aggregate-check-by-distance-7
-    slice-aggregate-check-by-distance-8
-    check-by-distance-requires
-    returns
-    enum-told
-    slice-aggregate-color
-    slice-aggregate-color-2
-    slice-aggregate-color-3
-    slice-aggregate-color-4
-    color-requires
-    returns-2)
+    (tie.spec (λ c κs. search needs) (λ c. search needs) (λ c κs. search needs) (λ c. search needs) (λ c. search needs)
+    (λ c. search needs) (λ c. search needs) (λ c. search needs) (λ c. search needs) (λ c. search needs) (λ c. search needs)
+    check-by-distance-requires returns (λ c. search needs) (λ c. search needs) (λ c. search needs) (λ c. search needs)
+    (λ c. search needs) (λ c κs. search needs) returns-2)

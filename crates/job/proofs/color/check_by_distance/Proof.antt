@@ -50,9 +50,6 @@ fill-requires c κs = let s = began c in fits-jobs _ _ _ (s .pre .0 .numbers-are
 mul-places : tie.Need-mul-places
 mul-places c = omega (arith, edges-most (holding c))
 
-float-requires : tie.Need-float-requires
-float-requires c κs = search needs
-
 slice-reshare-prefix-collect-splines : tie.Need-slice-reshare-prefix-collect-splines
 slice-reshare-prefix-collect-splines c = contours-within (holding (stored-at c))
 
@@ -71,36 +68,6 @@ slice-reshare-prefix-collect-splines-3 c = places-within (holding (stored-at (c 
 slice-aggregate-collect-splines-3 : tie.Need-slice-aggregate-collect-splines-3
 slice-aggregate-collect-splines-3 c = sym (length-take-le _ _ (places-within (holding (stored-at (c .before .before .before)))))
 
-collect-splines-requires : tie.Need-collect-splines-requires
-collect-splines-requires c κs = search needs
-
-paired-requires : tie.Need-paired-requires
-paired-requires c κs = search needs
-
-same-length : tie.Need-same-length
-same-length c = search needs
-
-same-length-2 : tie.Need-same-length-2
-same-length-2 c = search needs
-
-same-length-3 : tie.Need-same-length-3
-same-length-3 c = search needs
-
-same-length-4 : tie.Need-same-length-4
-same-length-4 c = search needs
-
-same-length-5 : tie.Need-same-length-5
-same-length-5 c = search needs
-
-same-length-6 : tie.Need-same-length-6
-same-length-6 c = search needs
-
-same-length-7 : tie.Need-same-length-7
-same-length-7 c = search needs
-
-same-length-8 : tie.Need-same-length-8
-same-length-8 c = search needs
-
 returns : tie.Need-returns
 returns c =
     let collected = c .before .before .before .before .before .before .before .before .before in
@@ -112,24 +79,8 @@ returns c =
 pub check-by-distance-spec : {M : Type 1} → statement M
 check-by-distance-spec =
     tie.close
-    (tie.spec
-    fill-requires
-    mul-places
-    float-requires
-    slice-reshare-prefix-collect-splines
-    slice-aggregate-collect-splines
-    slice-reshare-prefix-collect-splines-2
-    slice-aggregate-collect-splines-2
-    slice-reshare-prefix-collect-splines-3
-    slice-aggregate-collect-splines-3
-    collect-splines-requires
-    paired-requires
-    same-length
-    same-length-2
-    same-length-3
-    same-length-4
-    same-length-5
-    same-length-6
-    same-length-7
-    same-length-8
+    (tie.spec fill-requires mul-places (λ c κs. search needs) slice-reshare-prefix-collect-splines slice-aggregate-collect-splines
+    slice-reshare-prefix-collect-splines-2 slice-aggregate-collect-splines-2 slice-reshare-prefix-collect-splines-3
+    slice-aggregate-collect-splines-3 (λ c κs. search needs) (λ c κs. search needs) (λ c. search needs) (λ c. search needs)
+    (λ c. search needs) (λ c. search needs) (λ c. search needs) (λ c. search needs) (λ c. search needs) (λ c. search needs)
     returns)

@@ -57,12 +57,6 @@ module _ (c : tie.After-slice-known12) where
 abbrev stored-at : tie.After-float → tie.After-slice-known12
 stored-at c = c .before .before
 
-scan-requires : tie.Need-scan-requires
-scan-requires c κs = search needs
-
-enum-known-n : tie.Need-enum-known-n
-enum-known-n c = search needs
-
 fill-requires : tie.Need-fill-requires
 fill-requires c κs =
     let n = c .before .before .before .before .before in
@@ -70,9 +64,6 @@ fill-requires c κs =
 
 mul-places : tie.Need-mul-places
 mul-places c = omega (arith, edges-most (holding c))
-
-float-requires : tie.Need-float-requires
-float-requires c κs = search needs
 
 slice-reshare-prefix-color-stored : tie.Need-slice-reshare-prefix-color-stored
 slice-reshare-prefix-color-stored c = contours-within (holding (stored-at c))
@@ -98,36 +89,6 @@ slice-reshare-prefix-color-stored-4 c = distances-within (holding (stored-at (c 
 slice-aggregate-color-stored-4 : tie.Need-slice-aggregate-color-stored-4
 slice-aggregate-color-stored-4 c = sym (length-take-le _ _ (distances-within (holding (stored-at (c .before .before .before .before)))))
 
-color-stored-requires : tie.Need-color-stored-requires
-color-stored-requires c κs = search needs
-
-enum-known-refusal : tie.Need-enum-known-refusal
-enum-known-refusal c = search needs
-
-same-length : tie.Need-same-length
-same-length c = search needs
-
-same-length-2 : tie.Need-same-length-2
-same-length-2 c = search needs
-
-same-length-3 : tie.Need-same-length-3
-same-length-3 c = search needs
-
-same-length-4 : tie.Need-same-length-4
-same-length-4 c = search needs
-
-same-length-5 : tie.Need-same-length-5
-same-length-5 c = search needs
-
-same-length-6 : tie.Need-same-length-6
-same-length-6 c = search needs
-
-same-length-7 : tie.Need-same-length-7
-same-length-7 c = search needs
-
-same-length-8 : tie.Need-same-length-8
-same-length-8 c = search needs
-
 returns : tie.Need-returns
 returns c =
     let colored = c .before .before .before .before .before .before .before .before in
@@ -140,29 +101,9 @@ returns-2 c = color-refused _ _ _ (sym (ap readAnswer (c .before .refusal .given
 pub color-in-spec : {M : Type 1} → statement M
 color-in-spec =
     tie.close
-    (tie.spec
-    scan-requires
-    enum-known-n
-    fill-requires
-    mul-places
-    float-requires
-    slice-reshare-prefix-color-stored
-    slice-aggregate-color-stored
-    slice-reshare-prefix-color-stored-2
-    slice-aggregate-color-stored-2
-    slice-reshare-prefix-color-stored-3
-    slice-aggregate-color-stored-3
-    slice-reshare-prefix-color-stored-4
-    slice-aggregate-color-stored-4
-    color-stored-requires
-    enum-known-refusal
-    same-length
-    same-length-2
-    same-length-3
-    same-length-4
-    same-length-5
-    same-length-6
-    same-length-7
-    same-length-8
-    returns
-    returns-2)
+    (tie.spec (λ c κs. search needs) (λ c. search needs) fill-requires mul-places (λ c κs. search needs)
+    slice-reshare-prefix-color-stored slice-aggregate-color-stored slice-reshare-prefix-color-stored-2
+    slice-aggregate-color-stored-2 slice-reshare-prefix-color-stored-3 slice-aggregate-color-stored-3
+    slice-reshare-prefix-color-stored-4 slice-aggregate-color-stored-4 (λ c κs. search needs) (λ c. search needs)
+    (λ c. search needs) (λ c. search needs) (λ c. search needs) (λ c. search needs) (λ c. search needs) (λ c. search needs)
+    (λ c. search needs) (λ c. search needs) returns returns-2)

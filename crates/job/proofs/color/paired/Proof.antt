@@ -5,15 +5,9 @@ use Rattle.job.specs.Color.{paired}
 use Rattle.job.proofs.color.paired.Statement.{statement}
 use Rattle.job.proofs.color.paired.Tie as tie
 
-enum-known-counted : tie.Need-enum-known-counted
-enum-known-counted c = search needs
-
 returns : tie.Need-returns
 unfolding paired
 returns c = rw (c .before .before .counted .given .1, lt-leb _ 64 (c .if1 .taken))
-
-pair-count-requires : tie.Need-pair-count-requires
-pair-count-requires c κs = search needs
 
 returns-2 : tie.Need-returns-2
 unfolding paired
@@ -23,9 +17,6 @@ returns-2 c = rw (
   ← c .before .pair-count .ensures,
   ne-eqb _ _ (c .if2 .taken),
 )
-
-enum-known-counted-2 : tie.Need-enum-known-counted-2
-enum-known-counted-2 c = search needs
 
 returns-3 : tie.Need-returns-3
 unfolding paired
@@ -43,11 +34,4 @@ returns-4 c = rw (c .before .counted2 .given .1)
 pub paired-spec : {M : Type 1} → statement M
 paired-spec =
     tie.close
-    (tie.spec
-    enum-known-counted
-    returns
-    pair-count-requires
-    returns-2
-    enum-known-counted-2
-    returns-3
-    returns-4)
+    (tie.spec (λ c. search needs) returns (λ c κs. search needs) returns-2 (λ c. search needs) returns-3 returns-4)

@@ -12,17 +12,9 @@ cubic (suc zero) a b d = absurd (b refl)
 cubic (suc (suc zero)) a b d = absurd (d refl)
 cubic (suc (suc (suc n))) a b d = refl
 
-returns : tie.Need-returns
-returns c = search needs
-
-returns-2 : tie.Need-returns-2
-returns-2 c = search needs
-
-returns-3 : tie.Need-returns-3
-returns-3 c = search needs
-
 returns-4 : tie.Need-returns-4
 returns-4 c = cubic (c .before .args .kind) (c .match .rest .0 .0 .1) (c .match .rest .0 .1) (c .match .rest .1)
 
 pub letter-spec : {M : Type 1} → statement M
-letter-spec = tie.close (tie.spec returns returns-2 returns-3 returns-4)
+letter-spec = tie.close
+    (tie.spec (λ c. search needs) (λ c. search needs) (λ c. search needs) returns-4)

@@ -30,9 +30,6 @@ module _ (c : tie.After-text) where
   short : c .text .result ≤ length (c .text .last .1 .0)
   short = c .text .ensures .within
 
-text-requires : tie.Need-text-requires
-text-requires c κs = search needs
-
 returns : tie.Need-returns
 returns c =
     let written = c .before in
@@ -49,9 +46,6 @@ put-word-requires c κs =
     let written = c .before .before .before in
     omega (arith, length-take-le (written .text .result) (written .text .last .1 .0) (short written), c .before .before .if1 .left)
 
-same-length : tie.Need-same-length
-same-length c = search needs
-
 returns-2 : tie.Need-returns-2
 returns-2 c =
     let put = c .before .before in
@@ -64,11 +58,5 @@ returns-2 c =
 pub listing-spec : {M : Type 1} → statement M
 listing-spec =
     tie.close
-    (tie.spec
-    text-requires
-    returns
-    array-share-prefix-whole
-    slice-aggregate-put-word
-    put-word-requires
-    same-length
-    returns-2)
+    (tie.spec (λ c κs. search needs) returns array-share-prefix-whole slice-aggregate-put-word put-word-requires
+    (λ c. search needs) returns-2)

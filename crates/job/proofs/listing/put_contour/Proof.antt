@@ -78,15 +78,5 @@ returns c =
 pub put-contour-spec : {M : Type 1} → statement M
 put-contour-spec =
     tie.close
-    (tie.spec
-    Inv-loop
-    μ-loop
-    loop-holds
-    shared-slice-read-put-line
-    shared-slice-read-put-line-2
-    put-line-requires
-    add-i
-    loop-less
-    loop-again
-    same-length
-    returns)
+    (tie.spec Inv-loop μ-loop loop-holds shared-slice-read-put-line shared-slice-read-put-line-2 put-line-requires add-i loop-less
+    loop-again same-length returns)

@@ -27,26 +27,14 @@ three : (c : tie.Else2) → decimal (c .before .before .before .args .n)
     (c .before .before .before .args .n % 10) ∷ [])
 three c = decimal-three (c .before .before .before .args .n) (c .if2 .left) (c .before .before .before .pre .0)
 
-digit-requires : tie.Need-digit-requires
-digit-requires c κs = search needs
-
 put-requires : tie.Need-put-requires
 put-requires c κs = omega (arith, ap length (one (c .before .before)), c .before .before .before .before .pre .1)
-
-same-length : tie.Need-same-length
-same-length c = search needs
 
 returns : tie.Need-returns
 returns c = rw (one (c .before .before .before .before .before)) (written (c .before .before .before .digit .ensures) (c .before .before .put .ensures))
 
-digit-requires-2 : tie.Need-digit-requires-2
-digit-requires-2 c κs = search needs
-
 put-requires-2 : tie.Need-put-requires-2
 put-requires-2 c κs = omega (arith, ap length (two (c .before .before)), c .before .before .before .before .before .pre .1)
-
-digit-requires-3 : tie.Need-digit-requires-3
-digit-requires-3 c κs = search needs
 
 put-requires-3 : tie.Need-put-requires-3
 put-requires-3 c κs =
@@ -54,9 +42,6 @@ put-requires-3 c κs =
     let place = put .before .before .before in
     let start = place .before .before .before in
     omega (arith, ap length (two place), start .pre .1, put .put2 .ensures .place, put .put2 .kept .0)
-
-same-length-2 : tie.Need-same-length-2
-same-length-2 c = search needs
 
 returns-2 : tie.Need-returns-2
 returns-2 c =
@@ -70,14 +55,8 @@ returns-2 c =
     (pasted-then (written (digit .digit2 .ensures) (put .put2 .ensures))
     (written (digit2 .digit3 .ensures) (put2 .put3 .ensures)) (omega (arith, ap length (two place), start .pre .1)))
 
-digit-requires-4 : tie.Need-digit-requires-4
-digit-requires-4 c κs = search needs
-
 put-requires-4 : tie.Need-put-requires-4
 put-requires-4 c κs = omega (arith, ap length (three (c .before .before)), c .before .before .before .before .before .pre .1)
-
-digit-requires-5 : tie.Need-digit-requires-5
-digit-requires-5 c κs = search needs
 
 put-requires-5 : tie.Need-put-requires-5
 put-requires-5 c κs =
@@ -85,9 +64,6 @@ put-requires-5 c κs =
     let place = put .before .before .before in
     let start = place .before .before .before in
     omega (arith, ap length (three place), start .pre .1, put .put4 .ensures .place, put .put4 .kept .0)
-
-digit-requires-6 : tie.Need-digit-requires-6
-digit-requires-6 c κs = search needs
 
 put-requires-6 : tie.Need-put-requires-6
 put-requires-6 c κs =
@@ -104,9 +80,6 @@ put-requires-6 c κs =
       put2 .put5 .ensures .place,
       put2 .put5 .kept .0,
     )
-
-same-length-3 : tie.Need-same-length-3
-same-length-3 c = search needs
 
 returns-3 : tie.Need-returns-3
 returns-3 c =
@@ -128,22 +101,6 @@ returns-3 c =
 pub put-decimal-spec : {M : Type 1} → statement M
 put-decimal-spec =
     tie.close
-    (tie.spec
-    digit-requires
-    put-requires
-    same-length
-    returns
-    digit-requires-2
-    put-requires-2
-    digit-requires-3
-    put-requires-3
-    same-length-2
-    returns-2
-    digit-requires-4
-    put-requires-4
-    digit-requires-5
-    put-requires-5
-    digit-requires-6
-    put-requires-6
-    same-length-3
-    returns-3)
+    (tie.spec (λ c κs. search needs) put-requires (λ c. search needs) returns (λ c κs. search needs) put-requires-2
+    (λ c κs. search needs) put-requires-3 (λ c. search needs) returns-2 (λ c κs. search needs) put-requires-4
+    (λ c κs. search needs) put-requires-5 (λ c κs. search needs) put-requires-6 (λ c. search needs) returns-3)

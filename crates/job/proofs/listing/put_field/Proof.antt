@@ -17,9 +17,6 @@ put-requires c κs =
     let start = number .before .before .before in
     omega (arith, start .pre .1, field-length (start .args .n) (start .args .byte), number .put-decimal .ensures .place, number .put-decimal .kept .0)
 
-same-length : tie.Need-same-length
-same-length c = search needs
-
 returns : tie.Need-returns
 returns c =
     let put-decimal = c .before .before .before .before .before .before in
@@ -28,4 +25,5 @@ returns c =
     (omega (arith, start .pre .1, field-length (start .args .n) (start .args .byte)))
 
 pub put-field-spec : {M : Type 1} → statement M
-put-field-spec = tie.close (tie.spec put-decimal-requires put-requires same-length returns)
+put-field-spec = tie.close
+    (tie.spec put-decimal-requires put-requires (λ c. search needs) returns)

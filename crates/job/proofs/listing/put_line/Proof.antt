@@ -66,9 +66,6 @@ put-field-requires-2 c κs =
       ),
     )
 
-letter-requires : tie.Need-letter-requires
-letter-requires c κs = search needs
-
 put-requires : tie.Need-put-requires
 put-requires c κs =
     let two = c .before .before .before .before in
@@ -100,9 +97,6 @@ put-field-requires-3 c κs =
       ),
     )
 
-same-length : tie.Need-same-length
-same-length c = search needs
-
 returns : tie.Need-returns
 returns c =
     let five = c .before .before in
@@ -132,12 +126,5 @@ returns c =
 pub put-line-spec : {M : Type 1} → statement M
 put-line-spec =
     tie.close
-    (tie.spec
-    put-field-requires
-    put-field-requires-2
-    letter-requires
-    put-requires
-    put-requires-2
-    put-field-requires-3
-    same-length
-    returns)
+    (tie.spec put-field-requires put-field-requires-2 (λ c κs. search needs) put-requires put-requires-2 put-field-requires-3
+    (λ c. search needs) returns)

@@ -138,23 +138,6 @@ returns c =
 pub put-shape-spec : {M : Type 1} → statement M
 put-shape-spec =
     tie.close
-    (tie.spec
-    Inv-loop
-    μ-loop
-    loop-holds
-    mul-end
-    shared-slice-read-end
-    cast-end
-    add-end
-    sub-put-contour
-    part-put-contour-start
-    part-put-contour-end
-    sub-put-contour-2
-    part-put-contour-start-2
-    part-put-contour-end-2
-    put-contour-requires
-    add-contour
-    loop-less
-    loop-again
-    same-length
-    returns)
+    (tie.spec Inv-loop μ-loop loop-holds mul-end shared-slice-read-end cast-end add-end sub-put-contour part-put-contour-start
+    part-put-contour-end sub-put-contour-2 part-put-contour-start-2 part-put-contour-end-2 put-contour-requires add-contour
+    loop-less loop-again same-length returns)

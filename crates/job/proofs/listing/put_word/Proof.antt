@@ -71,14 +71,4 @@ returns c =
 pub put-word-spec : {M : Type 1} → statement M
 put-word-spec =
     tie.close
-    (tie.spec
-    Inv-loop
-    μ-loop
-    loop-holds
-    shared-slice-read-put
-    put-requires
-    add-i
-    loop-less
-    loop-again
-    same-length
-    returns)
+    (tie.spec Inv-loop μ-loop loop-holds shared-slice-read-put put-requires add-i loop-less loop-again same-length returns)

@@ -6,18 +6,6 @@ use borrow.Author.Needs.{needs}
 use Rattle.job.proofs.listing.text.Statement.{statement}
 use Rattle.job.proofs.listing.text.Tie as tie
 
-slice-aggregate-write-answer : tie.Need-slice-aggregate-write-answer
-slice-aggregate-write-answer c = search needs
-
-slice-aggregate-write-answer-2 : tie.Need-slice-aggregate-write-answer-2
-slice-aggregate-write-answer-2 c = search needs
-
-slice-aggregate-write-answer-3 : tie.Need-slice-aggregate-write-answer-3
-slice-aggregate-write-answer-3 c = search needs
-
-slice-aggregate-write-answer-4 : tie.Need-slice-aggregate-write-answer-4
-slice-aggregate-write-answer-4 c = search needs
-
 write-answer-requires : tie.Need-write-answer-requires
 write-answer-requires c κs = (record { lengths-fit = omega arith; kinds-fit = omega arith; points-fit = omega arith; colors-fit = omega arith }, omega arith)
 
@@ -39,10 +27,4 @@ returns c =
 pub text-spec : {M : Type 1} → statement M
 text-spec =
     tie.close
-    (tie.spec
-    slice-aggregate-write-answer
-    slice-aggregate-write-answer-2
-    slice-aggregate-write-answer-3
-    slice-aggregate-write-answer-4
-    write-answer-requires
-    returns)
+    (tie.spec (λ c. search needs) (λ c. search needs) (λ c. search needs) (λ c. search needs) write-answer-requires returns)

@@ -65,12 +65,6 @@ module _ (c : tie.After-refusal) where
       refused-text (file start) (old start) (start .pre .0) (refusalNumber (c .refusal .given .0 .0)) (new refusing)
       (ap (λ (r : Colored). outcome (coloredAnswer r) (new refusing)) (sym (c .refusal .given .1)) ∙ refusing .color .ensures)
 
-color-requires : tie.Need-color-requires
-color-requires c κs = search needs
-
-enum-known-counts : tie.Need-enum-known-counts
-enum-known-counts c = search needs
-
 slice-reshare-prefix-write-listing : tie.Need-slice-reshare-prefix-write-listing
 slice-reshare-prefix-write-listing c = at-front c .lengths-within
 
@@ -95,29 +89,11 @@ write-listing-requires c κs =
     let start = began (coloring counted) in
     (at-front counted .listable, omega (arith, ap length (at-front counted .text), text-few (file start), start .pre .1))
 
-enum-known-refusal : tie.Need-enum-known-refusal
-enum-known-refusal c = search needs
-
 write-refusal-requires : tie.Need-write-refusal-requires
 write-refusal-requires c κs =
     let number = c .before .before in
     let start = began (refusing number) in
     omega (arith, ap length (refused number), text-few (file start), start .pre .1)
-
-same-length : tie.Need-same-length
-same-length c = search needs
-
-same-length-2 : tie.Need-same-length-2
-same-length-2 c = search needs
-
-same-length-3 : tie.Need-same-length-3
-same-length-3 c = search needs
-
-same-length-4 : tie.Need-same-length-4
-same-length-4 c = search needs
-
-same-length-5 : tie.Need-same-length-5
-same-length-5 c = search needs
 
 returns : tie.Need-returns
 returns c =
@@ -126,21 +102,6 @@ returns c =
     subst (λ (x : List ℕ). Pasted x 0 (began (coloring counted) .args .text .now) (written .write-listing .result)
     (written .write-listing .last .1 .1 .1 .0)) (sym (at-front counted .text))
     (written .write-listing .ensures)
-
-same-length-6 : tie.Need-same-length-6
-same-length-6 c = search needs
-
-same-length-7 : tie.Need-same-length-7
-same-length-7 c = search needs
-
-same-length-8 : tie.Need-same-length-8
-same-length-8 c = search needs
-
-same-length-9 : tie.Need-same-length-9
-same-length-9 c = search needs
-
-same-length-10 : tie.Need-same-length-10
-same-length-10 c = search needs
 
 returns-2 : tie.Need-returns-2
 returns-2 c =
@@ -153,27 +114,8 @@ returns-2 c =
 pub write-answer-spec : {M : Type 1} → statement M
 write-answer-spec =
     tie.close
-    (tie.spec
-    color-requires
-    enum-known-counts
-    slice-reshare-prefix-write-listing
-    slice-aggregate-write-listing
-    slice-reshare-prefix-write-listing-2
-    slice-aggregate-write-listing-2
-    slice-reshare-prefix-write-listing-3
-    slice-aggregate-write-listing-3
-    write-listing-requires
-    enum-known-refusal
-    write-refusal-requires
-    same-length
-    same-length-2
-    same-length-3
-    same-length-4
-    same-length-5
-    returns
-    same-length-6
-    same-length-7
-    same-length-8
-    same-length-9
-    same-length-10
-    returns-2)
+    (tie.spec (λ c κs. search needs) (λ c. search needs) slice-reshare-prefix-write-listing slice-aggregate-write-listing
+    slice-reshare-prefix-write-listing-2 slice-aggregate-write-listing-2 slice-reshare-prefix-write-listing-3
+    slice-aggregate-write-listing-3 write-listing-requires (λ c. search needs) write-refusal-requires (λ c. search needs)
+    (λ c. search needs) (λ c. search needs) (λ c. search needs) (λ c. search needs) returns (λ c. search needs)
+    (λ c. search needs) (λ c. search needs) (λ c. search needs) (λ c. search needs) returns-2)

@@ -31,9 +31,6 @@ put-shape-requires c κs =
     let s = c .before .before .before .before .before in
     (s .pre .0, omega (arith, room s))
 
-slice-aggregate-put-word : tie.Need-slice-aggregate-put-word
-slice-aggregate-put-word c = search needs
-
 put-word-requires : tie.Need-put-word-requires
 put-word-requires c κs =
     let shape = c .before .before .before .before in
@@ -46,9 +43,6 @@ put-field-requires c κs =
     let shape = word .before .before .before .before .before in
     let s = start shape in
     (s .pre .0 .1, omega (arith, room s, shape .put-shape .ensures .place, shape .put-shape .kept .0, word .put-word .ensures .place, word .put-word .kept .0))
-
-same-length : tie.Need-same-length
-same-length c = search needs
 
 returns : tie.Need-returns
 returns c =
@@ -66,10 +60,4 @@ returns c =
 pub write-listing-spec : {M : Type 1} → statement M
 write-listing-spec =
     tie.close
-    (tie.spec
-    put-shape-requires
-    slice-aggregate-put-word
-    put-word-requires
-    put-field-requires
-    same-length
-    returns)
+    (tie.spec put-shape-requires (λ c. search needs) put-word-requires put-field-requires (λ c. search needs) returns)

@@ -12,19 +12,10 @@ use borrow.Author.Needs.{needs}
 use Rattle.job.proofs.listing.write_refusal.Statement.{statement}
 use Rattle.job.proofs.listing.write_refusal.Tie as tie
 
-slice-aggregate-put-word : tie.Need-slice-aggregate-put-word
-slice-aggregate-put-word c = search needs
-
 put-word-requires : tie.Need-put-word-requires
 put-word-requires c κs =
     let s = c .before .before .before in
     omega (arith, s .pre, refusal-length (refusalNumber (s .args .refusal)))
-
-number-requires : tie.Need-number-requires
-number-requires c κs = search needs
-
-cast-put-field : tie.Need-cast-put-field
-cast-put-field c = search needs
 
 put-field-requires : tie.Need-put-field-requires
 put-field-requires c κs =
@@ -41,9 +32,6 @@ put-field-requires c κs =
       ),
     )
 
-same-length : tie.Need-same-length
-same-length c = search needs
-
 returns : tie.Need-returns
 returns c =
     let number = c .before .before .before in
@@ -58,11 +46,5 @@ returns c =
 pub write-refusal-spec : {M : Type 1} → statement M
 write-refusal-spec =
     tie.close
-    (tie.spec
-    slice-aggregate-put-word
-    put-word-requires
-    number-requires
-    cast-put-field
-    put-field-requires
-    same-length
-    returns)
+    (tie.spec (λ c. search needs) put-word-requires (λ c κs. search needs) (λ c. search needs) put-field-requires
+    (λ c. search needs) returns)

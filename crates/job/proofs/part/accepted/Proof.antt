@@ -8,15 +8,6 @@ use borrow.Author.Needs.{needs}
 use Rattle.job.proofs.part.accepted.Statement.{statement}
 use Rattle.job.proofs.part.accepted.Tie as tie
 
-accept-requires : tie.Need-accept-requires
-accept-requires c κs = search needs
-
-enum-told : tie.Need-enum-told
-enum-told c = search needs
-
-enum-told-2 : tie.Need-enum-told-2
-enum-told-2 c = search needs
-
 returns : tie.Need-returns
 returns c = sym (ap succeeds (answer-job (acceptJob _) _ (sym (ap readAnswer (c .enum-told .given .1)) ∙ c .before .before .accept .ensures) .is-read))
 
@@ -24,11 +15,4 @@ returns-2 : tie.Need-returns-2
 returns-2 c = sym (ap succeeds (answer-refused (acceptJob _) _ (sym (ap readAnswer (c .enum-told2 .given .1)) ∙ c .before .before .accept .ensures)))
 
 pub accepted-spec : {M : Type 1} → statement M
-accepted-spec =
-    tie.close
-    (tie.spec
-    accept-requires
-    enum-told
-    enum-told-2
-    returns
-    returns-2)
+accepted-spec = tie.close (tie.spec (λ c κs. search needs) (λ c. search needs) (λ c. search needs) returns returns-2)

@@ -8,18 +8,6 @@ use borrow.Author.Needs.{needs}
 use Rattle.job.proofs.part.contour_part.Statement.{statement}
 use Rattle.job.proofs.part.contour_part.Tie as tie
 
-contour-place-requires : tie.Need-contour-place-requires
-contour-place-requires c κs = search needs
-
-sub-result : tie.Need-sub-result
-sub-result c = search needs
-
-part-result-start : tie.Need-part-result-start
-part-result-start c = search needs
-
-part-result-end : tie.Need-part-result-end
-part-result-end c = search needs
-
 returns : tie.Need-returns
 unfolding contourPart
 returns c =
@@ -29,4 +17,4 @@ returns c =
 pub contour-part-spec : {M : Type 1} → statement M
 contour-part-spec =
     tie.close
-    (tie.spec contour-place-requires sub-result part-result-start part-result-end returns)
+    (tie.spec (λ c κs. search needs) (λ c. search needs) (λ c. search needs) (λ c. search needs) returns)

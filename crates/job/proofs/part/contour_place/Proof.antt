@@ -24,9 +24,6 @@ file c = start c .args .file .now
 is-accepted : (c : tie.Else1) → accepted (file (c .before)) ≡ true
 is-accepted c = sym (c .before .accepted .ensures) ∙ not-false (c .before .accepted .result) (c .if1 .left)
 
-accepted-requires : tie.Need-accepted-requires
-accepted-requires c κs = search needs
-
 returns : tie.Need-returns
 returns c =
     let tested = c .before in (
@@ -47,4 +44,5 @@ returns-2 c =
     )
 
 pub contour-place-spec : {M : Type 1} → statement M
-contour-place-spec = tie.close (tie.spec accepted-requires returns contour-span-requires returns-2)
+contour-place-spec = tie.close
+    (tie.spec (λ c κs. search needs) returns contour-span-requires returns-2)

@@ -45,9 +45,6 @@ module _ (c : tie.After-item Inv-loop μ-loop) where
   as-read : Read-as (readRecord (p found .state) (drop (p found .at) (file found))) (c .item .given .0 .0) (c .item .given .0 .1 .0)
   as-read = found-item _ _ _ (sym (ap foundAnswer (c .item .given .1)) ∙ read found)
 
-begin-requires : tie.Need-begin-requires Inv-loop μ-loop
-begin-requires c κs = search needs
-
 loop-holds : tie.Need-loop-holds Inv-loop μ-loop
 loop-holds c = rw (c .begin .ensures) (seeking-begin _ _)
 
@@ -59,15 +56,6 @@ part-read-record-start c = c .before .loop .inv .at .within
 
 part-read-record-end : tie.Need-part-read-record-end Inv-loop μ-loop
 part-read-record-end c = omega arith
-
-read-record-requires : tie.Need-read-record-requires Inv-loop μ-loop
-read-record-requires c κs = search needs
-
-enum-known-item : tie.Need-enum-known-item Inv-loop μ-loop
-enum-known-item c = search needs
-
-sought-requires : tie.Need-sought-requires Inv-loop μ-loop
-sought-requires c κs = search needs
 
 advance-requires : tie.Need-advance-requires Inv-loop μ-loop
 advance-requires c κs = let i = c .before .before in counts-on _ _ (at (found i) .loop .inv .at) (as-read i) (omega arith)
@@ -81,12 +69,6 @@ loop-again c =
     let f = found i in
     rw (c .advance .ensures, c .before .sought .ensures) (seeking-next (file f) (number f) (p f) (at f .loop .q) (at f .loop .inv) _ _ (as-read i))
 
-enum-told : tie.Need-enum-told Inv-loop μ-loop
-enum-told c = search needs
-
-span-of-requires : tie.Need-span-of-requires Inv-loop μ-loop
-span-of-requires c κs = search needs
-
 returns : tie.Need-returns Inv-loop μ-loop
 returns c =
     let f = c .before .before .before in
@@ -94,9 +76,6 @@ returns c =
       seeking-end (file f) (number f) (p f) (at f .loop .q) (at f .loop .inv) (found-end _ (sym (ap foundAnswer (c .before .enum-told .given .1)) ∙ read f)),
       seeking-inside (file f) (number f) (p f) (at f .loop .q) (at f .loop .inv),
     )
-
-enum-told-2 : tie.Need-enum-told-2 Inv-loop μ-loop
-enum-told-2 c = search needs
 
 returns-2 : tie.Need-returns-2 Inv-loop μ-loop
 returns-2 c =
@@ -107,22 +86,6 @@ returns-2 c =
 pub contour-span-spec : {M : Type 1} → statement M
 contour-span-spec =
     tie.close
-    (tie.spec
-    Inv-loop
-    μ-loop
-    begin-requires
-    loop-holds
-    sub-read-record
-    part-read-record-start
-    part-read-record-end
-    read-record-requires
-    enum-known-item
-    sought-requires
-    advance-requires
-    loop-less
-    loop-again
-    enum-told
-    span-of-requires
-    returns
-    enum-told-2
-    returns-2)
+    (tie.spec Inv-loop μ-loop (λ c κs. search needs) loop-holds sub-read-record part-read-record-start part-read-record-end
+    (λ c κs. search needs) (λ c. search needs) (λ c κs. search needs) advance-requires loop-less loop-again (λ c. search needs)
+    (λ c κs. search needs) returns (λ c. search needs) returns-2)

@@ -15,42 +15,6 @@ unfolding sought
 passed zero at h = absurd (h (omega arith))
 passed (suc left) at h = ap Passing (omega arith)
 
-enum-known-q : tie.Need-enum-known-q
-enum-known-q c = search needs
-
-enum-told : tie.Need-enum-told
-enum-told c = search needs
-
-sub-t11 : tie.Need-sub-t11
-sub-t11 c = search needs
-
-enum-told-2 : tie.Need-enum-told-2
-enum-told-2 c = search needs
-
-enum-told-3 : tie.Need-enum-told-3
-enum-told-3 c = search needs
-
-enum-told-4 : tie.Need-enum-told-4
-enum-told-4 c = search needs
-
-enum-known-q-2 : tie.Need-enum-known-q-2
-enum-known-q-2 c = search needs
-
-enum-told-5 : tie.Need-enum-told-5
-enum-told-5 c = search needs
-
-enum-told-6 : tie.Need-enum-told-6
-enum-told-6 c = search needs
-
-enum-told-7 : tie.Need-enum-told-7
-enum-told-7 c = search needs
-
-enum-told-8 : tie.Need-enum-told-8
-enum-told-8 c = search needs
-
-enum-known-q-3 : tie.Need-enum-known-q-3
-enum-known-q-3 c = search needs
-
 returns : tie.Need-returns
 unfolding sought
 returns c = rw (c .before .before .before .before .q .given .1, c .before .enum-told .given .1, c .if1 .taken)
@@ -93,26 +57,6 @@ returns-10 c = rw (c .before .q3 .given .1)
 pub sought-spec : {M : Type 1} → statement M
 sought-spec =
     tie.close
-    (tie.spec
-    enum-known-q
-    enum-told
-    sub-t11
-    enum-told-2
-    enum-told-3
-    enum-told-4
-    enum-known-q-2
-    enum-told-5
-    enum-told-6
-    enum-told-7
-    enum-told-8
-    enum-known-q-3
-    returns
-    returns-2
-    returns-3
-    returns-4
-    returns-5
-    returns-6
-    returns-7
-    returns-8
-    returns-9
-    returns-10)
+    (tie.spec (λ c. search needs) (λ c. search needs) (λ c. search needs) (λ c. search needs) (λ c. search needs)
+    (λ c. search needs) (λ c. search needs) (λ c. search needs) (λ c. search needs) (λ c. search needs) (λ c. search needs)
+    (λ c. search needs) returns returns-2 returns-3 returns-4 returns-5 returns-6 returns-7 returns-8 returns-9 returns-10)

@@ -10,4 +10,5 @@ returns-2 : tie.Need-returns-2
 returns-2 c = rw (le-ltb _ _ (c .if1 .left))
 
 pub is-distance-spec : {M : Type 1} → statement M
-is-distance-spec = tie.close (tie.spec returns returns-2)
+is-distance-spec = tie.close
+    (tie.spec returns returns-2)

@@ -66,15 +66,4 @@ returns c =
 pub number-spec : {M : Type 1} → statement M
 number-spec =
     tie.close
-    (tie.spec
-    Inv-loop
-    μ-loop
-    loop-holds
-    sub-i
-    shared-slice-read-value
-    cast-value
-    mul-value
-    add-value
-    loop-less
-    loop-again
-    returns)
+    (tie.spec Inv-loop μ-loop loop-holds sub-i shared-slice-read-value cast-value mul-value add-value loop-less loop-again returns)

@@ -92,19 +92,5 @@ returns-2 c =
 pub words-within-spec : {M : Type 1} → statement M
 words-within-spec =
     tie.close
-    (tie.spec
-    Inv-loop
-    μ-loop
-    loop-holds
-    mul-at
-    add-end
-    sub-number
-    part-number-start
-    part-number-end
-    number-requires
-    within-requires
-    returns
-    add-i
-    loop-less
-    loop-again
-    returns-2)
+    (tie.spec Inv-loop μ-loop loop-holds mul-at add-end sub-number part-number-start part-number-end number-requires
+    within-requires returns add-i loop-less loop-again returns-2)

@@ -43,9 +43,6 @@ module _ (c : tie.After-item Inv-loop μ-loop) where
   as-read : Read-as (readRecord (p found .state) (drop (p found .at) (file found))) (c .item .given .0 .0) (c .item .given .0 .1 .0)
   as-read = found-item _ _ _ (sym (ap foundAnswer (c .item .given .1)) ∙ read found)
 
-begin-requires : tie.Need-begin-requires Inv-loop μ-loop
-begin-requires c κs = search needs
-
 loop-holds : tie.Need-loop-holds Inv-loop μ-loop
 loop-holds c = rw (c .begin .ensures) (reached-begin _)
 
@@ -58,12 +55,6 @@ part-read-record-start c = omega (arith, c .before .loop .inv .within)
 part-read-record-end : tie.Need-part-read-record-end Inv-loop μ-loop
 part-read-record-end c = omega arith
 
-read-record-requires : tie.Need-read-record-requires Inv-loop μ-loop
-read-record-requires c κs = search needs
-
-enum-known-item : tie.Need-enum-known-item Inv-loop μ-loop
-enum-known-item c = search needs
-
 advance-requires : tie.Need-advance-requires Inv-loop μ-loop
 advance-requires c κs = counts-on _ _ (at (found (c .before)) .loop .inv) (as-read (c .before)) (omega arith)
 
@@ -73,17 +64,11 @@ loop-less c = rw (c .advance .ensures) (less-on _ _ (at (found (c .before .befor
 loop-again : tie.Need-loop-again Inv-loop μ-loop
 loop-again c = rw (c .advance .ensures) (reached-on _ _ (at (found (c .before .before)) .loop .inv) (as-read (c .before .before)))
 
-enum-told : tie.Need-enum-told Inv-loop μ-loop
-enum-told c = search needs
-
 returns : tie.Need-returns Inv-loop μ-loop
 returns c =
     let f = c .before .before .before in
     let at-end = found-end _ (sym (ap foundAnswer (c .before .enum-told .given .1)) ∙ read f) in
     ap gives (at f .loop .inv .numbers-are) ∙ ap answerOf (reached-end (file f) (p f) (at f .loop .inv) at-end)
-
-enum-known-refusal : tie.Need-enum-known-refusal Inv-loop μ-loop
-enum-known-refusal c = search needs
 
 returns-2 : tie.Need-returns-2 Inv-loop μ-loop
 returns-2 c =
@@ -94,20 +79,6 @@ returns-2 c =
 pub scan-spec : {M : Type 1} → statement M
 scan-spec =
     tie.close
-    (tie.spec
-    Inv-loop
-    μ-loop
-    begin-requires
-    loop-holds
-    sub-read-record
-    part-read-record-start
-    part-read-record-end
-    read-record-requires
-    enum-known-item
-    advance-requires
-    loop-less
-    loop-again
-    enum-told
-    returns
-    enum-known-refusal
-    returns-2)
+    (tie.spec Inv-loop μ-loop (λ c κs. search needs) loop-holds sub-read-record part-read-record-start part-read-record-end
+    (λ c κs. search needs) (λ c. search needs) advance-requires loop-less loop-again (λ c. search needs) returns
+    (λ c. search needs) returns-2)

@@ -80,9 +80,6 @@ module _ (c : tie.After-write-item Inv-loop μ-loop) where
       (part-after (p f .at) (file f)) (c .write-item .ensures))
       (c .write-item .kept .1 .1 .1 .0) (c .write-item .kept .1 .1 .1 .1 .0) (c .write-item .kept .1 .1 .1 .1 .1 .0) (c .write-item .kept .1 .1 .1 .1 .1 .1 .0)
 
-begin-requires : tie.Need-begin-requires Inv-loop μ-loop
-begin-requires c κs = search needs
-
 loop-holds : tie.Need-loop-holds Inv-loop μ-loop
 loop-holds c = rw (c .begin .ensures) (filling-begin _ _)
 
@@ -94,12 +91,6 @@ part-read-record-start c = omega (arith, c .before .loop .inv .at .within)
 
 part-read-record-end : tie.Need-part-read-record-end Inv-loop μ-loop
 part-read-record-end c = omega arith
-
-read-record-requires : tie.Need-read-record-requires Inv-loop μ-loop
-read-record-requires c κs = search needs
-
-enum-known-item : tie.Need-enum-known-item Inv-loop μ-loop
-enum-known-item c = search needs
 
 sub-write-item : tie.Need-sub-write-item Inv-loop μ-loop
 sub-write-item c = at (found (c .before .before)) .loop .inv .at .within
@@ -135,9 +126,6 @@ loop-again c =
     let place = c .before .before .before .before .before .before .before .before .before in
     rw (c .advance .ensures) (next place)
 
-enum-told : tie.Need-enum-told Inv-loop μ-loop
-enum-told c = search needs
-
 same-length : tie.Need-same-length Inv-loop μ-loop
 same-length c = at (c .before .before) .loop .inv .lengths-kept
 
@@ -154,9 +142,6 @@ returns : tie.Need-returns Inv-loop μ-loop
 returns c =
     let f = c .before .before in
     filling-end (file f) (old f) (start f .pre) (p f) _ _ _ _ (at f .loop .inv) (found-end _ (sym (ap foundAnswer (c .enum-told .given .1)) ∙ read f))
-
-enum-told-2 : tie.Need-enum-told-2 Inv-loop μ-loop
-enum-told-2 c = search needs
 
 same-length-5 : tie.Need-same-length-5 Inv-loop μ-loop
 same-length-5 c = at (c .before .before) .loop .inv .lengths-kept
@@ -179,32 +164,7 @@ returns-2 c =
 pub fill-spec : {M : Type 1} → statement M
 fill-spec =
     tie.close
-    (tie.spec
-    Inv-loop
-    μ-loop
-    begin-requires
-    loop-holds
-    sub-read-record
-    part-read-record-start
-    part-read-record-end
-    read-record-requires
-    enum-known-item
-    sub-write-item
-    part-write-item-start
-    part-write-item-end
-    write-item-requires
-    advance-requires
-    loop-less
-    loop-again
-    enum-told
-    same-length
-    same-length-2
-    same-length-3
-    same-length-4
-    returns
-    enum-told-2
-    same-length-5
-    same-length-6
-    same-length-7
-    same-length-8
-    returns-2)
+    (tie.spec Inv-loop μ-loop (λ c κs. search needs) loop-holds sub-read-record part-read-record-start part-read-record-end
+    (λ c κs. search needs) (λ c. search needs) sub-write-item part-write-item-start part-write-item-end write-item-requires
+    advance-requires loop-less loop-again (λ c. search needs) same-length same-length-2 same-length-3 same-length-4 returns
+    (λ c. search needs) same-length-5 same-length-6 same-length-7 same-length-8 returns-2)

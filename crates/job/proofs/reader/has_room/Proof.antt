@@ -13,9 +13,6 @@ returns-2 : tie.Need-returns-2
 unfolding roomFor
 returns-2 c = rw (le-leb _ _ (c .before .before .if1 .left), lt-leb _ _ (c .if2 .taken))
 
-mul-if3 : tie.Need-mul-if3
-mul-if3 c = search needs
-
 returns-3 : tie.Need-returns-3
 unfolding roomFor
 returns-3 c = rw (le-leb _ _ (c .before .before .before .before .if1 .left), le-leb _ _ (c .before .before .if2 .left), lt-leb _ _ (c .if3 .taken))
@@ -29,4 +26,5 @@ returns-4 c = rw (
 )
 
 pub has-room-spec : {M : Type 1} → statement M
-has-room-spec = tie.close (tie.spec returns returns-2 mul-if3 returns-3 returns-4)
+has-room-spec = tie.close
+    (tie.spec returns returns-2 (λ c. search needs) returns-3 returns-4)

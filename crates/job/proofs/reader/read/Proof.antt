@@ -42,12 +42,6 @@ module _ (c : tie.After-n) where
 room : (c : tie.After-has-room) (b : Bool) → c .has-room .result ≡ b → hasRoom (numbers (c .before .before)) (old (start (c .before .before))) ≡ b
 room c b e = sym (c .has-room .ensures) ∙ e
 
-accept-requires : tie.Need-accept-requires
-accept-requires c κs = search needs
-
-enum-known-n : tie.Need-enum-known-n
-enum-known-n c = search needs
-
 has-room-requires : tie.Need-has-room-requires
 has-room-requires c κs = answer-few (file (start (c .before))) (numbers (c .before)) (rw (same (c .before)) (job (c .before)))
 
@@ -63,21 +57,6 @@ fill-requires c κs =
     let j = tested .before .before .before in
     rw (same j) (fits-buffers (acceptJob (file (start j))) (numbers j) (job j) (old (start j))
     (room (tested .before) true (not-false (tested .before .has-room .result) (tested .if1 .left))))
-
-enum-known-refusal : tie.Need-enum-known-refusal
-enum-known-refusal c = search needs
-
-same-length : tie.Need-same-length
-same-length c = search needs
-
-same-length-2 : tie.Need-same-length-2
-same-length-2 c = search needs
-
-same-length-3 : tie.Need-same-length-3
-same-length-3 c = search needs
-
-same-length-4 : tie.Need-same-length-4
-same-length-4 c = search needs
 
 returns-2 : tie.Need-returns-2
 returns-2 c =
@@ -96,16 +75,5 @@ returns-3 c =
 pub read-spec : {M : Type 1} → statement M
 read-spec =
     tie.close
-    (tie.spec
-    accept-requires
-    enum-known-n
-    has-room-requires
-    returns
-    fill-requires
-    enum-known-refusal
-    same-length
-    same-length-2
-    same-length-3
-    same-length-4
-    returns-2
-    returns-3)
+    (tie.spec (λ c κs. search needs) (λ c. search needs) has-room-requires returns fill-requires (λ c. search needs)
+    (λ c. search needs) (λ c. search needs) (λ c. search needs) (λ c. search needs) returns-2 returns-3)

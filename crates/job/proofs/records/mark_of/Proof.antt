@@ -70,18 +70,5 @@ returns-14 c = rw (
 pub mark-of-spec : {M : Type 1} → statement M
 mark-of-spec =
     tie.close
-    (tie.spec
-    returns
-    returns-2
-    returns-3
-    returns-4
-    returns-5
-    returns-6
-    returns-7
-    returns-8
-    returns-9
-    returns-10
-    returns-11
-    returns-12
-    returns-13
-    returns-14)
+    (tie.spec returns returns-2 returns-3 returns-4 returns-5 returns-6 returns-7 returns-8 returns-9 returns-10 returns-11
+    returns-12 returns-13 returns-14)

@@ -8,14 +8,8 @@ use borrow.Author.Needs.{needs}
 use Rattle.job.proofs.records.read_body.Statement.{statement}
 use Rattle.job.proofs.records.read_body.Tie as tie
 
-enum-told : tie.Need-enum-told
-enum-told c = search needs
-
 read-header-requires : tie.Need-read-header-requires
 read-header-requires c κs = c .before .before .before .before .pre ∙ ap bodySize (c .enum-told .given .1)
-
-enum-told-2 : tie.Need-enum-told-2
-enum-told-2 c = search needs
 
 -- nothing follows CT
 contour-body : (c : tie.After-enum-told2) → length (c .before .before .before .before .args .body .now) ≡ 0
@@ -24,23 +18,11 @@ contour-body c = c .before .before .before .before .pre ∙ ap bodySize (c .enum
 add-t8 : tie.Need-add-t8
 add-t8 c = omega (arith, contour-body c)
 
-enum-known-mark : tie.Need-enum-known-mark
-enum-known-mark c = search needs
-
 read-edge-requires : tie.Need-read-edge-requires
 read-edge-requires c κs = c .before .before .before .before .before .pre ∙ ap bodySize (c .before .mark .given .1)
 
-enum-told-3 : tie.Need-enum-told-3
-enum-told-3 c = search needs
-
 read-distances-requires : tie.Need-read-distances-requires
 read-distances-requires c κs = c .before .before .before .before .pre ∙ ap bodySize (c .enum-told3 .given .1)
-
-enum-told-4 : tie.Need-enum-told-4
-enum-told-4 c = search needs
-
-read-end-requires : tie.Need-read-end-requires
-read-end-requires c κs = search needs
 
 returns : tie.Need-returns
 unfolding readBody
@@ -69,19 +51,6 @@ returns-5 c = rw (c .before .enum-told4 .given .1) (c .read-end .ensures)
 pub read-body-spec : {M : Type 1} → statement M
 read-body-spec =
     tie.close
-    (tie.spec
-    enum-told
-    read-header-requires
-    enum-told-2
-    add-t8
-    enum-known-mark
-    read-edge-requires
-    enum-told-3
-    read-distances-requires
-    enum-told-4
-    read-end-requires
-    returns
-    returns-2
-    returns-3
-    returns-4
+    (tie.spec (λ c. search needs) read-header-requires (λ c. search needs) add-t8 (λ c. search needs) read-edge-requires
+    (λ c. search needs) read-distances-requires (λ c. search needs) (λ c κs. search needs) returns returns-2 returns-3 returns-4
     returns-5)

@@ -8,31 +8,13 @@ use borrow.Author.Needs.{needs}
 use Rattle.job.proofs.records.read_distances.Statement.{statement}
 use Rattle.job.proofs.records.read_distances.Tie as tie
 
-number-requires : tie.Need-number-requires
-number-requires c κs = search needs
-
 returns : tie.Need-returns
 unfolding readDistances
 returns c = rw (← c .before .number .ensures, lt-leb _ 2016 (c .if1 .taken))
 
-mul-if2 : tie.Need-mul-if2
-mul-if2 c = search needs
-
 returns-2 : tie.Need-returns-2
 unfolding readDistances
 returns-2 c = rw (← c .before .before .number .ensures, le-leb _ 2016 (c .before .if1 .left), lt-leb _ _ (c .if2 .taken))
-
-words-within-requires : tie.Need-words-within-requires
-words-within-requires c κs = search needs
-
-add-t14 : tie.Need-add-t14
-add-t14 c = search needs
-
-mul-t15 : tie.Need-mul-t15
-mul-t15 c = search needs
-
-add-t16 : tie.Need-add-t16
-add-t16 c = search needs
 
 returns-3 : tie.Need-returns-3
 returns-3 c =
@@ -53,4 +35,5 @@ returns-4 c = rw (
 pub read-distances-spec : {M : Type 1} → statement M
 read-distances-spec =
     tie.close
-    (tie.spec number-requires returns mul-if2 returns-2 words-within-requires add-t14 mul-t15 add-t16 returns-3 returns-4)
+    (tie.spec (λ c κs. search needs) returns (λ c. search needs) returns-2 (λ c κs. search needs) (λ c. search needs)
+    (λ c. search needs) (λ c. search needs) returns-3 returns-4)

@@ -10,23 +10,11 @@ use borrow.Author.Needs.{needs}
 use Rattle.job.proofs.records.read_edge.Statement.{statement}
 use Rattle.job.proofs.records.read_edge.Tie as tie
 
-controls-requires : tie.Need-controls-requires
-controls-requires c κs = search needs
-
-mul-words-within : tie.Need-mul-words-within
-mul-words-within c = search needs
-
-words-within-requires : tie.Need-words-within-requires
-words-within-requires c κs = search needs
-
 -- the coordinates, tested
 tested : (c : tie.After-words-within) → c .words-within .result ≡ all isCoordinate
     (words (2 * controls (c .before .before .before .args .kind)) (c .before .before .before .args .body .now))
 tested c = c .words-within .ensures ∙ ap (λ (k : ℕ). all isCoordinate (words (2 * k) (c .before .before .before .args .body .now)))
     (c .before .controls .ensures)
-
-add-t9 : tie.Need-add-t9
-add-t9 c = search needs
 
 returns : tie.Need-returns
 returns c = edge-found _ _ _ (sym (tested (c .before)) ∙ c .if1 .taken) (omega (arith, c .before .before .before .before .pre))
@@ -37,4 +25,5 @@ returns-2 c = rw (← tested (c .before), c .if1 .left)
 
 pub read-edge-spec : {M : Type 1} → statement M
 read-edge-spec =
-    tie.close (tie.spec controls-requires mul-words-within words-within-requires add-t9 returns returns-2)
+    tie.close
+    (tie.spec (λ c κs. search needs) (λ c. search needs) (λ c κs. search needs) (λ c. search needs) returns returns-2)

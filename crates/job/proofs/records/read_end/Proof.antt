@@ -11,4 +11,5 @@ returns-2 : tie.Need-returns-2
 returns-2 c = sym (end-more _ (c .if1 .left))
 
 pub read-end-spec : {M : Type 1} → statement M
-read-end-spec = tie.close (tie.spec returns returns-2)
+read-end-spec = tie.close
+    (tie.spec returns returns-2)

@@ -15,9 +15,6 @@ use borrow.Author.Needs.{needs}
 use Rattle.job.proofs.records.read_header.Statement.{statement}
 use Rattle.job.proofs.records.read_header.Tie as tie
 
-shared-slice-read-number : tie.Need-shared-slice-read-number
-shared-slice-read-number c = search needs
-
 -- the threshold, tested
 module _ (c : tie.After-is-threshold) where
   abbrev known : tie.Else2
@@ -43,42 +40,9 @@ returns-2 : tie.Need-returns-2
 unfolding readHeader
 returns-2 c = rw (le-leb 1 _ (c .before .if1 .left), lt-leb _ 3 (c .if2 .taken))
 
-sub-number : tie.Need-sub-number
-sub-number c = search needs
-
-part-number-start : tie.Need-part-number-start
-part-number-start c = search needs
-
-part-number-end : tie.Need-part-number-end
-part-number-end c = search needs
-
-number-requires : tie.Need-number-requires
-number-requires c κs = search needs
-
-sub-number-2 : tie.Need-sub-number-2
-sub-number-2 c = search needs
-
-part-number-start-2 : tie.Need-part-number-start-2
-part-number-start-2 c = search needs
-
-part-number-end-2 : tie.Need-part-number-end-2
-part-number-end-2 c = search needs
-
-number-requires-2 : tie.Need-number-requires-2
-number-requires-2 c κs = search needs
-
-is-threshold-requires : tie.Need-is-threshold-requires
-is-threshold-requires c κs = search needs
-
 returns-3 : tie.Need-returns-3
 unfolding readHeader
 returns-3 c = rw (low (c .before), high (c .before), ← tested (c .before), not-true (c .before .is-threshold .result) (c .if3 .taken))
-
-strategy-of-requires : tie.Need-strategy-of-requires
-strategy-of-requires c κs = search needs
-
-add-t22 : tie.Need-add-t22
-add-t22 c = search needs
 
 returns-4 : tie.Need-returns-4
 returns-4 c =
@@ -91,20 +55,6 @@ returns-4 c =
 pub read-header-spec : {M : Type 1} → statement M
 read-header-spec =
     tie.close
-    (tie.spec
-    shared-slice-read-number
-    returns
-    returns-2
-    sub-number
-    part-number-start
-    part-number-end
-    number-requires
-    sub-number-2
-    part-number-start-2
-    part-number-end-2
-    number-requires-2
-    is-threshold-requires
-    returns-3
-    strategy-of-requires
-    add-t22
-    returns-4)
+    (tie.spec (λ c. search needs) returns returns-2 (λ c. search needs) (λ c. search needs) (λ c. search needs)
+    (λ c κs. search needs) (λ c. search needs) (λ c. search needs) (λ c. search needs) (λ c κs. search needs)
+    (λ c κs. search needs) returns-3 (λ c κs. search needs) (λ c. search needs) returns-4)

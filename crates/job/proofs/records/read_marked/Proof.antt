@@ -20,22 +20,13 @@ may c = sym (c .before .allowed .ensures) ∙ not-false (c .before .allowed .res
 room : (c : tie.Else2) → belowMaximum (began (c .before .before) .args .s .numbers) (began (c .before .before) .args .mark) ≡ true
 room c = sym (c .before .below-maximum .ensures) ∙ not-false (c .before .below-maximum .result) (c .if2 .left)
 
-allowed-requires : tie.Need-allowed-requires
-allowed-requires c κs = search needs
-
 returns : tie.Need-returns
 unfolding readMarked
 returns c = rw (← c .before .allowed .ensures, not-true (c .before .allowed .result) (c .if1 .taken))
 
-below-maximum-requires : tie.Need-below-maximum-requires
-below-maximum-requires c κs = search needs
-
 returns-2 : tie.Need-returns-2
 unfolding readMarked
 returns-2 c = rw (may (c .before .before), ← c .before .below-maximum .ensures, not-true (c .before .below-maximum .result) (c .if2 .taken))
-
-body-size-requires : tie.Need-body-size-requires
-body-size-requires c κs = search needs
 
 returns-3 : tie.Need-returns-3
 unfolding readMarked
@@ -43,15 +34,6 @@ returns-3 c = rw (may (c .before .before .before .before), room (c .before .befo
 
 slice-aggregate-read-body : tie.Need-slice-aggregate-read-body
 slice-aggregate-read-body c = rw length-take (omega arith)
-
-sub-read-body : tie.Need-sub-read-body
-sub-read-body c = search needs
-
-part-read-body-start : tie.Need-part-read-body-start
-part-read-body-start c = search needs
-
-part-read-body-end : tie.Need-part-read-body-end
-part-read-body-end c = search needs
 
 read-body-requires : tie.Need-read-body-requires
 read-body-requires c κs = rw length-take (omega (arith, c .before .before .before .body-size .ensures))
@@ -70,16 +52,5 @@ returns-4 c =
 pub read-marked-spec : {M : Type 1} → statement M
 read-marked-spec =
     tie.close
-    (tie.spec
-    allowed-requires
-    returns
-    below-maximum-requires
-    returns-2
-    body-size-requires
-    returns-3
-    slice-aggregate-read-body
-    sub-read-body
-    part-read-body-start
-    part-read-body-end
-    read-body-requires
-    returns-4)
+    (tie.spec (λ c κs. search needs) returns (λ c κs. search needs) returns-2 (λ c κs. search needs) returns-3
+    slice-aggregate-read-body (λ c. search needs) (λ c. search needs) (λ c. search needs) read-body-requires returns-4)

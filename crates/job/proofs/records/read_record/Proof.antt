@@ -12,33 +12,6 @@ use Rattle.job.proofs.records.read_record.Tie as tie
 returns : tie.Need-returns
 returns c = sym (ap foundOf (no-letters _ _ (c .if1 .taken)))
 
-shared-slice-read-mark-of : tie.Need-shared-slice-read-mark-of
-shared-slice-read-mark-of c = search needs
-
-shared-slice-read-mark-of-2 : tie.Need-shared-slice-read-mark-of-2
-shared-slice-read-mark-of-2 c = search needs
-
-mark-of-requires : tie.Need-mark-of-requires
-mark-of-requires c κs = search needs
-
-enum-known-mark : tie.Need-enum-known-mark
-enum-known-mark c = search needs
-
-sub-read-marked : tie.Need-sub-read-marked
-sub-read-marked c = search needs
-
-part-read-marked-start : tie.Need-part-read-marked-start
-part-read-marked-start c = search needs
-
-part-read-marked-end : tie.Need-part-read-marked-end
-part-read-marked-end c = search needs
-
-read-marked-requires : tie.Need-read-marked-requires
-read-marked-requires c κs = search needs
-
-enum-told : tie.Need-enum-told
-enum-told c = search needs
-
 returns-2 : tie.Need-returns-2
 returns-2 c =
     let marked = c .before .before .before .before .before in
@@ -64,16 +37,5 @@ returns-3 c =
 pub read-record-spec : {M : Type 1} → statement M
 read-record-spec =
     tie.close
-    (tie.spec
-    returns
-    shared-slice-read-mark-of
-    shared-slice-read-mark-of-2
-    mark-of-requires
-    enum-known-mark
-    sub-read-marked
-    part-read-marked-start
-    part-read-marked-end
-    read-marked-requires
-    enum-told
-    returns-2
-    returns-3)
+    (tie.spec returns (λ c. search needs) (λ c. search needs) (λ c κs. search needs) (λ c. search needs) (λ c. search needs)
+    (λ c. search needs) (λ c. search needs) (λ c κs. search needs) (λ c. search needs) returns-2 returns-3)

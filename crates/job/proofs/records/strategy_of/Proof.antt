@@ -17,4 +17,5 @@ unfolding strategyOf
 returns-3 c = rw (ne-eqb _ 1 (c .before .if1 .left), ne-eqb _ 2 (c .if2 .left))
 
 pub strategy-of-spec : {M : Type 1} → statement M
-strategy-of-spec = tie.close (tie.spec returns returns-2 returns-3)
+strategy-of-spec = tie.close
+    (tie.spec returns returns-2 returns-3)

@@ -20,8 +20,6 @@ returns c = zero-by-zero ∙ sym (nan-pattern _ (c .if1 .taken))
 float-from-bits-result : tie.Need-float-from-bits-result
 float-from-bits-result c = subst (λ (b : Bool). T (not b)) (sym (nanBits-above binary64 _ ∙ le-ltb _ _ (c .if1 .left))) tt
 
-returns-2 : tie.Need-returns-2
-returns-2 c = search needs
-
 pub float-spec : {M : Type 1} → statement M
-float-spec = tie.close (tie.spec returns float-from-bits-result returns-2)
+float-spec = tie.close
+    (tie.spec returns float-from-bits-result (λ c. search needs))

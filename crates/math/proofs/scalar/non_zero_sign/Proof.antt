@@ -9,4 +9,5 @@ returns-2 : tie.Need-returns-2
 returns-2 c = simp (c .if1 .left)
 
 pub non-zero-sign-spec : {M : Type 1} → statement M
-non-zero-sign-spec = tie.close (tie.spec returns returns-2)
+non-zero-sign-spec = tie.close
+    (tie.spec returns returns-2)

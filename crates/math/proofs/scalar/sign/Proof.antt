@@ -12,4 +12,5 @@ returns-3 : tie.Need-returns-3
 returns-3 c = simp (c .before .if1 .left, c .if2 .left)
 
 pub sign-spec : {M : Type 1} → statement M
-sign-spec = tie.close (tie.spec returns returns-2 returns-3)
+sign-spec = tie.close
+    (tie.spec returns returns-2 returns-3)

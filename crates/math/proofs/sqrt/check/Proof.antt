@@ -19,14 +19,8 @@ low-digits c =
     let below = product-below _ _ (2 ^ 35) (2 ^ 29) (c .before .if1 .left) (start .pre .3) in
     (below, omega arith)
 
-mul-wrapping-sub-u64 : tie.Need-mul-wrapping-sub-u64
-mul-wrapping-sub-u64 c = search needs
-
 mul-wrapping-sub-u64-2 : tie.Need-mul-wrapping-sub-u64-2
 mul-wrapping-sub-u64-2 c = omega (arith, product-below _ _ (2 ^ 32) (2 ^ 32) (c .pre .2) (c .pre .2))
-
-wrapping-sub-u64-requires : tie.Need-wrapping-sub-u64-requires
-wrapping-sub-u64-requires c κs = search needs
 
 returns : tie.Need-returns
 returns c = inl refl
@@ -34,31 +28,16 @@ returns c = inl refl
 mul-l : tie.Need-mul-l
 mul-l c = omega (arith, low-digits c .0)
 
-mul-wrapping-sub-u64-3 : tie.Need-mul-wrapping-sub-u64-3
-mul-wrapping-sub-u64-3 c = search needs
-
 mul-wrapping-sub-u64-4 : tie.Need-mul-wrapping-sub-u64-4
 mul-wrapping-sub-u64-4 c = omega (arith, product-below _ _ (2 ^ 32) (2 ^ 25) (c .before .before .before .pre .2) (low-digits c .1))
 
-wrapping-sub-u64-requires-2 : tie.Need-wrapping-sub-u64-requires-2
-wrapping-sub-u64-requires-2 c κs = search needs
-
 returns-2 : tie.Need-returns-2
 returns-2 c = inl refl
-
-mul-wrapping-sub-u64-5 : tie.Need-mul-wrapping-sub-u64-5
-mul-wrapping-sub-u64-5 c = search needs
 
 mul-wrapping-sub-u64-6 : tie.Need-mul-wrapping-sub-u64-6
 mul-wrapping-sub-u64-6 c =
     let l = low-digits (c .before .before) .1 in
     omega (arith, product-below _ _ (2 ^ 25) (2 ^ 25) l l)
-
-wrapping-sub-u64-requires-3 : tie.Need-wrapping-sub-u64-requires-3
-wrapping-sub-u64-requires-3 c κs = search needs
-
-mul-r : tie.Need-mul-r
-mul-r c = search needs
 
 add-r : tie.Need-add-r
 add-r c = omega (arith, low-digits (c .before .before .before) .1)
@@ -108,24 +87,6 @@ returns-5 c = inr (ap Nearest (stays _ _ _ (omega arith) (square-leaves (c .befo
 pub check-spec : {M : Type 1} → statement M
 check-spec =
     tie.close
-    (tie.spec
-    mul-wrapping-sub-u64
-    mul-wrapping-sub-u64-2
-    wrapping-sub-u64-requires
-    returns
-    mul-l
-    mul-wrapping-sub-u64-3
-    mul-wrapping-sub-u64-4
-    wrapping-sub-u64-requires-2
-    returns-2
-    mul-wrapping-sub-u64-5
-    mul-wrapping-sub-u64-6
-    wrapping-sub-u64-requires-3
-    mul-r
-    add-r
-    mul-if3
-    add-if3
-    returns-3
-    add-nearest
-    returns-4
-    returns-5)
+    (tie.spec (λ c. search needs) mul-wrapping-sub-u64-2 (λ c κs. search needs) returns mul-l (λ c. search needs)
+    mul-wrapping-sub-u64-4 (λ c κs. search needs) returns-2 (λ c. search needs) mul-wrapping-sub-u64-6 (λ c κs. search needs)
+    (λ c. search needs) add-r mul-if3 add-if3 returns-3 add-nearest returns-4 returns-5)

@@ -14,11 +14,9 @@ either : (a b : ℕ) (t : Bool) → leb a b ≡ t → ((a ≤ b) × (boolByte t 
 either a b true e = inl (leb-true a b e, refl)
 either a b false e = inr (leb-false a b e, refl)
 
-cast-result : tie.Need-cast-result
-cast-result c = search needs
-
 returns : tie.Need-returns
 returns c = either (c .args .odd) (c .args .rem) _ refl
 
 pub digit-spec : {M : Type 1} → statement M
-digit-spec = tie.close (tie.spec cast-result returns)
+digit-spec = tie.close
+    (tie.spec (λ c. search needs) returns)

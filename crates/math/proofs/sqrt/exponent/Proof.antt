@@ -7,16 +7,10 @@ use Rattle.math.proofs.sqrt.SqrtScale.{shift-most}
 use Rattle.math.proofs.sqrt.exponent.Statement.{statement}
 use Rattle.math.proofs.sqrt.exponent.Tie as tie
 
-shift-requires : tie.Need-shift-requires
-shift-requires c κs = search needs
-
 sub-result : tie.Need-sub-result
 sub-result c =
     let start = c .before .before in
     omega (arith, c .shift .ensures, shift-most (start .args .bits) (start .pre .0) (c .before .if1 .taken))
-
-add-result : tie.Need-add-result
-add-result c = search needs
 
 returns : tie.Need-returns
 returns c =
@@ -27,4 +21,5 @@ returns-2 : tie.Need-returns-2
 returns-2 c = sym (exponent-high (c .before .args .bits) (c .if1 .left))
 
 pub exponent-spec : {M : Type 1} → statement M
-exponent-spec = tie.close (tie.spec shift-requires sub-result add-result returns returns-2)
+exponent-spec = tie.close
+    (tie.spec (λ c κs. search needs) sub-result (λ c. search needs) returns returns-2)

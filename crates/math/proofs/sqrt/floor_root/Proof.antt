@@ -66,13 +66,4 @@ returns c =
 pub floor-root-spec : {M : Type 1} → statement M
 floor-root-spec =
     tie.close
-    (tie.spec
-    Inv-loop
-    μ-loop
-    loop-holds
-    next-digit-requires
-    mul-rest
-    add-counter
-    loop-less
-    loop-again
-    returns)
+    (tie.spec Inv-loop μ-loop loop-holds next-digit-requires mul-rest add-counter loop-less loop-again returns)

@@ -26,24 +26,6 @@ step : (root rem low d : ℕ) → rem ≤ 2 * root → low < 4 → Digit (root *
 step root rem low d h l (inl p) = rw (p .1) (omega (arith, p .0), omega arith, omega (arith, p .0))
 step root rem low d h l (inr p) = rw (p .1) (omega (arith, p .0), omega arith, omega (arith, p .0))
 
-mul-rem : tie.Need-mul-rem
-mul-rem c = search needs
-
-add-rem : tie.Need-add-rem
-add-rem c = search needs
-
-mul-odd : tie.Need-mul-odd
-mul-odd c = search needs
-
-add-odd : tie.Need-add-odd
-add-odd c = search needs
-
-digit-requires : tie.Need-digit-requires
-digit-requires c κs = search needs
-
-mul-t6 : tie.Need-mul-t6
-mul-t6 c = search needs
-
 add-t7 : tie.Need-add-t7
 add-t7 c = omega (arith, at-most-one _ _ _ (c .before .digit .ensures))
 
@@ -61,4 +43,5 @@ returns c =
 pub next-digit-spec : {M : Type 1} → statement M
 next-digit-spec =
     tie.close
-    (tie.spec mul-rem add-rem mul-odd add-odd digit-requires mul-t6 add-t7 mul-t8 sub-t9 returns)
+    (tie.spec (λ c. search needs) (λ c. search needs) (λ c. search needs) (λ c. search needs) (λ c κs. search needs)
+    (λ c. search needs) add-t7 mul-t8 sub-t9 returns)

@@ -22,27 +22,6 @@ word-within : (b e m : ℕ) → 0 < b → b < spec.infinityPattern → e ≡ spe
     → (2 ^ 52 ≤ m * 2 ^ (e % 2) % 2 ^ 64) × (m * 2 ^ (e % 2) % 2 ^ 64 < 2 ^ 54)
 word-within b e m p h x y = rw (word-is b e m p h x y) (word-bounds b p h)
 
-exponent-requires : tie.Need-exponent-requires
-exponent-requires c κs = search needs
-
-significand-requires : tie.Need-significand-requires
-significand-requires c κs = search needs
-
-shl-n : tie.Need-shl-n
-shl-n c = search needs
-
-add-pattern : tie.Need-add-pattern
-add-pattern c = search needs
-
-add-pattern-2 : tie.Need-add-pattern-2
-add-pattern-2 c = search needs
-
-add-q : tie.Need-add-q
-add-q c = search needs
-
-add-result : tie.Need-add-result
-add-result c = search needs
-
 mul-result : tie.Need-mul-result
 mul-result c =
     let start = c .before .before in
@@ -83,15 +62,5 @@ returns c =
 pub positive-root-spec : {M : Type 1} → statement M
 positive-root-spec =
     tie.close
-    (tie.spec
-    exponent-requires
-    significand-requires
-    shl-n
-    add-pattern
-    add-pattern-2
-    add-q
-    add-result
-    mul-result
-    rounded-requires
-    add-result-2
-    returns)
+    (tie.spec (λ c κs. search needs) (λ c κs. search needs) (λ c. search needs) (λ c. search needs) (λ c. search needs)
+    (λ c. search needs) (λ c. search needs) mul-result rounded-requires add-result-2 returns)

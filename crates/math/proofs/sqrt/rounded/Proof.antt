@@ -28,21 +28,6 @@ returns c =
     let a = c .before .args in
     stays (a .n * 2 ^ 52) (a .q * 2 ^ 27) 0 (omega arith) (omega (arith, c .if1 .taken)) (omega arith)
 
-guess-requires : tie.Need-guess-requires
-guess-requires c κs = search needs
-
-check-requires : tie.Need-check-requires
-check-requires c κs = search needs
-
-enum-known-verdict : tie.Need-enum-known-verdict
-enum-known-verdict c = search needs
-
-enum-told : tie.Need-enum-told
-enum-told c = search needs
-
-rounded-by-digits-requires : tie.Need-rounded-by-digits-requires
-rounded-by-digits-requires c κs = search needs
-
 is-nearest : (n r : ℕ) (v : Verdict) → (v ≡ Wrong) ⊎ (v ≡ Nearest (rounded n)) → v ≡ Nearest r → r ≡ rounded n
 is-nearest n r v (inl e) h = cc
 is-nearest n r v (inr e) h = cc
@@ -56,15 +41,5 @@ returns-3 c = c .rounded-by-digits .ensures
 pub rounded-spec : {M : Type 1} → statement M
 rounded-spec =
     tie.close
-    (tie.spec
-    mul-if1
-    mul-if1-2
-    mul-result
-    returns
-    guess-requires
-    check-requires
-    enum-known-verdict
-    enum-told
-    rounded-by-digits-requires
-    returns-2
-    returns-3)
+    (tie.spec mul-if1 mul-if1-2 mul-result returns (λ c κs. search needs) (λ c κs. search needs) (λ c. search needs)
+    (λ c. search needs) (λ c κs. search needs) returns-2 returns-3)

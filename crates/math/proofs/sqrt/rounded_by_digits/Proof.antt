@@ -5,12 +5,6 @@ use Rattle.math.proofs.sqrt.SqrtGuess.{stays, rises}
 use Rattle.math.proofs.sqrt.rounded_by_digits.Statement.{statement}
 use Rattle.math.proofs.sqrt.rounded_by_digits.Tie as tie
 
-floor-root-requires : tie.Need-floor-root-requires
-floor-root-requires c κs = search needs
-
-add-result : tie.Need-add-result
-add-result c = search needs
-
 returns : tie.Need-returns
 returns c = rises _ _ _ (omega arith) (c .before .before .before .floor-root .ensures .0) (c .before .if1 .taken) (omega arith)
 
@@ -18,4 +12,5 @@ returns-2 : tie.Need-returns-2
 returns-2 c = stays _ _ _ (omega arith) (c .before .before .floor-root .ensures .0) (c .if1 .left)
 
 pub rounded-by-digits-spec : {M : Type 1} → statement M
-rounded-by-digits-spec = tie.close (tie.spec floor-root-requires add-result returns returns-2)
+rounded-by-digits-spec = tie.close
+    (tie.spec (λ c κs. search needs) (λ c. search needs) returns returns-2)

@@ -16,4 +16,5 @@ returns : tie.Need-returns
 returns c = sym (shift-is (c .args .bits))
 
 pub shift-spec : {M : Type 1} → statement M
-shift-spec = tie.close (tie.spec sub-result cast-result returns)
+shift-spec = tie.close
+    (tie.spec sub-result cast-result returns)

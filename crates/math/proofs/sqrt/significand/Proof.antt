@@ -9,16 +9,10 @@ use Rattle.math.proofs.sqrt.SqrtScale.{shift-most, moved-high}
 use Rattle.math.proofs.sqrt.significand.Statement.{statement}
 use Rattle.math.proofs.sqrt.significand.Tie as tie
 
-shift-requires : tie.Need-shift-requires
-shift-requires c κs = search needs
-
 shl-result : tie.Need-shl-result
 shl-result c =
     let start = c .before .before in
     omega (arith, c .shift .ensures, shift-most (start .args .bits) (start .pre .0) (c .before .if1 .taken))
-
-add-result : tie.Need-add-result
-add-result c = search needs
 
 returns : tie.Need-returns
 returns c =
@@ -31,4 +25,5 @@ returns-2 : tie.Need-returns-2
 returns-2 c = sym (significand-high (c .before .args .bits) (c .if1 .left))
 
 pub significand-spec : {M : Type 1} → statement M
-significand-spec = tie.close (tie.spec shift-requires shl-result add-result returns returns-2)
+significand-spec = tie.close
+    (tie.spec (λ c κs. search needs) shl-result (λ c. search needs) returns returns-2)

@@ -17,9 +17,6 @@ returns-2 c = sym (sqrtBits-infinity _ (c .if2 .taken) ∙ c .if2 .taken)
 returns-3 : tie.Need-returns-3
 returns-3 c = sym (sqrtBits-above _ (c .if3 .taken) (c .before .before .if1 .left))
 
-positive-root-requires : tie.Need-positive-root-requires
-positive-root-requires c κs = search needs
-
 returns-4 : tie.Need-returns-4
 returns-4 c =
     let b = c .before .before .before .before .args .bits in
@@ -28,4 +25,5 @@ returns-4 c =
     c .positive-root .ensures ∙ sym (sqrtBits-positive b p h)
 
 pub sqrt-bits-spec : {M : Type 1} → statement M
-sqrt-bits-spec = tie.close (tie.spec returns returns-2 returns-3 positive-root-requires returns-4)
+sqrt-bits-spec = tie.close
+    (tie.spec returns returns-2 returns-3 (λ c κs. search needs) returns-4)

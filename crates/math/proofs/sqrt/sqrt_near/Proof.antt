@@ -26,12 +26,6 @@ returns c =
 float-to-bits-bits : tie.Need-float-to-bits-bits
 float-to-bits-bits c = no-nan (c .before .args .x) (c .if1 .left)
 
-last-digits-requires : tie.Need-last-digits-requires
-last-digits-requires c κs = search needs
-
-positive-root-requires : tie.Need-positive-root-requires
-positive-root-requires c κs = search needs
-
 float-from-bits-result : tie.Need-float-from-bits-result
 float-from-bits-result c =
     let b = toBits binary64 (c .before .before .before .before .before .args .x) in
@@ -47,12 +41,6 @@ returns-2 c =
     let h : b < spec.infinityPattern = omega arith in
     ap (ofBits binary64) (c .positive-root .ensures ∙ sym (sqrtBits-positive b p h)) ∙ sym (sqrtOf-is x)
 
-sqrt-bits-requires : tie.Need-sqrt-bits-requires
-sqrt-bits-requires c κs = search needs
-
-float-requires : tie.Need-float-requires
-float-requires c κs = search needs
-
 returns-3 : tie.Need-returns-3
 returns-3 c =
     let root = c .before .sqrt-bits .ensures in
@@ -61,13 +49,5 @@ returns-3 c =
 pub sqrt-near-spec : {M : Type 1} → statement M
 sqrt-near-spec =
     tie.close
-    (tie.spec
-    returns
-    float-to-bits-bits
-    last-digits-requires
-    positive-root-requires
-    float-from-bits-result
-    returns-2
-    sqrt-bits-requires
-    float-requires
-    returns-3)
+    (tie.spec returns float-to-bits-bits (λ c κs. search needs) (λ c κs. search needs) float-from-bits-result returns-2
+    (λ c κs. search needs) (λ c κs. search needs) returns-3)

@@ -9,4 +9,5 @@ unfolding dot
 returns c = search needs
 
 pub dot-spec : {M : Type 1} → statement M
-dot-spec = tie.close (tie.spec returns)
+dot-spec = tie.close
+    (tie.spec returns)

@@ -9,4 +9,5 @@ unfolding scale
 returns c = search needs
 
 pub scale-spec : {M : Type 1} → statement M
-scale-spec = tie.close (tie.spec returns)
+scale-spec = tie.close
+    (tie.spec returns)

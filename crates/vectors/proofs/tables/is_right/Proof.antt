@@ -12,26 +12,11 @@ use Rattle.vectors.proofs.tables.is_right.Tie as tie
 part-fits : (j m : ℕ) (l : List ℕ) → j ≤ length l → j ≤ m → length (take j l) ≤ m
 part-fits j m l h k = rw (length-take-le j l) k
 
-colors-requires : tie.Need-colors-requires
-colors-requires c κs = search needs
-
-entries-requires : tie.Need-entries-requires
-entries-requires c κs = search needs
-
-array-borrow-prefix-coloring : tie.Need-array-borrow-prefix-coloring
-array-borrow-prefix-coloring c = search needs
-
 slice-aggregate-is-run : tie.Need-slice-aggregate-is-run
 slice-aggregate-is-run c = sym (length-take-le _ _ (search needs))
 
-array-borrow-prefix-edge-matrix : tie.Need-array-borrow-prefix-edge-matrix
-array-borrow-prefix-edge-matrix c = search needs
-
 slice-aggregate-is-run-2 : tie.Need-slice-aggregate-is-run-2
 slice-aggregate-is-run-2 c = sym (length-take-le _ _ (search needs))
-
-count-requires : tie.Need-count-requires
-count-requires c κs = search needs
 
 is-run-requires : tie.Need-is-run-requires
 is-run-requires c κs =
@@ -39,19 +24,8 @@ is-run-requires c κs =
     let m = c .before .before .before .entries .result in
     (part-fits n 128 _ (search needs) (search needs), part-fits m 8192 _ (search needs) (search needs), search needs)
 
-returns : tie.Need-returns
-returns c = search needs
-
 pub is-right-spec : {M : Type 1} → statement M
 is-right-spec =
     tie.close
-    (tie.spec
-    colors-requires
-    entries-requires
-    array-borrow-prefix-coloring
-    slice-aggregate-is-run
-    array-borrow-prefix-edge-matrix
-    slice-aggregate-is-run-2
-    count-requires
-    is-run-requires
-    returns)
+    (tie.spec (λ c κs. search needs) (λ c κs. search needs) (λ c. search needs) slice-aggregate-is-run (λ c. search needs)
+    slice-aggregate-is-run-2 (λ c κs. search needs) is-run-requires (λ c. search needs))

@@ -18,4 +18,5 @@ unfolding matches
 returns-2 c = simp (c .if1 .left)
 
 pub same-spec : {M : Type 1} → statement M
-same-spec = tie.close (tie.spec returns float-to-bits-result returns-2)
+same-spec = tie.close
+    (tie.spec returns float-to-bits-result returns-2)

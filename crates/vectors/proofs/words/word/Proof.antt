@@ -21,26 +21,8 @@ whole s at h = simp (le-leb (at + 8) (length s) h)
 returns : tie.Need-returns
 returns c = sym (cut _ _ (omega arith))
 
-sub-if2 : tie.Need-sub-if2
-sub-if2 c = search needs
-
 returns-2 : tie.Need-returns-2
 returns-2 c = sym (cut _ _ (omega arith))
-
-half-requires : tie.Need-half-requires
-half-requires c κs = search needs
-
-add-half : tie.Need-add-half
-add-half c = search needs
-
-half-requires-2 : tie.Need-half-requires-2
-half-requires-2 c κs = search needs
-
-mul-result : tie.Need-mul-result
-mul-result c = search needs
-
-add-result : tie.Need-add-result
-add-result c = search needs
 
 returns-3 : tie.Need-returns-3
 returns-3 c =
@@ -51,13 +33,5 @@ returns-3 c =
 pub word-spec : {M : Type 1} → statement M
 word-spec =
     tie.close
-    (tie.spec
-    returns
-    sub-if2
-    returns-2
-    half-requires
-    add-half
-    half-requires-2
-    mul-result
-    add-result
-    returns-3)
+    (tie.spec returns (λ c. search needs) returns-2 (λ c κs. search needs) (λ c. search needs) (λ c κs. search needs)
+    (λ c. search needs) (λ c. search needs) returns-3)

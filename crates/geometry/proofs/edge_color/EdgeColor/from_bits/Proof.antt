@@ -45,6 +45,4 @@ returns-8 c =
     rw (last n at-least-7 (mod-lt (c .before .args .b) {m = 8} (lit< tt)))
 
 pub from-bits-spec : {M : Type 1} → statement M
-from-bits-spec =
-    tie.close
-    (tie.spec returns returns-2 returns-3 returns-4 returns-5 returns-6 returns-7 returns-8)
+from-bits-spec = tie.close (tie.spec returns returns-2 returns-3 returns-4 returns-5 returns-6 returns-7 returns-8)

@@ -8,15 +8,6 @@ use borrow.Author.Needs.{needs}
 use Rattle.geometry.proofs.edge_color.EdgeColor.has_channel.Statement.{statement}
 use Rattle.geometry.proofs.edge_color.EdgeColor.has_channel.Tie as tie
 
-has-red-requires : tie.Need-has-red-requires
-has-red-requires c κs = search needs
-
-has-green-requires : tie.Need-has-green-requires
-has-green-requires c κs = search needs
-
-has-blue-requires : tie.Need-has-blue-requires
-has-blue-requires c κs = search needs
-
 returns : tie.Need-returns
 returns c = simp (c .before .match .keys1) (c .has-red .ensures)
 
@@ -41,11 +32,4 @@ returns-4 c =
 pub has-channel-spec : {M : Type 1} → statement M
 has-channel-spec =
     tie.close
-    (tie.spec
-    has-red-requires
-    has-green-requires
-    has-blue-requires
-    returns
-    returns-2
-    returns-3
-    returns-4)
+    (tie.spec (λ c κs. search needs) (λ c κs. search needs) (λ c κs. search needs) returns returns-2 returns-3 returns-4)

@@ -4,24 +4,6 @@ use borrow.Author.Needs.{needs}
 use Rattle.geometry.proofs.edge_segment.EdgeSegment.direction.Statement.{statement}
 use Rattle.geometry.proofs.edge_segment.EdgeSegment.direction.Tie as tie
 
-enum-known-self : tie.Need-enum-known-self
-enum-known-self c = search needs
-
-sub-requires : tie.Need-sub-requires
-sub-requires c κs = search needs
-
-enum-known-self-2 : tie.Need-enum-known-self-2
-enum-known-self-2 c = search needs
-
-quadratic-direction-requires : tie.Need-quadratic-direction-requires
-quadratic-direction-requires c κs = search needs
-
-enum-known-self-3 : tie.Need-enum-known-self-3
-enum-known-self-3 c = search needs
-
-cubic-direction-requires : tie.Need-cubic-direction-requires
-cubic-direction-requires c κs = search needs
-
 returns : tie.Need-returns
 unfolding direction
 returns c = rw (c .before .before .self .given .1) (c .sub .ensures)
@@ -37,13 +19,5 @@ returns-3 c = rw (c .before .before .self3 .given .1) (c .cubic-direction .ensur
 pub direction-spec : {M : Type 1} → statement M
 direction-spec =
     tie.close
-    (tie.spec
-    enum-known-self
-    sub-requires
-    enum-known-self-2
-    quadratic-direction-requires
-    enum-known-self-3
-    cubic-direction-requires
-    returns
-    returns-2
-    returns-3)
+    (tie.spec (λ c. search needs) (λ c κs. search needs) (λ c. search needs) (λ c κs. search needs) (λ c. search needs)
+    (λ c κs. search needs) returns returns-2 returns-3)

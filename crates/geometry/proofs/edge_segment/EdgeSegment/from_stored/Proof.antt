@@ -8,30 +8,6 @@ use borrow.Author.Needs.{needs}
 use Rattle.geometry.proofs.edge_segment.EdgeSegment.from_stored.Statement.{statement}
 use Rattle.geometry.proofs.edge_segment.EdgeSegment.from_stored.Tie as tie
 
-array-read-t10 : tie.Need-array-read-t10
-array-read-t10 c = search needs
-
-array-read-t13 : tie.Need-array-read-t13
-array-read-t13 c = search needs
-
-array-read-t10-2 : tie.Need-array-read-t10-2
-array-read-t10-2 c = search needs
-
-array-read-t13-2 : tie.Need-array-read-t13-2
-array-read-t13-2 c = search needs
-
-array-read-t10-3 : tie.Need-array-read-t10-3
-array-read-t10-3 c = search needs
-
-array-read-t13-3 : tie.Need-array-read-t13-3
-array-read-t13-3 c = search needs
-
-array-read-t10-4 : tie.Need-array-read-t10-4
-array-read-t10-4 c = search needs
-
-array-read-t13-4 : tie.Need-array-read-t13-4
-array-read-t13-4 c = search needs
-
 returns : tie.Need-returns
 unfolding fromStored
 returns c = rw (c .match .keys1)
@@ -61,16 +37,5 @@ returns-4 c =
 pub from-stored-spec : {M : Type 1} → statement M
 from-stored-spec =
     tie.close
-    (tie.spec
-    array-read-t10
-    array-read-t13
-    array-read-t10-2
-    array-read-t13-2
-    array-read-t10-3
-    array-read-t13-3
-    array-read-t10-4
-    array-read-t13-4
-    returns
-    returns-2
-    returns-3
-    returns-4)
+    (tie.spec (λ c. search needs) (λ c. search needs) (λ c. search needs) (λ c. search needs) (λ c. search needs)
+    (λ c. search needs) (λ c. search needs) (λ c. search needs) returns returns-2 returns-3 returns-4)

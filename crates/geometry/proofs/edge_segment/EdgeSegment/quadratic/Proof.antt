@@ -4,9 +4,6 @@ use borrow.Author.Needs.{needs}
 use Rattle.geometry.proofs.edge_segment.EdgeSegment.quadratic.Statement.{statement}
 use Rattle.geometry.proofs.edge_segment.EdgeSegment.quadratic.Tie as tie
 
-turn-requires : tie.Need-turn-requires
-turn-requires c κs = search needs
-
 returns : tie.Need-returns
 unfolding quadratic
 returns c = rw (← c .before .turn .ensures, c .if1 .taken)
@@ -16,4 +13,5 @@ unfolding quadratic
 returns-2 c = rw (← c .before .turn .ensures, c .if1 .left)
 
 pub quadratic-spec : {M : Type 1} → statement M
-quadratic-spec = tie.close (tie.spec turn-requires returns returns-2)
+quadratic-spec = tie.close
+    (tie.spec (λ c κs. search needs) returns returns-2)

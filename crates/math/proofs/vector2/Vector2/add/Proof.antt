@@ -9,4 +9,5 @@ unfolding add
 returns c = search needs
 
 pub add-spec : {M : Type 1} → statement M
-add-spec = tie.close (tie.spec returns)
+add-spec = tie.close
+    (tie.spec returns)

@@ -9,4 +9,5 @@ unfolding divScalar
 returns c = search needs
 
 pub div-scalar-spec : {M : Type 1} → statement M
-div-scalar-spec = tie.close (tie.spec returns)
+div-scalar-spec = tie.close
+    (tie.spec returns)

@@ -12,4 +12,5 @@ unfolding isNonzero
 returns-2 c = rw (c .before .if1 .left)
 
 pub is-nonzero-spec : {M : Type 1} → statement M
-is-nonzero-spec = tie.close (tie.spec returns returns-2)
+is-nonzero-spec = tie.close
+    (tie.spec returns returns-2)

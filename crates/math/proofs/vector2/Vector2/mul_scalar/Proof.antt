@@ -9,4 +9,5 @@ unfolding mulScalar
 returns c = search needs
 
 pub mul-scalar-spec : {M : Type 1} → statement M
-mul-scalar-spec = tie.close (tie.spec returns)
+mul-scalar-spec = tie.close
+    (tie.spec returns)

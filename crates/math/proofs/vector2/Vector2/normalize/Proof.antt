@@ -4,9 +4,6 @@ use borrow.Author.Needs.{needs}
 use Rattle.math.proofs.vector2.Vector2.normalize.Statement.{statement}
 use Rattle.math.proofs.vector2.Vector2.normalize.Tie as tie
 
-length-requires : tie.Need-length-requires
-length-requires c κs = search needs
-
 returns : tie.Need-returns
 unfolding divScalar normalize
 returns c = simp (← c .before .before .before .length .ensures, c .before .before .if1 .taken)
@@ -20,4 +17,5 @@ unfolding divScalar normalize
 returns-3 c = simp (← c .before .before .length .ensures, c .before .if1 .left, c .if2 .left)
 
 pub normalize-spec : {M : Type 1} → statement M
-normalize-spec = tie.close (tie.spec length-requires returns returns-2 returns-3)
+normalize-spec = tie.close
+    (tie.spec (λ c κs. search needs) returns returns-2 returns-3)

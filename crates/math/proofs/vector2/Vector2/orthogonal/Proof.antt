@@ -12,4 +12,5 @@ unfolding orthogonal
 returns-2 c = simp (c .before .if1 .left)
 
 pub orthogonal-spec : {M : Type 1} → statement M
-orthogonal-spec = tie.close (tie.spec returns returns-2)
+orthogonal-spec = tie.close
+    (tie.spec returns returns-2)

@@ -8,9 +8,6 @@ use borrow.Author.Needs.{needs}
 use Rattle.math.proofs.vector2.Vector2.orthonormal.Statement.{statement}
 use Rattle.math.proofs.vector2.Vector2.orthonormal.Tie as tie
 
-length-requires : tie.Need-length-requires
-length-requires c κs = search needs
-
 returns : tie.Need-returns
 unfolding divScalar orthogonal orthonormal
 returns c = simp (← c .before .before .before .before .length .ensures, c .before .before .before .if1 .taken, c .before .before .if2 .taken)
@@ -32,4 +29,5 @@ unfolding divScalar orthogonal orthonormal
 returns-4 c = simp (← c .before .before .before .length .ensures, c .before .before .if1 .left, c .if4 .left, height (c .before))
 
 pub orthonormal-spec : {M : Type 1} → statement M
-orthonormal-spec = tie.close (tie.spec length-requires returns returns-2 returns-3 returns-4)
+orthonormal-spec = tie.close
+    (tie.spec (λ c κs. search needs) returns returns-2 returns-3 returns-4)

@@ -9,4 +9,5 @@ unfolding squaredLength
 returns c = search needs
 
 pub squared-length-spec : {M : Type 1} → statement M
-squared-length-spec = tie.close (tie.spec returns)
+squared-length-spec = tie.close
+    (tie.spec returns)

@@ -9,4 +9,5 @@ unfolding sub
 returns c = search needs
 
 pub sub-spec : {M : Type 1} → statement M
-sub-spec = tie.close (tie.spec returns)
+sub-spec = tie.close
+    (tie.spec returns)
