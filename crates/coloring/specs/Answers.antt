@@ -1,4 +1,4 @@
--- Answers in numbers (SCOPE, "Refusals"): values, or the number of a refusal; and checks in an order, each with its
+-- Answers in numbers (SCOPE, Refusals): a value, or the number of a refusal; and checks in an order, each with its
 -- number. Every entry's promise is made of these.
 use Prim.Native.Nat.{ℕ}
 use mathlib.Core.Path.{_≡_, refl}

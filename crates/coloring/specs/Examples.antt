@@ -15,7 +15,7 @@ use Rattle.geometry.specs.EdgeSegment.{vmix, point, direction, toStored, fromSt
 use Rattle.geometry.specs.declared.edge_color.EdgeColor.{EdgeColor}
 use Rattle.geometry.specs.declared.edge_color.EdgeColor.the-variants.{Yellow, Magenta, Cyan}
 use Rattle.geometry.specs.declared.edge_segment.EdgeSegment.{EdgeSegment}
-use Rattle.coloring.specs.Answers.{gives, refusal}
+use Rattle.coloring.specs.Answers.{Answer, gives, refusal, allPass, firstRefusal}
 use Rattle.coloring.specs.Trichotomy.{symmetricalTrichotomy}
 use Rattle.coloring.specs.Switching.{switchColor, switchColorBanned}
 use Rattle.coloring.specs.Corners.{cornerCount, firstCorner}
@@ -23,7 +23,7 @@ use Rattle.coloring.specs.Layout.{thirds, layout}
 use Rattle.coloring.specs.Teardrop.{runs}
 use Rattle.coloring.specs.Splines.{paint}
 use Rattle.coloring.specs.InkTrap.{cornerAt, markMinors}
-use Rattle.coloring.specs.Outline.{Outline, Result, outline, result, Outcome, outcome}
+use Rattle.coloring.specs.Outline.{Outline, Result, outline, result, Outcome, outcome, check}
 use Rattle.coloring.specs.EdgeColoring.{edgeColoring, edgeColoringSimple, edgeColoringInkTrap}
 
 -- ---- P1 to P3: the rule at several places of n
@@ -117,6 +117,26 @@ pub one-short : into (9 ∷ 9 ∷ 9 ∷ []) ≡ outcome (refusal 11) (room 1 (9 
 unfolding squareOutline edgeColoring cornerCount firstCorner direction sub dot cross divScalar squaredLength lengthOf normalize
     sqrtOf toStored fromStored Ieee.add Ieee.sub Ieee.mul Ieee.div Ieee.neg Ieee.ne Ieee.le Ieee.lt Ieee.ofBits
 one-short = refl
+
+-- ---- the refusals of an outline: each has the fault of its number, and the one of the next
+
+abbrev refused : List ℕ → List ℕ → List Float → Float → Answer Unit
+refused lengths kinds points threshold = firstRefusal (check (outline lengths kinds points) threshold)
+
+-- refutes one that tests in another order
+pub outline-refusals :
+    (refused (257 ∷ []) [] [] f0 ≡ refusal 4)
+    × (refused (1 ∷ []) (0 ∷ []) [] f0 ≡ refusal 8)
+    × (refused (1 ∷ []) (0 ∷ []) (replicate 8 Ieee.nan) f0 ≡ refusal 5)
+    × (refused (1 ∷ []) (1 ∷ []) (replicate 8 Ieee.nan) Ieee.nan ≡ refusal 7)
+    × (refused [] [] [] Ieee.nan ≡ refusal 6)
+unfolding firstRefusal check Ieee.neg Ieee.le Ieee.lt Ieee.ofBits
+outline-refusals = (refl, refl, refl, refl, refl)
+
+-- refutes one that refuses always, or looks at places that a line does not use
+pub unused-ignored : refused (1 ∷ []) (1 ∷ []) (f0 ∷ f0 ∷ f1 ∷ f0 ∷ replicate 4 Ieee.nan) f1 ≡ allPass
+unfolding firstRefusal check Ieee.neg Ieee.le Ieee.lt Ieee.ofBits
+unused-ignored = refl
 
 -- ---- teardrops
 

@@ -89,7 +89,7 @@ encode edges bytes =
       colors = flatten bytes;
     }
 
--- ---- the checks, in the order of SCOPE, "Refusals"
+-- ---- the checks, in the order of SCOPE, Refusals
 
 abbrev pub knownKind : ℕ → Bool
 knownKind kind = leb 1 kind && leb kind 3

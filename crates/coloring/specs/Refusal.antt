@@ -1,4 +1,4 @@
--- The number of each refusal, by the table of SCOPE, "Refusals".
+-- The number of each refusal, by the table of SCOPE, Refusals.
 use Prim.Native.Nat.{ℕ}
 use Rattle.coloring.specs.declared.refusal.Refusal.{Refusal}
 use Rattle.coloring.specs.declared.refusal.Refusal.the-variants.{Truncated, UnknownMark, MisplacedMark, TooMany, UnknownKind, BadThreshold}

@@ -184,7 +184,7 @@ toStored (Cubic p0 p1 p2 p3) = record { kind = 3; points = p0 .x ∷ p0 .y ∷ p
 abbrev pub pointAt : List Float → ℕ → Vector2
 pointAt ps k = new (getD ps (2 * k) nan) (getD ps (2 * k + 1) nan)
 
--- what a stored form stands for: an edge, or the number of its refusal (SCOPE, "Refusals")
+-- what a stored form stands for: an edge, or the number of its refusal (SCOPE, Refusals)
 pub data DecodedAnswer : Type 0 where
   edge : EdgeSegment → DecodedAnswer
   refused : ℕ → DecodedAnswer
