@@ -7,6 +7,7 @@ use Prim.Native.Nat.{ℕ, zero, suc, _-_, _*_, _/_, _≤_}
 use lib.ListN.{length}
 use lib.Ieee.{Float, inf, le, lt}
 use Rattle.math.specs.Scalar.{f0}
+use Rattle.coloring.specs.Limits.{maxSplines}
 use Rattle.coloring.specs.Lists.{all}
 use Rattle.coloring.specs.Sequence.{Pair}
 
@@ -22,7 +23,7 @@ distancesValid distances = all validDistance distances
 
 -- what is coloured: at most 64 splines, and a distance for each pair of them
 pub record ValidDistances (n : ℕ) (distances : List Float) : Type 0 where
-  pub few : n ≤ 64
+  pub few : n ≤ maxSplines
   pub count : length distances ≡ n * (n - 1) / 2
   pub valid : distancesValid distances ≡ true
 

@@ -8,6 +8,7 @@ use mathlib.Core.List.{List, [], _∷_, _++_}
 use Prim.Native.Nat.{ℕ, zero, suc, _+_, _-_, _*_, _%_, _^_, _≤_, _<_}
 use lib.ListN.{length, getD, take, drop, set}
 use lib.Dec.{leb, eqb}
+use Rattle.coloring.specs.Limits.{maxSplines}
 use Rattle.coloring.specs.declared.recolor.Walked.{Walked}
 use Rattle.coloring.specs.declared.recolor.Walked.the-variants.{Recolored, Stopped}
 
@@ -148,7 +149,7 @@ Waiting coloring (i ∷ queue) = (getD coloring i 0 ≡ uncolored) × Waiting (s
 
 -- what keeps the ring within its 64 places
 pub record Queued (coloring places : List ℕ) (head waiting : ℕ) : Type 0 where
-  pub few : length coloring ≤ 64
+  pub few : length coloring ≤ maxSplines
   pub size : length places ≡ 64
   pub start : head < 64
   pub waits : Waiting coloring (ring places head waiting)
@@ -167,7 +168,7 @@ pub record Walking (coloring places edgeMatrix : List ℕ) (a waiting : ℕ) : T
 
 -- where a pair may be offered: entries for every two of at most 64 splines, two numbers of splines, and a colour of a
 pub record Offerable (coloring edgeMatrix : List ℕ) (a b : ℕ) : Type 0 where
-  pub few : length coloring ≤ 64
+  pub few : length coloring ≤ maxSplines
   pub entries : length edgeMatrix ≡ length coloring * length coloring
   pub first : a < length coloring
   pub second : b < length coloring

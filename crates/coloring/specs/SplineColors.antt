@@ -95,7 +95,7 @@ colorSplinesInto distances seed old =
 
 -- where pairs may be offered one after the other: a sound table of at most 64 splines, and numbers of pairs of them
 pub record OfferableAll (coloring edgeMatrix codes order : List ℕ) : Type 0 where
-  pub few : length coloring ≤ 64
+  pub few : length coloring ≤ maxSplines
   pub entries : length edgeMatrix ≡ length coloring * length coloring
   pub isSound : sound (tableOf coloring edgeMatrix) ≡ true
   pub numbers : Below (length codes) order

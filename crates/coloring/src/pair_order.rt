@@ -7,6 +7,7 @@ ghost use mathlib.Core.Path.{_≡_};
 ghost use mathlib.Core.List.{map};
 ghost use Prim.Native.Nat.{_<_, _≤_};
 ghost use lib.ListN.{length, getD, take, drop};
+ghost use Rattle.coloring.specs.Limits.{maxSplines, maxDistances};
 ghost use Rattle.coloring.specs.Lists.{range};
 ghost use Rattle.coloring.specs.PairOrder.{validDistance, distancesValid, ValidDistances, pairsFrom, sortBy};
 ghost use Rattle.coloring.specs.PairNumbers.{distanceOf, takesSecond, mergeBy, Below, Numbers, Merging, Sorting, code, InOrder};
@@ -113,7 +114,7 @@ pub(crate) fn sort_by_distance(order: &mut [u16], work: &mut [u16], distances: &
 
 // The pairs i < j of n splines, by i then j, each as its code i * 64 + j.
 fn fill_pairs(codes: &mut [u16], n: usize)
-    requires { ⌜ (n ≤ 64) × (length (now codes) ≡ length (pairsFrom 0 n)) ⌝ }
+    requires { ⌜ (n ≤ maxSplines) × (length (now codes) ≡ length (pairsFrom 0 n)) ⌝ }
     ensures { λ r. ⌜ now (codes .exit) ≡ map code (pairsFrom 0 n) ⌝ }
 {
     let mut k = 0;
@@ -131,7 +132,7 @@ fn fill_pairs(codes: &mut [u16], n: usize)
 
 // The numbers of all pairs.
 fn count_up(order: &mut [u16])
-    requires { ⌜ length (now order) ≤ 2016 ⌝ }
+    requires { ⌜ length (now order) ≤ maxDistances ⌝ }
     ensures { λ r. ⌜ now (order .exit) ≡ range 0 (length (now (order .entry))) ⌝ }
 {
     let mut k = 0;
