@@ -88,6 +88,13 @@ fn cubic_outlines() {
     check(&file, ascii, &[(32.0, 0.2)]);
 }
 
+/// Strokes thinner than a pixel that cross between the middles of pixels.
+#[test]
+fn thin_strokes() {
+    let file = file("fonts-freefont-otf", "/FreeSerif.otf");
+    check(&file, |_| vec![Name::Character('\u{1D1B5}')], &[(24.0, 0.25), (32.0, 0.25), (48.0, 0.25)]);
+}
+
 #[test]
 fn noto() {
     for end in ["/NotoSans-Regular.ttf", "/NotoSerif-Regular.ttf"] {

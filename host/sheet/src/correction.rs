@@ -309,7 +309,7 @@ const PAIRS: [(usize, usize); 3] = [(0, 1), (1, 2), (2, 0)];
 /// are the pairs whose second channel is above or below the first.
 #[derive(Clone, Copy)]
 pub struct Note {
-    middle: f64,
+    pub middle: f64,
     inside: u8,
     above: u8,
     below: u8,
