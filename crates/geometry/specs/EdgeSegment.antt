@@ -3,15 +3,17 @@ use Prim.Native.Nat.{ℕ, zero, suc, _+_, _*_}
 use mathlib.Core.Path.{_≡_, refl}
 use mathlib.Core.Bool.{Bool, false, cond, _&&_}
 use mathlib.Core.List.{List, [], _∷_}
+use native.Mathlib.Omega.{arith}
 use lib.ListN.{getD}
 use lib.IntN.{pos}
 use lib.Ieee as Ieee
 use lib.Ieee.{Float, nan, fin, binary64, ofBits}
 use Rattle.math.specs.declared.vector2.Vector2.{Vector2}
 use Rattle.math.specs.Scalar.{f0, fHalf, f1, f3Halves}
-use Rattle.math.specs.Vector2.{new, add, sub, mulScalar, scale, cross, isNonzero, eq}
+use Rattle.math.specs.Vector2.{new, add, sub, mulScalar, scale, cross, isNonzero, eq, normalize}
 use Rattle.geometry.specs.declared.edge_segment.EdgeSegment.{EdgeSegment}
 use Rattle.geometry.specs.declared.edge_segment.EdgeSegment.the-variants.{Line, Quadratic, Cubic}
+use Rattle.geometry.specs.declared.edge_segment.Directions.{Directions}
 use Rattle.geometry.specs.declared.edge_segment.Thirds.{Thirds}
 use Rattle.geometry.specs.declared.edge_segment.Stored.{Stored}
 use Rattle.geometry.specs.declared.edge_segment.Decoded.{Decoded}
@@ -93,6 +95,18 @@ unfoldable pub direction : EdgeSegment → Float → Vector2
 direction (Line p0 p1) t = sub p1 p0
 direction (Quadratic p0 p1 p2) t = quadraticDirection p0 p1 p2 t
 direction (Cubic p0 p1 p2 p3) t = cubicDirection p0 p1 p2 p3 t
+
+-- the unit directions in which an edge starts and ends: normalize(direction(0)) and normalize(direction(1))
+unfoldable pub unitDirections : EdgeSegment → Directions
+unfolding direction
+unitDirections e = record { start = normalize (direction e f0) false; end = normalize (direction e f1) false }
+
+-- a line has one, p1 - p0 both times
+pub line-has-one : (e : EdgeSegment) → order e ≡ 1 → unitDirections e .end ≡ unitDirections e .start
+unfolding unitDirections direction
+line-has-one (Line p0 p1) h = refl
+line-has-one (Quadratic p0 p1 p2) h = absurd (omega arith)
+line-has-one (Cubic p0 p1 p2 p3) h = absurd (omega arith)
 
 -- ---- the split in three
 

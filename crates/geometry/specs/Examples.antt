@@ -1,14 +1,17 @@
--- P8, P9 and P10 (SCOPE, Examples), computed from the definitions.
+-- P8, P9 and P10 (SCOPE, Examples) and the unit directions of some edges, computed from the definitions.
 use mathlib.Core.Path.{_≡_, refl}
 use mathlib.Core.Bool.{true, false}
 use lib.IntN.{pos, negsuc}
 use lib.Ieee as Ieee
 use lib.Ieee.{Float, fin}
 use Rattle.math.specs.Sqrt.{sqrtOf}
-use Rattle.math.specs.Vector2.{new, add, mulScalar, divScalar, squaredLength, lengthOf, normalize}
-use Rattle.geometry.specs.declared.edge_segment.EdgeSegment.the-variants.{Line}
+use Rattle.math.specs.Vector2.{new, add, sub, mulScalar, divScalar, squaredLength, lengthOf, isNonzero, normalize}
+use Rattle.math.specs.declared.vector2.Vector2.{Vector2}
+use Rattle.geometry.specs.declared.edge_segment.EdgeSegment.the-variants.{Line, Quadratic, Cubic}
+use Rattle.geometry.specs.declared.edge_segment.Directions.{Directions}
 use Rattle.geometry.specs.declared.edge_segment.Thirds.{Thirds}
 use Rattle.geometry.specs.EdgeSegment.{vmix, splitLine, splitInThirds}
+use Rattle.geometry.specs.EdgeSegment.{quadraticTangent, quadraticDirection, cubicTangent, cubicDirection, unitDirections}
 
 -- the numbers 0, -0, 1, 2, 3 and 2 ^ -600
 abbrev pub n0 : Float
@@ -50,3 +53,37 @@ split-from-negative-zero = refl
 pub tiny-direction : (lengthOf (new tiny n0) ≡ n0) × (normalize (new tiny n0) false ≡ new n0 n1)
 unfolding normalize lengthOf squaredLength divScalar sqrtOf Ieee.add Ieee.mul Ieee.div Ieee.ne Ieee.ofBits
 tiny-direction = (refl, refl)
+
+-- ---- unit directions
+
+abbrev pub fromTo : Vector2 → Vector2 → Directions
+fromTo start end = record { start = start; end = end }
+
+abbrev pub right : Vector2
+right = new n1 n0
+
+abbrev pub down : Vector2
+down = new n0 (Ieee.neg n1)
+
+-- what stands in for the direction of an edge without length
+abbrev pub standIn : Vector2
+standIn = new n0 n1
+
+-- refutes one that copies the start: a quadratic that starts to the right and ends downwards
+pub starts-and-ends : unitDirections (Quadratic (new n0 n0) (new n2 n0) (new n2 (Ieee.neg n2))) ≡ fromTo right down
+unfolding unitDirections quadraticDirection quadraticTangent vmix add sub mulScalar isNonzero
+    normalize lengthOf squaredLength divScalar sqrtOf Ieee.add Ieee.sub Ieee.mul Ieee.div Ieee.neg Ieee.ne Ieee.eq Ieee.ofBits
+starts-and-ends = refl
+
+-- refutes one without the source's way out: a cubic whose first two control points are one starts towards the third
+pub starts-to-the-next : unitDirections (Cubic (new n0 n0) (new n0 n0) (new n2 n0) (new n2 (Ieee.neg n2))) ≡ fromTo right down
+unfolding unitDirections cubicDirection cubicTangent quadraticTangent vmix add sub mulScalar isNonzero
+    normalize lengthOf squaredLength divScalar sqrtOf Ieee.add Ieee.sub Ieee.mul Ieee.div Ieee.neg Ieee.ne Ieee.eq Ieee.ofBits
+starts-to-the-next = refl
+
+-- an edge whose points are one, and a line of length 2 ^ -600, have the stand-in twice
+pub no-length : (unitDirections (Cubic (new n2 n1) (new n2 n1) (new n2 n1) (new n2 n1)) ≡ fromTo standIn standIn)
+    × (unitDirections (Line (new n0 n0) (new tiny n0)) ≡ fromTo standIn standIn)
+unfolding unitDirections cubicDirection cubicTangent quadraticTangent vmix add sub mulScalar isNonzero
+    normalize lengthOf squaredLength divScalar sqrtOf Ieee.add Ieee.sub Ieee.mul Ieee.div Ieee.neg Ieee.ne Ieee.eq Ieee.ofBits
+no-length = (refl, refl)

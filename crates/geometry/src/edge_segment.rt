@@ -6,7 +6,7 @@ ghost use mathlib.Core.Path.{_≡_};
 ghost use Rattle.math.specs.Vector2.{cross, sub};
 ghost use Rattle.geometry.specs.EdgeSegment.{vmix, line, colinear, control, quadratic, cubic, order};
 ghost use Rattle.geometry.specs.EdgeSegment.{quadraticPoint, cubicPoint, point, quadraticTangent, cubicTangent};
-ghost use Rattle.geometry.specs.EdgeSegment.{quadraticDirection, cubicDirection, direction, splitLine, splitQuadratic};
+ghost use Rattle.geometry.specs.EdgeSegment.{quadraticDirection, cubicDirection, direction, unitDirections, splitLine, splitQuadratic};
 ghost use Rattle.geometry.specs.EdgeSegment.{startControl, endControl, splitCubic, splitInThirds, toStored, decodedAnswer, fromStored};
 
 // An edge with its control points: 2 of a line, 3 of a quadratic, 4 of a cubic.
@@ -14,6 +14,12 @@ pub enum EdgeSegment {
     Line(Vector2, Vector2),
     Quadratic(Vector2, Vector2, Vector2),
     Cubic(Vector2, Vector2, Vector2, Vector2),
+}
+
+// The unit directions in which an edge starts and ends.
+pub struct Directions {
+    pub start: Vector2,
+    pub end: Vector2,
 }
 
 // The three edges of a split.
@@ -257,6 +263,20 @@ impl EdgeSegment {
             EdgeSegment::Line(p0, p1) => p1.sub(p0),
             EdgeSegment::Quadratic(p0, p1, p2) => quadratic_direction(p0, p1, p2, t),
             EdgeSegment::Cubic(p0, p1, p2, p3) => cubic_direction(p0, p1, p2, p3, t),
+        }
+    }
+
+    // The unit directions at 0 and at 1. A line has one, so it takes one root.
+    pub fn unit_directions(self) -> Directions
+        ensures { λ r. ⌜ r ≡ unitDirections self ⌝ }
+    {
+        let start = self.direction(0.0).normalize(false);
+        if self.order() == 1 {
+            return Directions { start, end: start };
+        }
+        Directions {
+            start,
+            end: self.direction(1.0).normalize(false),
         }
     }
 
