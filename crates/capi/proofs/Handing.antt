@@ -3,14 +3,15 @@ use mathlib.Core.Path.{_≡_, ap, _∙_}
 use mathlib.Core.List.{List}
 use Prim.Native.Nat.{ℕ}
 use Rattle.coloring.specs.Answers.{Answer}
+use Rattle.coloring.specs.Fill.{Filled, filled}
 use Rattle.coloring.specs.declared.outline.Counts.{Counts}
 use Rattle.coloring.specs.Outline.{Outcome, Result, outcome}
 use Rattle.job.specs.declared.progress.Numbers.{Numbers}
 use Rattle.job.specs.Buffers.{Buffers}
 use Rattle.job.specs.Reader.{ReadOutcome, readOutcome}
-use Rattle.job.specs.Listing.{TextOutcome, textOutcome}
+use Rattle.capi.specs.Answers.{countCode, handedBuffer, handOutBuffer}
 use Rattle.capi.specs.EdgeColoring.{handed, handOut}
-use Rattle.capi.specs.JobFile.{readCode, numbersAfter, handedJob, handOutJob, listedCode, handedText, handOutText}
+use Rattle.capi.specs.JobFile.{readCode, numbersAfter, handedJob, handOutJob}
 
 pub hands-out : (number : Answer Counts → ℕ) {code : ℕ} {answer : Answer Counts} {buffers : Result} {o : Outcome}
     → code ≡ number answer → outcome answer buffers ≡ o → handed code buffers ≡ handOut number o
@@ -20,6 +21,6 @@ pub hands-out-job : (old : List ℕ) {code : ℕ} {answer : Answer Numbers} {buf
     → code ≡ readCode answer → numbers ≡ numbersAfter answer old → readOutcome answer buffers ≡ o → handedJob code buffers numbers ≡ handOutJob o old
 hands-out-job old p n q = rw (p, n) (ap (λ (r : ReadOutcome). handOutJob r old) q)
 
-pub hands-out-text : {code : ℕ} {answer : Answer ℕ} {buffer : List ℕ} {o : TextOutcome} → code ≡ listedCode answer → textOutcome answer buffer ≡ o
-    → handedText code buffer ≡ handOutText o
-hands-out-text {buffer} p q = ap (λ (k : ℕ). handedText k buffer) p ∙ ap handOutText q
+pub hands-out-buffer : {A : Type 0} {code : ℕ} {answer : Answer ℕ} {buffer : List A} {o : Filled A} → code ≡ countCode answer → filled answer buffer ≡ o
+    → handedBuffer code buffer ≡ handOutBuffer o
+hands-out-buffer {buffer} p q = ap (λ (k : ℕ). handedBuffer k buffer) p ∙ ap handOutBuffer q

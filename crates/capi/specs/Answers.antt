@@ -1,7 +1,24 @@
 -- An answer as C sees it, one number: a number of its value, or a base and the number of the refusal.
 use Prim.Native.Nat.{ℕ, _+_}
+use mathlib.Core.List.{List}
 use Rattle.coloring.specs.Answers.{Answer, gives, refusal}
+use Rattle.coloring.specs.Fill.{Filled}
 
 abbrev pub codeOf : {A : Type 0} → (A → ℕ) → ℕ → Answer A → ℕ
 codeOf number base (gives a) = number a
 codeOf number base (refusal n) = base + n
+
+-- what was counted, or 2^32 and the number of the refusal
+abbrev pub countCode : Answer ℕ → ℕ
+countCode = codeOf (λ n. n) 4294967296
+
+-- a number and one buffer at exit, and so of a call that fills it
+pub record HandedBuffer (A : Type 0) : Type 0 where
+  pub code : ℕ
+  pub buffer : List A
+
+abbrev pub handedBuffer : {A : Type 0} → ℕ → List A → HandedBuffer A
+handedBuffer code buffer = record { code = code; buffer = buffer }
+
+abbrev pub handOutBuffer : {A : Type 0} → Filled A → HandedBuffer A
+handOutBuffer o = handedBuffer (countCode (o .answer)) (o .buffer)

@@ -7,7 +7,6 @@ use Rattle.job.specs.declared.part.Span.{Span}
 use Rattle.job.specs.Records.{strategyNumber}
 use Rattle.job.specs.Buffers.{Buffers}
 use Rattle.job.specs.Reader.{ReadOutcome}
-use Rattle.job.specs.Listing.{TextOutcome}
 use Rattle.capi.specs.Answers.{codeOf}
 
 -- 0, or 2^32 and the number of the refusal
@@ -35,21 +34,6 @@ handedJob code buffers numbers = record { code = code; buffers = buffers; number
 -- the outcome of reading, over numbers that stood there
 abbrev pub handOutJob : ReadOutcome → List ℕ → HandedJob
 handOutJob o old = handedJob (readCode (o .answer)) (o .buffers) (numbersAfter (o .answer) old)
-
--- the number of bytes, or 2^32 and the number of the refusal
-abbrev pub listedCode : Answer ℕ → ℕ
-listedCode = codeOf (λ bytes. bytes) 4294967296
-
--- a number and the buffer at exit, and so of a listing
-pub record HandedText : Type 0 where
-  pub code : ℕ
-  pub buffer : List ℕ
-
-abbrev pub handedText : ℕ → List ℕ → HandedText
-handedText code buffer = record { code = code; buffer = buffer }
-
-abbrev pub handOutText : TextOutcome → HandedText
-handOutText o = handedText (listedCode (o .answer)) (o .buffer)
 
 -- the place of the first byte, and 2^32 times the number of bytes
 abbrev pub placeCode : Span → ℕ

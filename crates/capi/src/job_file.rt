@@ -14,8 +14,9 @@ ghost use Rattle.job.specs.Reader.{jobAtEntry, jobAtExit, readInto};
 ghost use Rattle.job.specs.Color.{colorFile, checkFile, acceptJob};
 ghost use Rattle.job.specs.Listing.{listedAnswer, listFile};
 ghost use Rattle.job.specs.Part.{contourPlace};
+ghost use Rattle.capi.specs.Answers.{countCode, handedBuffer, handOutBuffer};
 ghost use Rattle.capi.specs.EdgeColoring.{coloredCode, handed, handOut};
-ghost use Rattle.capi.specs.JobFile.{readCode, numbersAfter, handedJob, handOutJob, listedCode, handedText, handOutText, placeCode};
+ghost use Rattle.capi.specs.JobFile.{readCode, numbersAfter, handedJob, handOutJob, placeCode};
 
 // 0, or 2^32 and the number of the refusal.
 fn read_code(answer: Read) -> u64
@@ -89,7 +90,7 @@ pub extern "C" fn merelsplum_job_color(
 
 // The number of bytes, or 2^32 and the number of the refusal.
 fn listed_code(answer: Listed) -> u64
-    ensures { λ r. ⌜ r ≡ listedCode (listedAnswer answer) ⌝ }
+    ensures { λ r. ⌜ r ≡ countCode (listedAnswer answer) ⌝ }
 {
     match answer {
         Listed::Bytes(n) => n as u64,
@@ -99,7 +100,7 @@ fn listed_code(answer: Listed) -> u64
 
 #[no_mangle]
 pub extern "C" fn merelsplum_job_listing(file: &[u8], out: &mut [u8]) -> u64
-    ensures { λ r. ⌜ handedText r (now (out .exit)) ≡ handOutText (listFile (now (file .entry)) (now (out .entry))) ⌝ }
+    ensures { λ r. ⌜ handedBuffer r (now (out .exit)) ≡ handOutBuffer (listFile (now (file .entry)) (now (out .entry))) ⌝ }
 {
     listed_code(listing::listing(file, out))
 }

@@ -1,5 +1,6 @@
 // The proved functions that a host calls, from C or Rust, over numbers and slices only. An answer is one number.
 pub mod by_distance;
+pub mod directions;
 pub mod edge_coloring;
 pub mod job_file;
 pub mod spline_table;

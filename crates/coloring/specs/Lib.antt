@@ -2,6 +2,7 @@
 pub mod Limits
 pub mod Refusal
 pub mod Answers
+pub mod Fill
 pub mod Seed
 pub mod Lists
 pub mod Places
@@ -16,6 +17,7 @@ pub mod Simple
 pub mod InkTrap
 pub mod Values
 pub mod Outline
+pub mod Directions
 pub mod Shape
 pub mod EdgeColoring
 -- the spline table
@@ -37,4 +39,5 @@ pub mod OfferExamples
 pub mod SplineColorsExamples
 pub mod Examples
 pub mod ByDistanceExamples
+pub mod DirectionExamples
 pub mod TenExamples

@@ -121,16 +121,21 @@ coordinatesFit [] points = true
 coordinatesFit (kind ∷ kinds) points =
     all inRange (take (usedPlaces kind) points) && coordinatesFit kinds (drop 8 points)
 
-unfoldable pub check : Outline → Float → List Check
+-- of an outline alone
+unfoldable pub checkOutline : Outline → List Check
 unfolding total all coordinatesFit
-check o threshold =
+checkOutline o =
     let edges = total (o .lengths) in
     unless 4 (leb (length (o .lengths)) maxContours && leb edges maxEdges)
     ∷ unless 8 (eqb (length (o .kinds)) edges && eqb (length (o .points)) (8 * edges))
     ∷ unless 5 (all knownKind (o .kinds))
     ∷ unless 7 (coordinatesFit (o .kinds) (o .points))
-    ∷ unless 6 (between (Ieee.neg f1) threshold f1)
     ∷ []
+
+-- and with a threshold
+unfoldable pub check : Outline → Float → List Check
+unfolding checkOutline
+check o threshold = checkOutline o ++ (unless 6 (between (Ieee.neg f1) threshold f1) ∷ [])
 
 -- ---- what a colouring does to the result buffers
 

@@ -7,7 +7,7 @@ use mathlib.Core.List.{List, [], _∷_, map, map-append}
 use lib.Dec.{eqb}
 use lib.IntN.{ℤ, pos, negsuc}
 use lib.ListN.{length, take, drop, length-map, List·getD-map}
-use Rattle.coloring.specs.Lists.{range}
+use Rattle.coloring.specs.Lists.{range, map-take, map-drop}
 use Rattle.coloring.specs.Places.{byPlace}
 use Rattle.coloring.specs.Trichotomy.{symmetricalTrichotomy}
 use Rattle.coloring.specs.Corners.{cornerCount, firstCorner}
@@ -18,16 +18,6 @@ use Rattle.coloring.specs.Sizes.{paint-one, paint-spread}
 -- ---- maps
 
 module _ {A B : Type 0} (f : A → B) where
-  map-take : (n : ℕ) (xs : List A) → map f (take n xs) ≡ take n (map f xs)
-  map-take zero xs = refl
-  map-take (suc n) [] = refl
-  map-take (suc n) (x ∷ xs) = ap (λ (ys : List B). f x ∷ ys) (map-take n xs)
-
-  map-drop : (n : ℕ) (xs : List A) → map f (drop n xs) ≡ drop n (map f xs)
-  map-drop zero xs = refl
-  map-drop (suc n) [] = refl
-  map-drop (suc n) (x ∷ xs) = map-drop n xs
-
   map-byPlace : (start : ℕ) (xs : List A) → map f (byPlace start xs) ≡ byPlace start (map f xs)
   unfolding byPlace
   map-byPlace start xs = simp (map-append, map-take, map-drop, length-map)
@@ -77,4 +67,4 @@ module _ {A B : Type 0} (f : A → B) where
   contours-map middle values [] = refl
   contours-map middle values (flags ∷ rest) =
       let count = splineCount flags in
-      rw (paint-map middle (take count values) flags, contours-map middle (drop count values) rest, map-take count values, map-drop count values)
+      rw (paint-map middle (take count values) flags, contours-map middle (drop count values) rest, map-take f count values, map-drop f count values)

@@ -9,16 +9,17 @@ use lib.Ieee.{Float}
 use lib.ListN.{length, getD, take, drop, length-append, length-take, length-drop, length-map}
 use lib.Seq.{take-at, drop-at}
 use borrow.Author.Tests.{eqb-true, leb-true}
-use Rattle.math.specs.Scalar.{f1}
 use Rattle.math.specs.declared.vector2.Vector2.{Vector2}
-use Rattle.geometry.specs.EdgeSegment.{direction, toStored}
+use Rattle.geometry.specs.EdgeSegment.{unitDirections, toStored}
+use Rattle.geometry.specs.declared.edge_segment.Directions.{Directions}
 use Rattle.geometry.specs.declared.edge_segment.EdgeSegment.{EdgeSegment}
 use Rattle.geometry.specs.declared.edge_segment.EdgeSegment.the-variants.{Line, Quadratic, Cubic}
 use Rattle.coloring.specs.Bools.{and-left, and-right, branch-true, branch-false}
-use Rattle.coloring.specs.Lists.{range, length-range}
+use Rattle.coloring.specs.Lists.{range, length-range, lastOf}
 use Rattle.coloring.specs.Limits.{maxContours, maxEdges, maxResultEdges}
 use Rattle.coloring.specs.Places.{rotate, byPlace, total}
-use Rattle.coloring.specs.Corners.{Cornered, lastEdge, flagsFrom, cornerFlags, searchCorners, edgesIn, flagsIn, cornerCount, firstCorner}
+use Rattle.coloring.specs.Corners.{cornerFlags, directionsOf, flagsAfter, flagsBetween, same-flags}
+use Rattle.coloring.specs.Corners.{Cornered, searchCorners, edgesIn, flagsIn, cornerCount, firstCorner}
 use Rattle.coloring.specs.Layout.{thirds, splits, firstOnly, splitContour, layout, resultEdges}
 use Rattle.coloring.specs.Teardrop.{runs, teardrop}
 use Rattle.coloring.specs.Splines.{splineCount, spread, paint, paintContours}
@@ -58,15 +59,18 @@ module _ {A B : Type 0} (f : A → B) where
 -- ---- a flag for each edge
 
 module _ (threshold : Float) where
-  from-length : (prev : Vector2) (edges : List EdgeSegment) → length (flagsFrom threshold prev edges) ≡ length edges
-  unfolding flagsFrom
-  from-length prev [] = refl
-  from-length prev (e ∷ edges) = ap suc (from-length (direction e f1) edges)
+  after-length : (prev : Vector2) (directions : List Directions) → length (flagsAfter threshold prev directions) ≡ length directions
+  unfolding flagsAfter
+  after-length prev [] = refl
+  after-length prev (d ∷ directions) = ap suc (after-length (d .end) directions)
+
+  pub between-length : (directions : List Directions) → length (flagsBetween threshold directions) ≡ length directions
+  unfolding flagsBetween
+  between-length [] = refl
+  between-length (d ∷ directions) = after-length (lastOf d directions .end) (d ∷ directions)
 
   pub flags-length : (edges : List EdgeSegment) → length (cornerFlags threshold edges) ≡ length edges
-  unfolding cornerFlags
-  flags-length [] = refl
-  flags-length (e ∷ edges) = from-length (direction (lastEdge e edges) f1) (e ∷ edges)
+  flags-length edges = ap length (same-flags threshold edges) ∙ between-length (directionsOf edges) ∙ length-map edges unitDirections
 
 -- ---- the edges of the result
 

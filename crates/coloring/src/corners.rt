@@ -1,21 +1,24 @@
 // Corners and length estimates, after `is_corner`, `estimate_edge_length` and `identify_corners` of coloring/mod.rs.
-use crate::outline::edge_at;
+use crate::directions::directions_at;
+use crate::directions::unit_directions;
+use crate::limits::FEW_DIRECTION_PLACES;
+use crate::limits::MAX_DIRECTION_PLACES;
 use geometry::edge_segment::EdgeSegment;
 use math::vector2::Vector2;
 use math::vector2::cross;
 use math::vector2::dot;
 ghost use mathlib.Core.Path.{_≡_};
-ghost use mathlib.Core.Bool.{false};
 ghost use mathlib.Core.List.{map};
-ghost use Prim.Native.Nat.{_-_};
+ghost use Prim.Native.Nat.{_≤_, _-_, _*_};
 ghost use lib.Ieee.{lt};
-ghost use lib.ListN.{take, drop};
-ghost use Rattle.math.specs.Scalar.{f0, f1};
-ghost use Rattle.math.specs.Vector2.{lengthOf, normalize};
-ghost use Rattle.geometry.specs.EdgeSegment.{direction};
+ghost use lib.ListN.{length, take, drop};
+ghost use Rattle.math.specs.Vector2.{lengthOf};
+ghost use Rattle.coloring.specs.Limits.{maxEdges};
 ghost use Rattle.coloring.specs.Lists.{overFrom};
-ghost use Rattle.coloring.specs.Corners.{abs, isCorner, estimateEdgeLength, cornerFlags, searchCorners, cornered, cornerCount, firstCorner};
-ghost use Rattle.coloring.specs.Outline.{edgesOf, contours, outline, Matching, Cut, Part};
+ghost use Rattle.coloring.specs.Places.{total};
+ghost use Rattle.coloring.specs.Corners.{abs, isCorner, estimateEdgeLength, flagsBetween, searchCorners, cornered, cornerCount, firstCorner};
+ghost use Rattle.coloring.specs.Directions.{decodeDirections, allFlags};
+ghost use Rattle.coloring.specs.Outline.{edgesOf, contours, outline, Cut};
 
 // Whether the magnitude of x is above the threshold.
 fn exceeds(x: f64, threshold: f64) -> bool
@@ -65,64 +68,71 @@ pub(crate) fn estimate_edge_length(e: EdgeSegment) -> f64
     0.0 + first + second + third + fourth
 }
 
-// The unit direction in which an edge ends, given that in which it starts: of a line they are the same.
-fn end_direction(e: EdgeSegment, start: Vector2) -> Vector2
-    requires { ⌜ start ≡ normalize (direction e f0) false ⌝ }
-    ensures { λ r. ⌜ r ≡ normalize (direction e f1) false ⌝ }
+// A flag for each edge of a contour, by its directions: true where it starts at a corner. The edge before the first is
+// the last.
+fn identify_corners(directions: &[f64], threshold: f64, flags: &mut [bool])
+    requires { ⌜ (length (now directions) ≡ 4 * length (now flags)) × (length (now flags) ≤ maxEdges) ⌝ }
+    ensures { λ _. ⌜ now (flags .exit) ≡ flagsBetween threshold (decodeDirections (length (now (flags .entry))) (now (directions .entry))) ⌝ }
 {
-    if e.order() == 1 {
-        return start;
-    }
-    e.direction(1.0).normalize(false)
-}
-
-// A flag for each edge of a contour, true where it starts at a corner. Directions are unit directions. The first edge
-// comes last, since the edge before it is the last.
-pub(crate) fn identify_corners(kinds: &[u8], points: &[f64], threshold: f64, flags: &mut [bool])
-    requires { ⌜ Matching (now kinds) (now points) (now flags) ⌝ }
-    ensures { λ _. ⌜ now (flags .exit) ≡ cornerFlags threshold (edgesOf (now (kinds .entry)) (now (points .entry))) ⌝ }
-{
-    let m = kinds.len();
+    let m = flags.len();
     if m == 0 {
         return;
     }
-    let first = edge_at(kinds, points, 0).direction(0.0).normalize(false);
-    let mut prev = end_direction(edge_at(kinds, points, 0), first);
-    let mut i = 1;
+    let mut prev = directions_at(directions, m - 1).end;
+    let mut i = 0;
     while i < m {
-        let e = edge_at(kinds, points, i);
-        let start = e.direction(0.0).normalize(false);
-        flags[i] = is_corner(prev, start, threshold);
-        prev = end_direction(e, start);
+        let d = directions_at(directions, i);
+        flags[i] = is_corner(prev, d.start, threshold);
+        prev = d.end;
         i += 1;
     }
-    flags[0] = is_corner(prev, first, threshold);
 }
 
 // The same for the contour of the edges from `at` up to `end`.
-fn identify_part(
-    kinds: &[u8],
-    points: &[f64],
-    at: usize,
-    end: usize,
-    threshold: f64,
-    flags: &mut [bool],
-)
-    requires { ⌜ Part (now kinds) (now points) (now flags) at end ⌝ }
-    ensures { λ _. ⌜ now (flags .exit) ≡
-        overFrom at (cornerFlags threshold (take (end - at) (drop at (edgesOf (now (kinds .entry)) (now (points .entry)))))) (now (flags .entry)) ⌝ }
+fn identify_part(directions: &[f64], at: usize, end: usize, threshold: f64, flags: &mut [bool])
+    requires { ⌜ (length (now directions) ≡ 4 * length (now flags)) × (length (now flags) ≤ maxEdges) × (at ≤ end) × (end ≤ length (now flags)) ⌝ }
+    ensures { λ _. ⌜ now (flags .exit) ≡ overFrom at (flagsBetween threshold (take (end - at)
+        (drop at (decodeDirections (length (now (flags .entry))) (now (directions .entry)))))) (now (flags .entry)) ⌝ }
 {
-    let from = 8 * at;
-    let to = 8 * end;
-    identify_corners(
-        &kinds[at..end],
-        &points[from..to],
-        threshold,
-        &mut flags[at..end],
-    );
+    let from = 4 * at;
+    let to = 4 * end;
+    identify_corners(&directions[from..to], threshold, &mut flags[at..end]);
 }
 
-// The corners of all contours, a flag an edge.
+// The corners of all contours, a flag an edge, by the directions of all edges.
+fn compare_neighbors(lengths: &[u16], directions: &[f64], threshold: f64, flags: &mut [bool])
+    requires { ⌜ (length (now directions) ≡ 4 * length (now flags)) × (length (now flags) ≤ maxEdges) × (total (now lengths) ≡ length (now flags)) ⌝ }
+    ensures { λ _. ⌜ now (flags .exit) ≡ allFlags threshold (now (lengths .entry))
+        (decodeDirections (length (now (flags .entry))) (now (directions .entry))) ⌝ }
+{
+    let mut at: usize = 0;
+    let mut i = 0;
+    while i < lengths.len() {
+        let end = at + lengths[i] as usize;
+        identify_part(directions, at, end, threshold, flags);
+        at = end;
+        i += 1;
+    }
+}
+
+// The directions of all edges, then the corners of all contours.
+fn search_corners(
+    lengths: &[u16],
+    kinds: &[u8],
+    points: &[f64],
+    threshold: f64,
+    directions: &mut [f64],
+    flags: &mut [bool],
+)
+    requires { ⌜ Cut (now lengths) (now kinds) (now points) (now flags) × (length (now directions) ≡ 4 * length (now kinds)) ⌝ }
+    ensures { λ _. ⌜ cornered (now (lengths .entry)) (edgesOf (now (kinds .entry)) (now (points .entry))) (now (flags .exit)) ≡
+        map (searchCorners threshold) (contours (outline (now (lengths .entry)) (now (kinds .entry)) (now (points .entry)))) ⌝ }
+{
+    unit_directions(kinds, points, directions);
+    compare_neighbors(lengths, directions, threshold, flags);
+}
+
+// The same, with a buffer of its own: a small one for the outlines of most glyphs, since all of it is cleared.
 pub(crate) fn find_corners(
     lengths: &[u16],
     kinds: &[u8],
@@ -134,14 +144,28 @@ pub(crate) fn find_corners(
     ensures { λ _. ⌜ cornered (now (lengths .entry)) (edgesOf (now (kinds .entry)) (now (points .entry))) (now (flags .exit)) ≡
         map (searchCorners threshold) (contours (outline (now (lengths .entry)) (now (kinds .entry)) (now (points .entry)))) ⌝ }
 {
-    let mut at: usize = 0;
-    let mut i = 0;
-    while i < lengths.len() {
-        let end = at + lengths[i] as usize;
-        identify_part(kinds, points, at, end, threshold, flags);
-        at = end;
-        i += 1;
+    let places = 4 * kinds.len();
+    if places <= FEW_DIRECTION_PLACES {
+        let mut directions = [0.0; FEW_DIRECTION_PLACES];
+        search_corners(
+            lengths,
+            kinds,
+            points,
+            threshold,
+            &mut directions[..places],
+            flags,
+        );
+        return;
     }
+    let mut directions = [0.0; MAX_DIRECTION_PLACES];
+    search_corners(
+        lengths,
+        kinds,
+        points,
+        threshold,
+        &mut directions[..places],
+        flags,
+    );
 }
 
 // ---- what the flags of a contour say

@@ -2,6 +2,7 @@
 // spline table with its offers.
 pub mod by_distance;
 mod corners;
+pub mod directions;
 pub mod edge_coloring;
 mod ink_trap;
 mod layout;

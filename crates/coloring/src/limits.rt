@@ -4,6 +4,11 @@ pub const MAX_CONTOURS: usize = 64;
 
 pub const MAX_EDGES: usize = 256;
 
+// Places of the directions of so many edges, four an edge; and of the 64 that few glyphs have more of.
+pub(crate) const MAX_DIRECTION_PLACES: usize = 1024;
+
+pub(crate) const FEW_DIRECTION_PLACES: usize = 256;
+
 // Edges of a result.
 pub const MAX_RESULT_EDGES: usize = 508;
 

@@ -14,7 +14,7 @@ ghost use Prim.Native.Nat.{_≤_, _<_, _*_};
 ghost use lib.ListN.{length, getD, set};
 ghost use Rattle.coloring.specs.Lists.{all, overFrom};
 ghost use Rattle.coloring.specs.Answers.{checkedAnswer, firstRefusal};
-ghost use Rattle.coloring.specs.Outline.{knownKind, between, inRange, usedPlaces, coordinatesFit, check, given};
+ghost use Rattle.coloring.specs.Outline.{knownKind, between, inRange, usedPlaces, coordinatesFit, checkOutline, check, given};
 ghost use Rattle.coloring.specs.Outline.{anyEdge, edgesOf, kindStored, placesStored, Stored};
 ghost use Rattle.coloring.specs.Limits.{maxContours};
 ghost use Rattle.coloring.specs.Places.{total};
@@ -118,9 +118,9 @@ fn coordinates_fit(kinds: &[u8], points: &[f64]) -> bool
     true
 }
 
-// The first refusal of an outline and a threshold.
-pub fn check(lengths: &[u16], kinds: &[u8], points: &[f64], threshold: f64) -> Checked
-    ensures { λ r. ⌜ checkedAnswer r ≡ firstRefusal (check (given lengths kinds points) threshold) ⌝ }
+// The first refusal of an outline.
+pub(crate) fn check_outline(lengths: &[u16], kinds: &[u8], points: &[f64]) -> Checked
+    ensures { λ r. ⌜ checkedAnswer r ≡ firstRefusal (checkOutline (given lengths kinds points)) ⌝ }
 {
     if lengths.len() > MAX_CONTOURS {
         return Checked::Failed(Refusal::TooMany);
@@ -140,6 +140,17 @@ pub fn check(lengths: &[u16], kinds: &[u8], points: &[f64], threshold: f64) -> C
     }
     if !coordinates_fit(kinds, points) {
         return Checked::Failed(Refusal::BadCoordinate);
+    }
+    Checked::Passed
+}
+
+// The first refusal of an outline and a threshold.
+pub fn check(lengths: &[u16], kinds: &[u8], points: &[f64], threshold: f64) -> Checked
+    ensures { λ r. ⌜ checkedAnswer r ≡ firstRefusal (check (given lengths kinds points) threshold) ⌝ }
+{
+    let checked = check_outline(lengths, kinds, points);
+    if let Checked::Failed(_) = checked {
+        return checked;
     }
     if !between(-1.0, threshold, 1.0) {
         return Checked::Failed(Refusal::BadThreshold);

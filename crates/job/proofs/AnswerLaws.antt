@@ -1,13 +1,12 @@
 -- What reading and colouring a file give where every result has room: the answer, and the text.
 use mathlib.Core.Path.{_≡_, refl, sym, ap, _∙_}
-use mathlib.Core.Bool.{Bool, true, false, cond}
-use mathlib.Core.List.{List, map, flatten}
+use mathlib.Core.Bool.{true}
+use mathlib.Core.List.{List, [], map, flatten}
 use Prim.Native.Nat.{ℕ, _≤_, _<_}
 use native.Mathlib.Omega.{arith}
-use lib.Dec.{leb}
 use lib.ListN.{length, take, drop, length-append, length-map}
 use lib.Seq.{take-at}
-use borrow.Author.Tests.{le-leb, lt-leb}
+use borrow.Author.Tests.{le-leb}
 use Rattle.geometry.specs.declared.edge_segment.EdgeSegment.{EdgeSegment}
 use Rattle.coloring.specs.Lists.{over}
 use Rattle.coloring.specs.declared.outline.Counts.{Counts}
@@ -16,12 +15,13 @@ use Rattle.coloring.specs.Sizes.{Sized, sizes, sizes-map, cut-again, flatten-le
 use Rattle.coloring.specs.Outline.{kindStored, cut, encode, Result, Outcome, outcome, resultFits, delivered, deliver}
 use Rattle.coloring.specs.Shape.{countsOf}
 use Rattle.coloring.specs.Answers.{Answer, gives, refusal, allPass, inOrder, firstRefusal, all-passed, one-failed, either-way}
+use Rattle.coloring.specs.Fill.{filled, fill-short, fill-fits}
 use Rattle.coloring.specs.DeliverLaws.{deliver-fits, deliver-passed, deliver-failed, deliver-answer}
 use Rattle.job.specs.Limits.{maxText}
 use Rattle.job.specs.Job.{Job, Reading, readJob}
 use Rattle.job.specs.Color.{laidIn, checkJob, coloredEdges, edgeColors, colored, colorJob}
 use Rattle.job.specs.Color.{colorReading, colorFile, checkReading, checkFile, HoldsResults}
-use Rattle.job.specs.Listing.{listing, refusalLine, jobText, readingText, fileText, textOutcome, listFile}
+use Rattle.job.specs.Listing.{listing, refusalLine, jobText, readingText, fileText, listFile}
 use Rattle.job.proofs.listing.ListingLaws.{listing-few, refusal-few}
 use Rattle.job.proofs.color.ColorLaws.{map-flatten, numbered}
 use Rattle.job.proofs.color.ShapeLaws.{ShapeOf, shape-of}
@@ -182,11 +182,15 @@ module _ (file : List ℕ) (old : Result) (room : HoldsResults old) where
 
 -- ---- the listing: 11 where the text does not fit, else the text over what stood there
 
-module _ (file old : List ℕ) (n : ℕ) (e : n ≡ length (fileText file)) where
-  pub list-short : length old < n → textOutcome (refusal 11) old ≡ listFile file old
-  unfolding listFile
-  list-short h = rw (lt-leb (length (fileText file)) (length old) (omega (arith, e)))
+no-checks : firstRefusal [] ≡ allPass
+unfolding firstRefusal
+no-checks = refl
 
-  pub list-fits : (new : List ℕ) → n ≤ length old → new ≡ over (fileText file) old → textOutcome (gives n) new ≡ listFile file old
+module _ (file old : List ℕ) (n : ℕ) (e : n ≡ length (fileText file)) where
+  pub list-short : length old < n → filled (refusal 11) old ≡ listFile file old
   unfolding listFile
-  list-fits new h same = rw (le-leb (length (fileText file)) (length old) (omega (arith, e)), e, same)
+  list-short h = fill-short [] (length (fileText file)) (fileText file) old no-checks (omega (arith, e))
+
+  pub list-fits : (new : List ℕ) → n ≤ length old → new ≡ over (fileText file) old → filled (gives n) new ≡ listFile file old
+  unfolding listFile
+  list-fits new h same = rw (e, same) (fill-fits [] (length (fileText file)) (fileText file) old no-checks (omega (arith, e)))

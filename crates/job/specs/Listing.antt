@@ -2,15 +2,15 @@
 -- with the refusal's number.
 use Prim.Native.Nat.{ℕ, zero, suc, _+_, _/_, _%_, _≤_}
 use mathlib.Core.Path.{_≡_}
-use mathlib.Core.Bool.{true, false, cond}
+use mathlib.Core.Bool.{true, false}
 use mathlib.Core.List.{List, [], _∷_, _++_, map, flatten}
 use lib.ListN.{length}
-use lib.Dec.{leb, ltb}
-use Rattle.geometry.specs.declared.edge_segment.EdgeSegment.{EdgeSegment}
+use lib.Dec.{ltb}
 use Rattle.coloring.specs.Refusal.{refusalNumber}
 use Rattle.coloring.specs.Lists.{over, overFrom}
 use Rattle.coloring.specs.Outline.{kindStored}
 use Rattle.coloring.specs.Answers.{Answer, gives, refusal, inOrder}
+use Rattle.coloring.specs.Fill.{Filled, fill}
 use Rattle.job.specs.declared.listing.Listed.{Listed}
 use Rattle.job.specs.declared.listing.Listed.the-variants.{Bytes, Refused}
 use Rattle.job.specs.Job.{Job, Reading, readJob}
@@ -102,19 +102,12 @@ unfoldable pub fileText : List ℕ → List ℕ
 unfolding readJob readingText
 fileText file = readingText (readJob file)
 
--- the answer and the buffer: the text over what stood there, and its length; 11 where it would not fit
-pub record TextOutcome : Type 0 where
-  pub answer : Answer ℕ
-  pub buffer : List ℕ
-
-abbrev pub textOutcome : Answer ℕ → List ℕ → TextOutcome
-textOutcome answer buffer = record { answer = answer; buffer = buffer }
-
-unfoldable pub listFile : List ℕ → List ℕ → TextOutcome
-unfolding fileText over
+-- the text over what stood there, and its length; 11 where it would not fit
+unfoldable pub listFile : List ℕ → List ℕ → Filled ℕ
+unfolding fileText fill
 listFile file old =
     let text = fileText file in
-    cond (leb (length text) (length old)) (textOutcome (gives (length text)) (over text old)) (textOutcome (refusal 11) old)
+    fill [] (length text) text old
 
 -- ---- in the words of contracts
 

@@ -2,7 +2,8 @@
 // (the number, the record's bytes, threshold, seed, how many lengths, kinds and point places go in, how many of these
 // and of colours the result buffers have, the answer, where the result begins); what goes in: lengths, kinds, point
 // places, distances; and the result: lengths, kinds, colours, point places. A length is a word. Of the colouring of a
-// job file (71) the threshold's word has the bytes of the file, and what goes in is the file.
+// job file (71) the threshold's word has the bytes of the file, and what goes in is the file. The directions of an
+// outline (72) go to the buffer of point places, four an edge, and are the whole result.
 use crate::words::load;
 use crate::words::number;
 use crate::words::part;
@@ -11,6 +12,7 @@ use crate::words::size;
 use crate::words::word;
 use capi::by_distance::merelsplum_collect_splines;
 use capi::by_distance::merelsplum_edge_coloring_by_distance;
+use capi::directions::merelsplum_edge_directions;
 use capi::edge_coloring::merelsplum_edge_coloring_ink_trap;
 use capi::edge_coloring::merelsplum_edge_coloring_simple;
 use capi::job_file::merelsplum_job_color;
@@ -127,6 +129,9 @@ fn call(
             out_points,
             out_colors,
         );
+    }
+    if f == 72 {
+        return merelsplum_edge_directions(lengths, kinds, points, out_points);
     }
     merelsplum_edge_coloring_by_distance(
         lengths,
@@ -302,18 +307,19 @@ pub(crate) fn is_bytes(s: &[u8], bytes: &[u8]) -> bool {
     check::same(bytes, &expected)
 }
 
-// Whether four buffers hold the result of l contours and n edges at the place at of s.
+// Whether four buffers hold the result of l contours, n edges and p point places at the place at of s.
 fn is_result(
     s: &[u8],
     at: usize,
     l: usize,
     n: usize,
+    p: usize,
     lengths: &[u16],
     kinds: &[u8],
     points: &[f64],
     colors: &[u8],
 ) -> bool
-    requires { ⌜ (at ≤ 300000) × (l ≤ 80) × (n ≤ 540) ⌝ }
+    requires { ⌜ (at ≤ 300000) × (l ≤ 80) × (n ≤ 540) × (p ≤ 4320) ⌝ }
     requires { ⌜ (length (now lengths) ≤ 4100) × (length (now points) ≤ 4100) ⌝ }
 {
     let from = at + 8 * l;
@@ -326,26 +332,48 @@ fn is_result(
     if !is_bytes(part(s, from + n, n), colors) {
         return false;
     }
-    is_points(part(s, from + 2 * n, 64 * n), points)
+    is_points(part(s, from + 2 * n, 8 * p), points)
 }
 
-// The contours and the edges of the result that the record at the start of s has: none where the call is refused.
+// The contours, the edges and the point places of the result that the record at the start of s has: none where the call
+// is refused. Directions alone are point places, four an edge.
 fn contours(s: &[u8]) -> usize
     ensures { λ r. ⌜ r ≤ 80 ⌝ }
 {
     if 4294967296 <= word(s, 88) {
         return 0;
     }
+    if word(s, 0) == 72 {
+        return 0;
+    }
     size(s, 32, 80)
+}
+
+fn answered(s: &[u8]) -> usize
+    ensures { λ r. ⌜ r ≤ 540 ⌝ }
+{
+    if 4294967296 <= word(s, 88) {
+        return 0;
+    }
+    within((word(s, 88) % 65536) as usize, 540)
 }
 
 fn edges(s: &[u8]) -> usize
     ensures { λ r. ⌜ r ≤ 540 ⌝ }
 {
-    if contours(s) == 0 {
+    if word(s, 0) == 72 {
         return 0;
     }
-    within((word(s, 88) % 65536) as usize, 540)
+    answered(s)
+}
+
+fn places(s: &[u8]) -> usize
+    ensures { λ r. ⌜ r ≤ 4320 ⌝ }
+{
+    if word(s, 0) == 72 {
+        return 4 * answered(s);
+    }
+    8 * answered(s)
 }
 
 // Makes the call of the record at the start of s: whether its answer and all four buffers are as recorded.
@@ -362,6 +390,7 @@ pub(crate) fn is_right(s: &[u8]) -> bool {
         size(s, 96, 300000),
         contours(s),
         edges(s),
+        places(s),
         &lengths,
         &kinds,
         &points,

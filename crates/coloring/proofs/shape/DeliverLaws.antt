@@ -9,7 +9,7 @@ use lib.ListN.{length, take, drop, length-take, length-drop, length-map}
 use lib.Seq.{take-at}
 use borrow.Author.Tests.{leb-true, eqb-true}
 use Rattle.geometry.specs.declared.edge_segment.EdgeSegment.{EdgeSegment}
-use Rattle.coloring.specs.Answers.{gives, allPass, firstRefusal, passed-both}
+use Rattle.coloring.specs.Answers.{gives, Check, allPass, firstRefusal, passed-both}
 use Rattle.coloring.specs.DeliverLaws.{deliver-fits}
 use Rattle.coloring.specs.Bools.{and-left, and-right}
 use Rattle.coloring.specs.Lists.{over}
@@ -17,7 +17,7 @@ use Rattle.coloring.specs.declared.outline.Counts.{Counts}
 use Rattle.coloring.specs.Places.{total}
 use Rattle.coloring.specs.Corners.{Cornered, edgesIn, flagsIn, cornered}
 use Rattle.coloring.specs.Layout.{layout, resultEdges}
-use Rattle.coloring.specs.Outline.{Outline, Result, cut, encode, check, result, resultFits, delivered, deliver, outcome, Agrees, LaidOut}
+use Rattle.coloring.specs.Outline.{Outline, Result, cut, encode, checkOutline, result, resultFits, delivered, deliver, outcome, Agrees, LaidOut}
 use Rattle.coloring.specs.Splines.{splineCount, splineTotal, paintContours}
 use Rattle.coloring.specs.Shape.{painted, countsOf, Counted}
 use Rattle.coloring.specs.Sizes.{sizes, cut-again, flatten-length, Flagged, laid-flagged, flagged-sizes, laid-sizes, Sized, painted-sized}
@@ -25,9 +25,9 @@ use Rattle.coloring.proofs.layout.SplitLaws.{total-laid}
 
 -- ---- an outline that passed
 
-pub passed-agrees : (o : Outline) (threshold : Float) → firstRefusal (check o threshold) ≡ allPass → Agrees o
-unfolding check
-passed-agrees o threshold e =
+pub passed-agrees : (o : Outline) (more : List Check) → firstRefusal (checkOutline o ++ more) ≡ allPass → Agrees o
+unfolding checkOutline
+passed-agrees o more e =
     let few = passed-both 4 (leb (length (o .lengths)) 64 && leb (total (o .lengths)) 256) _ e in
     let same = passed-both 8 (eqb (length (o .kinds)) (total (o .lengths)) && eqb (length (o .points)) (8 * total (o .lengths))) _ (few .1) in
     let edges = eqb-true (length (o .kinds)) (total (o .lengths)) (and-left _ _ (same .0)) in

@@ -72,6 +72,7 @@ module _ (c : tie.After-enum-told) where
   passed = sym (passing .check .ensures) ∙ ap checkedAnswer (c .enum-told .given .1)
 
   agrees : Agrees (given start)
+  unfolding check
   agrees = passed-agrees _ _ passed
 
   all-passed : firstRefusal (checks (start .args .settings) (given start) (start .args .distances .now)) ≡ allPass

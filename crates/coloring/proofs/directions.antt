@@ -1,0 +1,2 @@
+-- Laws on the directions of edges.
+pub mod DirectionLaws

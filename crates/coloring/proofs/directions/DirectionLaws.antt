@@ -1,0 +1,103 @@
+-- Directions in a buffer of four places an edge: those of a part of it, and those that are written next.
+use mathlib.Core.Path.{_≡_, refl, sym, ap, _∙_}
+use mathlib.Core.List.{List, [], _∷_, map, map-append, flatten}
+use Prim.Native.Nat.{ℕ, zero, suc, _+_, _-_, _*_, _≤_, _<_}
+use native.Mathlib.Omega.{arith}
+use lib.Ieee.{Float, nan}
+use lib.ListN.{length, take, drop, getD, length-drop, drop-of-length-le, take-append-drop}
+use lib.Seq.{drop-drop, getD-take}
+use Rattle.geometry.specs.EdgeSegment.{unitDirections}
+use Rattle.geometry.specs.declared.edge_segment.Directions.{Directions}
+use Rattle.geometry.specs.declared.edge_segment.EdgeSegment.{EdgeSegment}
+use Rattle.coloring.specs.Lists.{overFrom}
+use Rattle.coloring.specs.Places.{total}
+use Rattle.coloring.specs.Corners.{directionsOf}
+use Rattle.coloring.specs.Outline.{cut}
+use Rattle.coloring.specs.Directions.{directionPlaces, encodeDirections, directionsAt, decodeDirections}
+use Rattle.coloring.proofs.Lists.{length-zero, drop-take, drop-next}
+use Rattle.coloring.proofs.Writing.{over-more, over-nothing}
+
+pub decode-length : (n : ℕ) (places : List Float) → length (decodeDirections n places) ≡ n
+unfolding decodeDirections
+decode-length zero places = refl
+decode-length (suc n) places = ap suc (decode-length n (drop 4 places))
+
+decode-drop : (i n : ℕ) (places : List Float) → i ≤ n → drop i (decodeDirections n places) ≡ decodeDirections (n - i) (drop (4 * i) places)
+unfolding decodeDirections
+decode-drop zero n places h =
+    let all : n - 0 ≡ n = omega arith in
+    rw all
+decode-drop (suc i) zero places h = absurd (omega arith)
+decode-drop (suc i) (suc n) places h =
+    let next : 4 + 4 * i ≡ 4 * suc i = omega arith in
+    let left : suc n - suc i ≡ n - i = omega arith in
+    rw (left, decode-drop i n (drop 4 places) (omega arith), drop-drop (4 * i) 4 places, next)
+
+pub decode-next : (n : ℕ) (places : List Float) (i : ℕ) → i < n
+    → drop i (decodeDirections n places) ≡ directionsAt (drop (4 * i) places) ∷ drop (i + 1) (decodeDirections n places)
+unfolding decodeDirections
+decode-next n places i h =
+    let left : n - i ≡ suc (n - (i + 1)) = omega arith in
+    let next : 4 * i + 4 ≡ 4 * (i + 1) = omega arith in
+    decode-drop i n places (omega arith)
+    ∙ rw (left, drop-drop 4 (4 * i) places, next, decode-drop (i + 1) n places (omega arith))
+
+-- only the first four places of each are read
+decode-take : (m : ℕ) (places : List Float) → decodeDirections m (take (4 * m) places) ≡ decodeDirections m places
+unfolding decodeDirections
+decode-take zero places = refl
+decode-take (suc m) places =
+    let next : 4 * suc m ≡ 4 + 4 * m = omega arith in
+    rw (
+      next,
+      drop-take 4 (4 * m) places,
+      decode-take m (drop 4 places),
+      getD-take (4 + 4 * m) places 0 nan (omega arith),
+      getD-take (4 + 4 * m) places 1 nan (omega arith),
+      getD-take (4 + 4 * m) places 2 nan (omega arith),
+      getD-take (4 + 4 * m) places 3 nan (omega arith),
+    )
+
+decode-front : (m n : ℕ) (places : List Float) → m ≤ n → take m (decodeDirections n places) ≡ decodeDirections m places
+unfolding decodeDirections
+decode-front zero n places h = refl
+decode-front (suc m) zero places h = absurd (omega arith)
+decode-front (suc m) (suc n) places h = rw (decode-front m n (drop 4 places) (omega arith))
+
+-- the directions of the edges from `at` up to `end` are those of their part of the buffer
+pub decode-part : (at end n : ℕ) (places : List Float) → at ≤ end → end ≤ n
+    → decodeDirections (end - at) (take (4 * end - 4 * at) (drop (4 * at) places)) ≡ take (end - at) (drop at (decodeDirections n places))
+decode-part at end n places h j =
+    let m : 4 * end - 4 * at ≡ 4 * (end - at) = omega arith in
+    rw (m, decode-drop at n places (omega arith), decode-front (end - at) (n - at) (drop (4 * at) places) (omega arith))
+    (decode-take (end - at) (drop (4 * at) places))
+
+-- ---- writing
+
+pub encode-length : (directions : List Directions) → length (encodeDirections directions) ≡ 4 * length directions
+unfolding encodeDirections
+encode-length [] = refl
+encode-length (d ∷ directions) = omega (arith, encode-length directions)
+
+-- one edge more has its directions, and then all
+module _ (edges : List EdgeSegment) (out : List Float) (i : ℕ) where
+  pub encode-next : (d : EdgeSegment) → i < length edges → 4 * i + 4 ≤ length out
+      → overFrom (4 * i) (encodeDirections (directionsOf (drop i edges))) out
+      ≡ overFrom (4 * (i + 1)) (encodeDirections (directionsOf (drop (i + 1) edges))) (overFrom (4 * i) (directionPlaces (unitDirections (getD edges i d))) out)
+  unfolding encodeDirections
+  encode-next d h j =
+      let next : 4 * i + 4 ≡ 4 * (i + 1) = omega arith in
+      rw (drop-next edges i d h, ← next) (over-more (4 * i) 4 (directionPlaces (unitDirections (getD edges i d))) _ out refl j)
+
+  pub encode-end : length edges ≤ i → overFrom (4 * i) (encodeDirections (directionsOf (drop i edges))) out ≡ out
+  unfolding encodeDirections
+  encode-end h = rw (drop-of-length-le edges {i = i} h) (over-nothing (4 * i) out)
+
+-- the directions of all contours are those of all edges
+pub directions-whole : (lengths : List ℕ) (edges : List EdgeSegment) → total lengths ≡ length edges
+    → flatten (map directionsOf (cut lengths edges)) ≡ directionsOf edges
+unfolding flatten total cut
+directions-whole [] edges h = rw (length-zero edges (sym h))
+directions-whole (n ∷ lengths) edges h =
+    rw (directions-whole lengths (drop n edges) (rw length-drop (omega arith)))
+    (sym (map-append unitDirections (take n edges) (drop n edges)) ∙ ap directionsOf (take-append-drop n edges))

@@ -1,0 +1,50 @@
+-- The directions of an outline, computed from the definition. Each refutes an entry that does something else.
+use Prim.Native.Nat.{ℕ}
+use mathlib.Core.Path.{_≡_, refl}
+use mathlib.Core.List.{List, [], _∷_}
+use lib.ListN.{replicate}
+use lib.Ieee as Ieee
+use lib.Ieee.{Float, nan}
+use Rattle.math.specs.Sqrt.{sqrtOf}
+use Rattle.math.specs.Vector2.{add, sub, mulScalar, divScalar, squaredLength, lengthOf, isNonzero, normalize}
+use Rattle.geometry.specs.EdgeSegment.{vmix, quadraticTangent, quadraticDirection, fromStored}
+use Rattle.geometry.specs.Examples.{n0, n1, n2, n3, tiny}
+use Rattle.coloring.specs.Answers.{gives, refusal}
+use Rattle.coloring.specs.Fill.{Filled, filled}
+use Rattle.coloring.specs.Outline.{Outline, outline}
+use Rattle.coloring.specs.Directions.{edgeDirections}
+
+-- a quadratic that starts to the right and ends downwards; an empty contour; a line of length 2 ^ -600. What an edge
+-- does not use is no number.
+abbrev two : Outline
+two =
+    outline (1 ∷ 0 ∷ 1 ∷ []) (2 ∷ 1 ∷ [])
+    (n0 ∷ n0 ∷ n2 ∷ n0 ∷ n2 ∷ Ieee.neg n2 ∷ nan ∷ nan ∷ n0 ∷ n0 ∷ tiny ∷ n0 ∷ replicate 4 nan)
+
+-- refutes one that writes nothing, the first contour only, a start twice or another order, and one that clears the rest
+pub two-edges : edgeDirections two (replicate 10 n3) ≡ filled (gives 2) (n1 ∷ n0 ∷ n0 ∷ Ieee.neg n1 ∷ n0 ∷ n1 ∷ n0 ∷ n1 ∷ n3 ∷ n3 ∷ [])
+unfolding edgeDirections quadraticDirection quadraticTangent vmix fromStored add sub mulScalar isNonzero normalize lengthOf squaredLength
+    divScalar sqrtOf Ieee.add Ieee.sub Ieee.mul Ieee.div Ieee.neg Ieee.le Ieee.lt Ieee.ne Ieee.eq Ieee.ofBits
+two-edges = refl
+
+-- refutes one that refuses where they just fit, and one that writes what fits
+pub exactly-two : edgeDirections two (replicate 8 n3) .answer ≡ gives 2
+unfolding edgeDirections fromStored Ieee.neg Ieee.le Ieee.lt Ieee.ofBits
+exactly-two = refl
+
+pub one-place-short : edgeDirections two (replicate 7 n3) ≡ filled (refusal 11) (replicate 7 n3)
+unfolding edgeDirections fromStored Ieee.neg Ieee.le Ieee.lt Ieee.ofBits
+one-place-short = refl
+
+-- refutes one that looks for room before it looks at the outline: each refusal, with the fault of the next
+abbrev refused : List ℕ → List ℕ → List Float → Filled Float
+refused lengths kinds points = edgeDirections (outline lengths kinds points) []
+
+pub direction-refusals :
+    (refused (257 ∷ []) [] [] ≡ filled (refusal 4) [])
+    × (refused (1 ∷ []) (0 ∷ []) [] ≡ filled (refusal 8) [])
+    × (refused (1 ∷ []) (0 ∷ []) (replicate 8 nan) ≡ filled (refusal 5) [])
+    × (refused (1 ∷ []) (1 ∷ []) (replicate 8 nan) ≡ filled (refusal 7) [])
+    × (refused [] [] [] ≡ filled (gives 0) [])
+unfolding edgeDirections fromStored Ieee.neg Ieee.le Ieee.lt Ieee.ofBits
+direction-refusals = (refl, refl, refl, refl, refl)
