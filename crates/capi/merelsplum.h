@@ -168,6 +168,24 @@ uint64_t merelsplum_collect_splines(
 static inline unsigned merelsplum_collected_edges(uint64_t answer) { return (unsigned)(answer & 0xFFFF); }
 static inline unsigned merelsplum_collected_splines(uint64_t answer) { return (unsigned)(answer >> 16 & 0xFFFF); }
 
+/* ---- directions of an outline's edges
+ *
+ * Four doubles for each edge, through all contours: x and y of the unit direction in which it starts, then of that in
+ * which it ends. Where the two control points at an end of a curve are the same, the next one is taken in place of the
+ * nearer. A direction whose squared length comes out as 0 is (0, 1). Corners follow from these numbers and the
+ * threshold alone: an edge begins at a corner where e, the end of the one before it in its contour (of the last one for
+ * the first), and s, its start, have e.x * s.x + e.y * s.y <= 0 or |e.x * s.y - e.y * s.x| above the threshold.
+ *
+ * Answer: the number of edges, or a refusal, looked for in this order: 4 (contours, edges), 8 (lengths), 5, 7, and last
+ * 11, where out_directions has fewer than 4 doubles for each edge. It may have more, which keep their bytes;
+ * 4 * MERELSPLUM_MAX_EDGES are always enough. */
+
+uint64_t merelsplum_edge_directions(
+    const uint16_t *lengths, size_t lengths_len,
+    const uint8_t *kinds, size_t kinds_len,
+    const double *points, size_t points_len,
+    double *out_directions, size_t out_directions_len);
+
 /* ---- offers to a spline table
  *
  * A spline table has a colour for each of n splines, 0, 1 or 2 (Yellow, Cyan, Magenta), and n * n bytes, by rows: 1
