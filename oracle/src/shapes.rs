@@ -437,7 +437,7 @@ fn threshold_bad(r: &mut Random, call: &mut Call) {
 }
 
 /// How many places a buffer loses: one mostly.
-fn shorter(r: &mut Random, n: usize) -> usize {
+pub fn shorter(r: &mut Random, n: usize) -> usize {
     n - if r.below(4) != 0 { 1 } else { 1 + some(r, n) }.min(n)
 }
 

@@ -1,8 +1,9 @@
 //! Runs the proved code, through the archives of target/staticlib, beside the Rust of docs/src, and counts
 //! the answers that differ. The last line is the verdict. A word names one part alone: `leaves`,
-//! `edges`, `tables`, `shapes`, `distances`, `jobs`, `channels`, or `root`, which a run of all leaves out.
-//! `speed` measures and compares nothing, and runs `pass` under callgrind.
+//! `edges`, `tables`, `shapes`, `directions`, `distances`, `jobs`, `channels`, or `root`, which a run of all
+//! leaves out. `speed` measures and compares nothing, and runs `pass` under callgrind.
 
+mod directions;
 mod distances;
 mod edges;
 mod jobs;
@@ -55,9 +56,8 @@ impl Tally {
 }
 
 fn usage() -> ! {
-    eprintln!(
-        "usage: compare [leaves | edges | tables | shapes | distances | jobs | channels | root]"
-    );
+    let parts = "leaves | edges | tables | shapes | directions | distances | jobs | channels | root";
+    eprintln!("usage: compare [{parts}]");
     eprintln!("       compare speed [FOLDER...]");
     eprintln!("       compare pass ROW proved|rust [FOLDER...]");
     std::process::exit(2);
@@ -72,6 +72,7 @@ fn main() {
             edges::compare(&mut all);
             tables::compare(&mut all);
             shapes::compare(&mut all);
+            directions::compare(&mut all);
             distances::compare(&mut all);
             jobs::compare(&mut all);
             jobs::program(&mut all);
@@ -80,6 +81,7 @@ fn main() {
         Some("edges") => edges::compare(&mut all),
         Some("tables") => tables::compare(&mut all),
         Some("shapes") => shapes::compare(&mut all),
+        Some("directions") => directions::compare(&mut all),
         Some("distances") => distances::compare(&mut all),
         Some("jobs") => jobs::compare(&mut all),
         Some("channels") => jobs::program(&mut all),
