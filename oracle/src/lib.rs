@@ -17,6 +17,7 @@ pub mod coloring;
 include!(concat!(env!("OUT_DIR"), "/given.rs"));
 
 pub mod contours;
+pub mod direction_sample;
 pub mod directions;
 pub mod distances;
 pub mod edges;

@@ -56,18 +56,17 @@ fn words(lengths: &[u16]) -> Vec<u8> {
     lengths.iter().flat_map(|&n| (n as u64).to_le_bytes()).collect()
 }
 
-/// Thirteen words: the number (65 simple, 66 ink trap, 67 the collecting pass, 68 by distance), the
-/// record's bytes, the threshold's bits, the seed, how many lengths, kinds and point places go in, how
-/// many of these and of colours the result buffers have, the answer, and where the result begins. Then
-/// what goes in: lengths, kinds, point places, distances; and the result of so many edges: lengths,
-/// kinds, colours, point places. A kind and a colour are bytes.
-fn written(
+/// Thirteen words: the number (65 simple, 66 ink trap, 67 the collecting pass, 68 by distance, 72 the
+/// directions), the record's bytes, the threshold's bits, the seed, how many lengths, kinds and point
+/// places go in, how many of these and of colours the result buffers have, the answer, and where the
+/// result begins. Then what goes in: lengths, kinds, point places, distances; and the result. A kind and
+/// a colour are bytes.
+pub fn written(
     number: u64,
     call: &Call,
     distances: &[u64],
     answer: u64,
-    edges: Option<usize>,
-    after: &Buffers,
+    result: Vec<u8>,
 ) -> Vec<u8> {
     let o = &call.outline;
     let mut body = words(&o.lengths);
@@ -75,18 +74,24 @@ fn written(
     body.extend(o.points.iter().flat_map(|bits| bits.to_le_bytes()));
     body.extend(distances.iter().flat_map(|bits| bits.to_le_bytes()));
     let begins = 13 * 8 + body.len();
-    if let Some(count) = edges {
-        body.extend(words(&after.lengths[..o.lengths.len()]));
-        body.extend(&after.kinds[..count]);
-        body.extend(&after.colors[..count]);
-        body.extend(after.points[..8 * count].iter().flat_map(|bits| bits.to_le_bytes()));
-    }
+    body.extend(result);
     let mut head = vec![number, 13 * 8 + body.len() as u64, call.threshold.to_bits(), call.seed];
     head.extend(sizes(call).map(|n| n as u64));
     head.extend([answer, begins as u64]);
     let mut record: Vec<u8> = head.into_iter().flat_map(u64::to_le_bytes).collect();
     record.extend(body);
     record
+}
+
+/// The result of a call of so many edges, none where it is refused: lengths, kinds, colours, point
+/// places.
+fn colored(call: &Call, edges: Option<usize>, after: &Buffers) -> Vec<u8> {
+    let Some(count) = edges else { return Vec::new() };
+    let mut result = words(&after.lengths[..call.outline.lengths.len()]);
+    result.extend(&after.kinds[..count]);
+    result.extend(&after.colors[..count]);
+    result.extend(after.points[..8 * count].iter().flat_map(|bits| bits.to_le_bytes()));
+    result
 }
 
 fn edges(answer: &Answer) -> Option<usize> {
@@ -104,7 +109,7 @@ pub fn record(strategy: Strategy, call: &Call) -> Vec<u8> {
         Strategy::Simple => 65,
         Strategy::InkTrap => 66,
     };
-    written(number, &call, &[], answer.code(), edges(&answer), &after)
+    written(number, &call, &[], answer.code(), colored(&call, edges(&answer), &after))
 }
 
 /// The collecting pass and the colouring by distance of one call.
@@ -113,11 +118,11 @@ fn distance_records(c: &DistanceCall) -> [Vec<u8>; 2] {
     let c = DistanceCall { call: plain(&c.call), distances: c.distances.clone() };
     let (code, numbered) = collect(&c.call);
     let count = (code < 1 << 32).then_some((code % 65536) as usize);
-    let collecting = written(67, &c.call, &[], code, count, &numbered);
+    let collecting = written(67, &c.call, &[], code, colored(&c.call, count, &numbered));
     let outcome = distances::color(&c);
     let answer = outcome.answer;
-    let coloring =
-        written(68, &c.call, &c.distances, answer.code(), edges(&answer), &outcome.after);
+    let result = colored(&c.call, edges(&answer), &outcome.after);
+    let coloring = written(68, &c.call, &c.distances, answer.code(), result);
     [collecting, coloring]
 }
 
@@ -150,7 +155,7 @@ fn square() -> Vec<Call> {
 }
 
 /// m lines with a corner every few.
-fn stairs(m: usize) -> Edges {
+pub fn stairs(m: usize) -> Edges {
     let point = |i: usize| (((i + 1) / 3) as f64, (i / 3) as f64);
     polygon(&(0..m).map(point).collect::<Vec<_>>())
 }
@@ -279,7 +284,7 @@ fn special(r: &mut Random) -> Vec<Call> {
 }
 
 /// The fault that takes 257 edges; the limits have it.
-const LARGE: &str = "above 256 edges";
+pub const LARGE: &str = "above 256 edges";
 
 /// Refusals by a number, `count` for each fault that gives it.
 fn refused(r: &mut Random, number: u8, count: usize) -> Vec<Call> {

@@ -1,6 +1,7 @@
 //! Records whose answer is not the source's, by one bit: a program that does not look at some of an answer takes
 //! one of them for right.
 
+use crate::directions::PLACES;
 use crate::edges::FUNCTIONS;
 use crate::leaves::LEAVES;
 use std::ops::Range;
@@ -60,6 +61,11 @@ fn answer(record: &[u8]) -> Places {
             let kinds = places.words_from(size(12), contours);
             let points = places.bytes_from(kinds, edges);
             places.words_from(points, 8 * edges + distances);
+        }
+        72 => {
+            places.words(11..12);
+            let edges = if size(11) >> 32 == 0 { size(11) } else { 0 };
+            places.words_from(size(12), PLACES * edges);
         }
         _ => {
             places.words(11..12);

@@ -3,7 +3,7 @@
 
 use oracle::spoilt::spoilt;
 use oracle::tables::{self, Run};
-use oracle::{edges, job_sample, leaves, shape_sample};
+use oracle::{direction_sample, edges, job_sample, leaves, shape_sample};
 use std::path::Path;
 
 /// The records, and the counts that the program prints when every answer is as the source's.
@@ -95,6 +95,7 @@ fn main() {
     out.parts("offers", offers, &square);
     out.parts("colours", shape_sample::sample(), &shape_sample::small_records());
     out.parts("jobs", job_sample::sample(), &job_sample::small_records());
+    out.parts("dir", direction_sample::sample(), &direction_sample::small_records());
     let folder = Path::new(&folder);
     std::fs::write(folder.join("stdin"), &out.records).unwrap();
     std::fs::write(folder.join("stdout"), &out.counts).unwrap();
