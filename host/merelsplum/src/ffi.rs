@@ -143,6 +143,17 @@ unsafe extern "C" {
         out_splines_len: usize,
     ) -> u64;
 
+    fn merelsplum_edge_directions(
+        lengths: *const u16,
+        lengths_len: usize,
+        kinds: *const u8,
+        kinds_len: usize,
+        points: *const f64,
+        points_len: usize,
+        out_directions: *mut f64,
+        out_directions_len: usize,
+    ) -> u64;
+
     fn merelsplum_try_add_edge(
         coloring: *mut u8,
         coloring_len: usize,
@@ -287,6 +298,29 @@ pub(crate) fn collect_splines(o: &Flat, threshold: f64, out: &mut FlatResult) ->
             out.room,
         );
         out.written(code);
+        code
+    }
+}
+
+/// Makes the list anew: for each edge where it starts and where it ends.
+pub(crate) fn edge_directions(o: &Flat, list: &mut Vec<[[f64; 2]; 2]>) -> u64 {
+    list.clear();
+    list.reserve_exact(o.kinds.len());
+    // SAFETY: as above; where the code is no refusal it is the number of edges that were written.
+    unsafe {
+        let code = merelsplum_edge_directions(
+            o.lengths.as_ptr(),
+            o.lengths.len(),
+            o.kinds.as_ptr(),
+            o.kinds.len(),
+            o.points.as_ptr().cast(),
+            8 * o.points.len(),
+            list.as_mut_ptr().cast(),
+            4 * o.kinds.len(),
+        );
+        if code >> 32 == 0 {
+            list.set_len(code as usize);
+        }
         code
     }
 }

@@ -16,6 +16,7 @@
 //!
 //! - [`edge_coloring_simple`], [`edge_coloring_ink_trap`] and [`edge_coloring_by_distance`] colour an outline. The last needs the distances
 //!   between its splines, which [`collect_splines`] numbers.
+//! - [`edge_directions`] gives the unit directions of each edge, from which corners follow.
 //! - [`SplineTable::offer`] is one step of the colouring by distance, by itself.
 //! - [`job`] reads, writes and colours job files.
 //!
@@ -26,6 +27,7 @@
 #![warn(missing_docs)]
 
 mod coloring;
+mod directions;
 #[allow(unsafe_code)]
 mod ffi;
 pub mod job;
@@ -34,6 +36,7 @@ mod refusal;
 mod spline_table;
 
 pub use coloring::{collect_splines, edge_coloring_by_distance, edge_coloring_ink_trap, edge_coloring_simple, threshold};
+pub use directions::{Directions, edge_directions};
 pub use outline::{Collected, Colored, Edge, EdgeColor, Outline, Point};
 pub use refusal::Refusal;
 pub use spline_table::{Offer, SplineTable};

@@ -4,7 +4,7 @@
 use merelsplum::job::{self, Job};
 use merelsplum::{
     Edge, Offer, Outline, Point, Refusal, SplineTable, collect_splines, edge_coloring_by_distance, edge_coloring_ink_trap,
-    edge_coloring_simple,
+    edge_coloring_simple, edge_directions,
 };
 use oracle::geometry::{Contour, EdgeSegment, Shape};
 use oracle::given;
@@ -155,6 +155,23 @@ proptest! {
         given::by_distance_given::edge_coloring_by_distance_given(&mut source, threshold, seed, &distances);
         let colored = edge_coloring_by_distance(&outline, threshold, seed, &distances).unwrap();
         prop_assert_eq!(bits(&colored.contours, |c| c.bits()), source_bits(&source));
+    }
+
+    /// The directions bit for bit, and the corners that follow from them.
+    #[test]
+    fn directions(outline in outline(), threshold in threshold()) {
+        let pair = |v: Vector2| [v.x.to_bits(), v.y.to_bits()];
+        for (contour, directions) in shape(&outline).contours.iter().zip(edge_directions(&outline).unwrap()) {
+            let source = contour.segments.iter().map(|e| [0.0, 1.0].map(|t| pair(e.direction(t).normalize(false))));
+            let found = directions.iter().map(|d| [d.start, d.end].map(|p| p.map(f64::to_bits)));
+            prop_assert_eq!(found.collect::<Vec<_>>(), source.collect::<Vec<_>>());
+
+            let corner = |[x, y]: Point, [u, v]: Point| x * u + y * v <= 0.0 || (x * v - y * u).abs() > threshold;
+            let before = directions.iter().cycle().skip(directions.len().saturating_sub(1));
+            let corners = directions.iter().zip(before).map(|(d, before)| corner(before.end, d.start));
+            let corners: Vec<usize> = corners.enumerate().filter(|c| c.1).map(|c| c.0).collect();
+            prop_assert_eq!(corners, given::probe::corners(contour, threshold));
+        }
     }
 
     /// Outlines about the limits: the first refusal that applies, or a colouring.
