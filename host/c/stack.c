@@ -14,7 +14,7 @@ enum { CONTOURS = 32, EDGES = 64, PAINT = 0xA5, STACK = 1 << 20 };
 static uint16_t lengths[MERELSPLUM_MAX_CONTOURS], out_lengths[MERELSPLUM_MAX_CONTOURS];
 static uint8_t kinds[MERELSPLUM_MAX_EDGES], out_kinds[MERELSPLUM_MAX_RESULT_EDGES], out_bytes[MERELSPLUM_MAX_RESULT_EDGES];
 static double points[8 * MERELSPLUM_MAX_EDGES], out_points[8 * MERELSPLUM_MAX_RESULT_EDGES];
-static double distances[MERELSPLUM_MAX_DISTANCES];
+static double distances[MERELSPLUM_MAX_DISTANCES], out_directions[4 * MERELSPLUM_MAX_EDGES];
 static uint8_t coloring[MERELSPLUM_MAX_SPLINES], matrix[MERELSPLUM_MAX_SPLINES * MERELSPLUM_MAX_SPLINES];
 static uint8_t file[40000], text[MERELSPLUM_MAX_LISTING_BYTES];
 static size_t file_len;
@@ -29,6 +29,7 @@ static uint64_t by_distance(void) {
     return merelsplum_edge_coloring_by_distance(OUTLINE, 0.125, 7, distances, MERELSPLUM_MAX_DISTANCES, RESULT);
 }
 static uint64_t collect(void) { return merelsplum_collect_splines(OUTLINE, 0.125, RESULT); }
+static uint64_t directions(void) { return merelsplum_edge_directions(OUTLINE, out_directions, 4 * MERELSPLUM_MAX_EDGES); }
 static uint64_t offer(void) {
     const uint64_t answer = merelsplum_try_add_edge(coloring, sizeof coloring, matrix, sizeof matrix, 0, 3);
     return merelsplum_offer_outcome(answer) == MERELSPLUM_OFFER_DECLINED ? answer : MERELSPLUM_REFUSED;
@@ -49,6 +50,7 @@ static const struct {
     {"edge_coloring_ink_trap", ink_trap},
     {"edge_coloring_by_distance", by_distance},
     {"collect_splines", collect},
+    {"edge_directions", directions},
     {"try_add_edge", offer},
     {"job_read", job_read},
     {"job_check", job_check},

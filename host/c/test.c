@@ -49,6 +49,7 @@ static void nothing(void) {
     CHECK(merelsplum_edge_coloring_ink_trap(NULL, 0, NULL, 0, NULL, 0, 0, 0, NULL, 0, NULL, 0, NULL, 0, NULL, 0) == 0);
     CHECK(merelsplum_edge_coloring_by_distance(NULL, 0, NULL, 0, NULL, 0, 0, 0, NULL, 0, NULL, 0, NULL, 0, NULL, 0, NULL, 0) == 0);
     CHECK(merelsplum_collect_splines(NULL, 0, NULL, 0, NULL, 0, 0, NULL, 0, NULL, 0, NULL, 0, NULL, 0) == 0);
+    CHECK(merelsplum_edge_directions(NULL, 0, NULL, 0, NULL, 0, NULL, 0) == 0);
     CHECK(merelsplum_offer_refusal(merelsplum_try_add_edge(NULL, 0, NULL, 0, 0, 1)) == MERELSPLUM_BAD_TABLE);
     uint64_t numbers[6];
     CHECK(merelsplum_refusal(merelsplum_job_read(NULL, 0, NULL, 0, NULL, 0, NULL, 0, NULL, 0, numbers)) == MERELSPLUM_TRUNCATED);
@@ -78,6 +79,45 @@ static void outlines(void) {
         lengths, 1, kinds, 4, points, 32, 0.125, 0, distances, 6,
         out.lengths, 1, out.kinds, 12, out.points, 96, out.bytes, 12);
     CHECK(answer == 4 && colors_are(&out, "\3\6\5\6"));
+}
+
+static unsigned directions_refused(size_t contours, const uint16_t *l, const uint8_t *k, size_t n, const double *p, size_t room) {
+    double out[16] = {5, 5, 5, 5, 5, 5, 5, 5, 5, 5, 5, 5, 5, 5, 5, 5};
+    const uint64_t answer = merelsplum_edge_directions(l, contours, k, n, p, 8 * n, out, room);
+    for (int i = 0; i < 16; i++)
+        CHECK(out[i] == 5);
+    return merelsplum_refusal(answer);
+}
+
+/* Directions of the square, of a cubic whose first two points are the same, and of a line without length; then each
+ * refusal where all later ones hold too. */
+static void directions(void) {
+    double points[32], out[18];
+    out[16] = out[17] = 5;
+    square(points, 2);
+    static const double sides[] = {1, 0, 1, 0, 0, 1, 0, 1, -1, 0, -1, 0, 0, -1, 0, -1, 5, 5};
+    CHECK(merelsplum_edge_directions(lengths, 1, kinds, 4, points, 32, out, 18) == 4);
+    for (int i = 0; i < 18; i++)
+        CHECK(out[i] == sides[i]);
+    CHECK(merelsplum_edge_directions(lengths, 1, kinds, 4, points, 32, out, 16) == 4);
+
+    static const uint16_t two[] = {1, 0, 1};
+    static const uint8_t cubic_and_line[] = {MERELSPLUM_CUBIC, MERELSPLUM_LINE};
+    static const double edges[16] = {1, 1, 1, 1, 4, 5, 4, -2, 7, 7, 7, 7};
+    static const double expected[] = {0.6, 0.8, 0, -1, 0, 1, 0, 1};
+    CHECK(merelsplum_edge_directions(two, 3, cubic_and_line, 2, edges, 16, out, 8) == 2);
+    CHECK(memcmp(out, expected, sizeof expected) == 0);
+
+    static const uint16_t many[MERELSPLUM_MAX_CONTOURS + 1] = {4}, five[] = {5}, above[] = {MERELSPLUM_MAX_EDGES + 1};
+    static const uint8_t unknown[] = {MERELSPLUM_LINE, MERELSPLUM_LINE, MERELSPLUM_LINE, 4};
+    CHECK(directions_refused(1, lengths, kinds, 4, points, 15) == MERELSPLUM_RESULT_TOO_SHORT);
+    CHECK(directions_refused(1, lengths, kinds, 4, points, 0) == MERELSPLUM_RESULT_TOO_SHORT);
+    points[8] = 2 * MERELSPLUM_MAX_COORDINATE;
+    CHECK(directions_refused(1, lengths, kinds, 4, points, 15) == MERELSPLUM_BAD_COORDINATE);
+    CHECK(directions_refused(1, lengths, unknown, 4, points, 15) == MERELSPLUM_UNKNOWN_KIND);
+    CHECK(directions_refused(1, five, unknown, 4, points, 15) == MERELSPLUM_LENGTH_MISMATCH);
+    CHECK(directions_refused(1, above, unknown, 4, points, 15) == MERELSPLUM_TOO_MANY);
+    CHECK(directions_refused(MERELSPLUM_MAX_CONTOURS + 1, many, unknown, 4, points, 15) == MERELSPLUM_TOO_MANY);
 }
 
 static void offers(void) {
@@ -138,6 +178,7 @@ static void jobs(const char *path) {
 int main(int argc, char **argv) {
     nothing();
     outlines();
+    directions();
     offers();
     floating_point_state();
     CHECK(argc == 2);

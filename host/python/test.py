@@ -3,7 +3,7 @@
 import unittest
 
 import numpy
-from merelsplum import COLORS, Refusal, collect_splines, color
+from merelsplum import COLORS, Refusal, collect_splines, color, edge_directions
 
 SQUARE = [[[[0, 0], [1, 0]], [[1, 0], [1, 1]], [[1, 1], [0, 1]], [[0, 1], [0, 0]]]]
 
@@ -38,12 +38,26 @@ class Tests(unittest.TestCase):
         bits = [bits for _, bits in colored]
         self.assertTrue(all(a != b for a, b in zip(bits, bits[1:] + bits[:1])), bits)
 
+    def test_directions(self):
+        (sides,) = edge_directions(SQUARE)
+        numpy.testing.assert_array_equal(sides[:, 0], [[1, 0], [0, 1], [-1, 0], [0, -1]])
+        numpy.testing.assert_array_equal(sides[:, 1], sides[:, 0])
+        # the first two points are the same: the third is taken; a line without length
+        cubic, line = [[1, 1], [1, 1], [4, 5], [4, -2]], [[7, 7], [7, 7]]
+        directions = edge_directions([[], [cubic], [], [line, cubic]])
+        self.assertEqual([contour.shape for contour in directions], [(0, 2, 2), (1, 2, 2), (0, 2, 2), (2, 2, 2)])
+        numpy.testing.assert_array_equal(directions[1][0], [[0.6, 0.8], [0, -1]])
+        numpy.testing.assert_array_equal(directions[3], [[[0, 1], [0, 1]], [[0.6, 0.8], [0, -1]]])
+        self.assertEqual(edge_directions([]), [])
+
     def test_refusals(self):
         for number, call in [
             (4, lambda: color(65 * SQUARE)),
             (7, lambda: color([[[[0, 0], [float("nan"), 0]]]])),
             (8, lambda: color(SQUARE, "distance", distances=[1.0])),
             (9, lambda: color(SQUARE, "distance", distances=6 * [-1.0])),
+            (4, lambda: edge_directions(65 * SQUARE)),
+            (7, lambda: edge_directions([[[[0, 0], [2e6, 0]]]])),
         ]:
             with self.assertRaises(Refusal) as refused:
                 call()

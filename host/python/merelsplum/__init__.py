@@ -11,7 +11,7 @@ import os
 
 import numpy
 
-__all__ = ["COLORS", "Refusal", "collect_splines", "color"]
+__all__ = ["COLORS", "Refusal", "collect_splines", "color", "edge_directions"]
 
 #: The names of the colours, by their bits: 1 red, 2 green, 4 blue.
 COLORS = ("black", "red", "green", "yellow", "blue", "magenta", "cyan", "white")
@@ -56,6 +56,8 @@ def _load():
         function = getattr(library, "merelsplum_" + name)
         function.argtypes = 3 * _BUFFER + [ctypes.c_double] + more + 4 * _BUFFER
         function.restype = ctypes.c_uint64
+    library.merelsplum_edge_directions.argtypes = 4 * _BUFFER
+    library.merelsplum_edge_directions.restype = ctypes.c_uint64
     return library
 
 
@@ -64,6 +66,11 @@ _library = _load()
 
 def _buffers(*arrays):
     return [argument for array in arrays for argument in (array.ctypes.data, array.size)]
+
+
+def _check(answer):
+    if answer >> 32 == 1:
+        raise Refusal(answer & 0xFFFFFFFF)
 
 
 def _outline(contours):
@@ -91,8 +98,7 @@ def _call(name, contours, angle, more):
     outline = _outline(contours)
     function = getattr(_library, "merelsplum_" + name)
     answer = function(*_buffers(*outline), math.sin(angle), *more, *_buffers(lengths, kinds, points, values))
-    if answer >> 32 == 1:
-        raise Refusal(answer & 0xFFFFFFFF)
+    _check(answer)
     result, at = [], 0
     for length in lengths.tolist():
         edges = range(at, at + length)
@@ -131,3 +137,16 @@ def collect_splines(contours, angle=3.0):
     answer, result = _call("collect_splines", contours, angle, [])
     numbered = [[(edge, None if spline == _NO_SPLINE else spline) for edge, spline in contour] for contour in result]
     return answer >> 16 & 0xFFFF, numbered
+
+
+def edge_directions(contours):
+    """The unit directions in which each edge starts and ends; (0, 1) stands in for one that has no length.
+
+    Returns an array for each contour, of the shape (edges, 2, 2): x and y at the start of an edge, and at its end.
+    """
+    outline = _outline(contours)
+    edges = outline[1].size
+    directions = numpy.zeros((edges, 2, 2))
+    _check(_library.merelsplum_edge_directions(*_buffers(*outline, directions)))
+    ends = numpy.cumsum([len(contour) for contour in contours], dtype=int)
+    return [directions[end - len(contour) : end].copy() for contour, end in zip(contours, ends)]
