@@ -26,8 +26,8 @@
  * sin(3) = 0.14112.
  * Seed: any number; it picks among colours that are as good as each other. msdfgen's default is 0.
  *
- * Stack: a call uses less than MERELSPLUM_STACK_BYTES. Measured: 24 KB by distance, 8 KB for the other colourings,
- * 96 KB for a job file.
+ * Stack: a call uses less than MERELSPLUM_STACK_BYTES. Measured: 24 KB by distance, 22 KB for the other colourings,
+ * less than 1 KB for directions and offers, 96 KB for a job file.
  *
  * Floating point: the state that a C program starts with, round to nearest, flush-to-zero and denormals-are-zero off
  * (MXCSR; compilers turn them on by -ffast-math). With denormals-are-zero the root of 2^-1074 comes out wrong, and with
