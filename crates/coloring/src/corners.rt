@@ -128,7 +128,7 @@ fn search_corners(
     ensures { λ _. ⌜ cornered (now (lengths .entry)) (edgesOf (now (kinds .entry)) (now (points .entry))) (now (flags .exit)) ≡
         map (searchCorners threshold) (contours (outline (now (lengths .entry)) (now (kinds .entry)) (now (points .entry)))) ⌝ }
 {
-    unit_directions(kinds, points, directions);
+    unit_directions(lengths, kinds, points, directions);
     compare_neighbors(lengths, directions, threshold, flags);
 }
 

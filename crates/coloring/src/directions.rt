@@ -13,7 +13,7 @@ ghost use Rattle.coloring.specs.Limits.{maxEdges};
 ghost use Rattle.coloring.specs.Lists.{overFrom};
 ghost use Rattle.coloring.specs.Fill.{filled};
 ghost use Rattle.coloring.specs.Corners.{directionsOf};
-ghost use Rattle.coloring.specs.Outline.{edgesOf, given};
+ghost use Rattle.coloring.specs.Outline.{edgesOf, outline, given, Agrees};
 ghost use Rattle.coloring.specs.Directions.{directionPlaces, encodeDirections, directionsAt, directedAnswer, edgeDirections};
 
 // The answer of `edge_directions`: how many edges there are, or the refusal.
@@ -46,14 +46,19 @@ fn write_directions(d: Directions, i: usize, out: &mut [f64])
     out[at + 3] = d.end.y;
 }
 
-// The directions of all edges.
-pub(crate) fn unit_directions(kinds: &[u8], points: &[f64], out: &mut [f64])
-    requires { ⌜ (length (now points) ≡ 8 * length (now kinds)) × (length (now out) ≡ 4 * length (now kinds)) × (length (now kinds) ≤ maxEdges) ⌝ }
+// The directions of all edges, contour by contour.
+pub(crate) fn unit_directions(lengths: &[u16], kinds: &[u8], points: &[f64], out: &mut [f64])
+    requires { ⌜ Agrees (outline (now lengths) (now kinds) (now points)) × (length (now out) ≡ 4 * length (now kinds)) ⌝ }
     ensures { λ _. ⌜ now (out .exit) ≡ encodeDirections (directionsOf (edgesOf (now (kinds .entry)) (now (points .entry)))) ⌝ }
 {
+    let mut at: usize = 0;
     let mut i = 0;
-    while i < kinds.len() {
-        write_directions(edge_at(kinds, points, i).unit_directions(), i, out);
+    while i < lengths.len() {
+        let end = at + lengths[i] as usize;
+        while at < end {
+            write_directions(edge_at(kinds, points, at).unit_directions(), at, out);
+            at += 1;
+        }
         i += 1;
     }
 }
@@ -76,6 +81,6 @@ pub fn edge_directions(
     if places > out_directions.len() {
         return Directed::Refused(Refusal::ResultTooShort);
     }
-    unit_directions(kinds, points, &mut out_directions[..places]);
+    unit_directions(lengths, kinds, points, &mut out_directions[..places]);
     Directed::Edges(edges)
 }

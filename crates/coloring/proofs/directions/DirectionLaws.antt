@@ -4,7 +4,7 @@ use mathlib.Core.List.{List, [], _∷_, map, map-append, flatten}
 use Prim.Native.Nat.{ℕ, zero, suc, _+_, _-_, _*_, _≤_, _<_}
 use native.Mathlib.Omega.{arith}
 use lib.Ieee.{Float, nan}
-use lib.ListN.{length, take, drop, getD, length-drop, drop-of-length-le, take-append-drop}
+use lib.ListN.{length, take, drop, getD, length-drop, length-map, drop-of-length-le, take-append-drop}
 use lib.Seq.{drop-drop, getD-take}
 use Rattle.geometry.specs.EdgeSegment.{unitDirections}
 use Rattle.geometry.specs.declared.edge_segment.Directions.{Directions}
@@ -15,7 +15,7 @@ use Rattle.coloring.specs.Corners.{directionsOf}
 use Rattle.coloring.specs.Outline.{cut}
 use Rattle.coloring.specs.Directions.{directionPlaces, encodeDirections, directionsAt, decodeDirections}
 use Rattle.coloring.proofs.Lists.{length-zero, drop-take, drop-next}
-use Rattle.coloring.proofs.Writing.{over-more, over-nothing}
+use Rattle.coloring.proofs.Writing.{over-all, over-length, over-more, over-nothing}
 
 pub decode-length : (n : ℕ) (places : List Float) → length (decodeDirections n places) ≡ n
 unfolding decodeDirections
@@ -79,19 +79,33 @@ unfolding encodeDirections
 encode-length [] = refl
 encode-length (d ∷ directions) = omega (arith, encode-length directions)
 
--- one edge more has its directions, and then all
-module _ (edges : List EdgeSegment) (out : List Float) (i : ℕ) where
-  pub encode-next : (d : EdgeSegment) → i < length edges → 4 * i + 4 ≤ length out
-      → overFrom (4 * i) (encodeDirections (directionsOf (drop i edges))) out
-      ≡ overFrom (4 * (i + 1)) (encodeDirections (directionsOf (drop (i + 1) edges))) (overFrom (4 * i) (directionPlaces (unitDirections (getD edges i d))) out)
-  unfolding encodeDirections
-  encode-next d h j =
-      let next : 4 * i + 4 ≡ 4 * (i + 1) = omega arith in
-      rw (drop-next edges i d h, ← next) (over-more (4 * i) 4 (directionPlaces (unitDirections (getD edges i d))) _ out refl j)
+-- a buffer that will hold the directions of all edges: those before place `at` are there
+pub record Directing (edges : List EdgeSegment) (at : ℕ) (out : List Float) : Type 0 where
+  pub room : length out ≡ 4 * length edges
+  pub so-far : encodeDirections (directionsOf edges) ≡ overFrom (4 * at) (encodeDirections (directionsOf (drop at edges))) out
 
-  pub encode-end : length edges ≤ i → overFrom (4 * i) (encodeDirections (directionsOf (drop i edges))) out ≡ out
-  unfolding encodeDirections
-  encode-end h = rw (drop-of-length-le edges {i = i} h) (over-nothing (4 * i) out)
+module _ (edges : List EdgeSegment) (out : List Float) where
+  pub directing-none : length out ≡ 4 * length edges → Directing edges 0 out
+  directing-none h =
+      let all = directionsOf edges in
+      let long : length out ≡ length (encodeDirections all) = omega (arith, encode-length all, length-map edges unitDirections) in
+      record { room = h; so-far = sym (over-all (encodeDirections all) out long) }
+
+  module _ (at : ℕ) (s : Directing edges at out) where
+    pub directing-next : (d : EdgeSegment) → at < length edges → Directing edges (at + 1) (overFrom (4 * at) (directionPlaces (unitDirections (getD edges at d))) out)
+    unfolding encodeDirections
+    directing-next d h =
+        let here = directionPlaces (unitDirections (getD edges at d)) in
+        let next : 4 * at + 4 ≡ 4 * (at + 1) = omega arith in
+        let inside : 4 * at + 4 ≤ length out = omega (arith, s .room) in
+        record {
+          room = over-length (4 * at) 4 here out refl inside ∙ s .room;
+          so-far = s .so-far ∙ rw (drop-next edges at d h, ← next) (over-more (4 * at) 4 here _ out refl inside);
+        }
+
+    pub directing-all : length edges ≤ at → out ≡ encodeDirections (directionsOf edges)
+    unfolding encodeDirections
+    directing-all h = sym (s .so-far ∙ rw (drop-of-length-le edges {i = at} h) (over-nothing (4 * at) out))
 
 -- the directions of all contours are those of all edges
 pub directions-whole : (lengths : List ℕ) (edges : List EdgeSegment) → total lengths ≡ length edges

@@ -37,7 +37,7 @@ compare-neighbors-requires c κs =
     let directed = c .before .before .before .before in
     let start = start directed in
     let cut = start .pre .0 in (
-      directed .unit-directions .kept .1 .1 .0 ∙ omega (arith, start .pre .1, cut .matching .flagged),
+      directed .unit-directions .kept .1 .1 .1 .0 ∙ omega (arith, start .pre .1, cut .matching .flagged),
       omega (arith, cut .matching .flagged, cut .matching .few),
       cut .whole ∙ sym (cut .matching .flagged),
     )

@@ -101,7 +101,7 @@ unit-directions-requires c κs =
     let at = c .before in
     let told = at .before in
     let a = agrees (o told) [] (passed told) in
-    (a .places, length-take-le _ (start told .args .out-directions .now) (at .if1 .left), a .few)
+    (a, length-take-le _ (start told .args .out-directions .now) (at .if1 .left))
 
 returns-3 : tie.Need-returns-3
 returns-3 c =

@@ -1,77 +1,134 @@
--- `unit_directions` meets its contract: after i edges, the first 4 i places hold their directions.
+-- `unit_directions` meets its contract: the edges before `at` have their directions, whatever contour they are of.
 use mathlib.Core.Path.{_≡_, sym, ap, _∙_}
 use mathlib.Core.List.{List}
-use Prim.Native.Nat.{_≤_, _-_, _*_}
+use Prim.Native.Nat.{ℕ, _≤_, _<_, _+_, _-_}
 use native.Mathlib.Omega.{arith}
-use lib.ListN.{length, drop, getD, length-map}
+use lib.ListN.{length, getD}
 use borrow.Author.Needs.{needs}
 use Rattle.geometry.specs.EdgeSegment.{unitDirections}
 use Rattle.geometry.specs.declared.edge_segment.EdgeSegment.{EdgeSegment}
-use Rattle.coloring.specs.Lists.{overFrom}
-use Rattle.coloring.specs.Corners.{directionsOf}
-use Rattle.coloring.specs.Directions.{encodeDirections}
 use Rattle.coloring.specs.Outline.{anyEdge, edgesOf}
-use Rattle.coloring.proofs.Writing.{over-all}
+use Rattle.coloring.proofs.outline.CheckLaws.{total-end}
 use Rattle.coloring.proofs.outline.EdgeLaws.{edges-length}
-use Rattle.coloring.proofs.directions.DirectionLaws.{encode-length, encode-next, encode-end}
+use Rattle.coloring.proofs.outline.CutLaws.{ContoursPassed, none-passed, next-fits, next-passed}
+use Rattle.coloring.proofs.directions.DirectionLaws.{Directing, directing-none, directing-next, directing-all}
 use Rattle.coloring.proofs.directions.unit_directions.Statement.{statement}
 use Rattle.coloring.proofs.directions.unit_directions.Tie as tie
 
+abbrev Inv-loop2 : tie.InvT-loop2
+Inv-loop2 lengths kinds points out₀ at₀ i end out at = (at ≤ end) × Directing (edgesOf kinds points) at out
+
+abbrev μ-loop2 : tie.MeasureT-loop2
+μ-loop2 lengths kinds points out₀ at₀ i end out at = end - at
+
 abbrev Inv-loop : tie.InvT-loop
-Inv-loop kinds points out₀ i₀ out i =
-    (i ≤ length kinds) × (length out ≡ 4 * length kinds)
-    × (encodeDirections (directionsOf (edgesOf kinds points)) ≡ overFrom (4 * i) (encodeDirections (directionsOf (drop i (edgesOf kinds points)))) out)
+Inv-loop lengths kinds points out₀ at₀ i₀ out at i = ContoursPassed lengths (length kinds) at i × Directing (edgesOf kinds points) at out
 
 abbrev μ-loop : tie.MeasureT-loop
-μ-loop kinds points out₀ i₀ out i = length kinds - i
+μ-loop lengths kinds points out₀ at₀ i₀ out at i = length lengths - i
 
--- where the function began, from the head of the loop
-abbrev begun : tie.At-loop Inv-loop μ-loop → tie.Start Inv-loop μ-loop
-begun at = at .before .before .before .before
+-- where the function began, from the head of the outer loop
+abbrev begun : tie.At-loop Inv-loop2 μ-loop2 Inv-loop μ-loop → tie.Start Inv-loop2 μ-loop2 Inv-loop μ-loop
+begun at = at .before .before .before .before .before
 
-abbrev edges : tie.Start Inv-loop μ-loop → List EdgeSegment
-edges start = edgesOf (start .args .kinds .now) (start .args .points .now)
+module _ (start : tie.Start Inv-loop2 μ-loop2 Inv-loop μ-loop) where
+  abbrev edges : List EdgeSegment
+  edges = edgesOf (start .args .kinds .now) (start .args .points .now)
 
-as-many : (start : tie.Start Inv-loop μ-loop) → length (edges start) ≡ length (start .args .kinds .now)
-as-many start = edges-length (start .args .kinds .now) (start .args .points .now)
+  as-many : length edges ≡ length (start .args .kinds .now)
+  as-many = edges-length (start .args .kinds .now) (start .args .points .now)
 
-loop-holds : tie.Need-loop-holds Inv-loop μ-loop
+-- the next contour lies within the edges
+module _ (c : tie.In-loop Inv-loop2 μ-loop2 Inv-loop μ-loop) where
+  abbrev start : tie.Start Inv-loop2 μ-loop2 Inv-loop μ-loop
+  start = begun (c .before)
+
+  abbrev n : ℕ
+  n = getD (start .args .lengths .now) (c .before .loop .i) 0
+
+  room : c .before .loop .at + n ≤ length (start .args .kinds .now)
+  room = next-fits _ _ _ _ (c .before .loop .inv .0) (c .loop-test .taken)
+
+-- the next edge is one of it
+module _ (c : tie.In-loop2 Inv-loop2 μ-loop2 Inv-loop μ-loop) where
+  abbrev turn : tie.In-loop Inv-loop2 μ-loop2 Inv-loop μ-loop
+  turn = c .before .before .before
+
+  inside : c .before .loop2 .at < length (start turn .args .kinds .now)
+  inside = omega (arith, room turn, c .loop2-test .taken)
+
+loop-holds : tie.Need-loop-holds Inv-loop2 μ-loop2 Inv-loop μ-loop
 loop-holds c =
-    let start = c .before .before .before in
-    let long : length (start .args .out .now) ≡ length (encodeDirections (directionsOf (edges start))) =
-    omega (arith, start .pre .1, as-many start, encode-length (directionsOf (edges start)), length-map (edges start) unitDirections) in
-    (omega arith, start .pre .1, sym (over-all _ _ long))
+    let start = c .before .before .before .before in
+    (none-passed _ _ (sym (start .pre .0 .edges)), directing-none (edges start) (start .args .out .now) (omega (arith, start .pre .1, as-many start)))
 
-write-directions-requires : tie.Need-write-directions-requires Inv-loop μ-loop
-write-directions-requires c κs =
-    let turn = c .before .before .before in
-    let start = begun (turn .before) in
-    (omega (arith, turn .before .loop .inv .1, turn .loop-test .taken), omega (arith, start .pre .2, turn .loop-test .taken))
+cast-end : tie.Need-cast-end Inv-loop2 μ-loop2 Inv-loop μ-loop
+cast-end c = omega (arith, room (c .before), start (c .before) .pre .0 .few)
 
-loop-again : tie.Need-loop-again Inv-loop μ-loop
-loop-again c =
+add-end : tie.Need-add-end Inv-loop2 μ-loop2 Inv-loop μ-loop
+add-end c = omega (arith, room (c .before), start (c .before) .pre .0 .few)
+
+loop2-holds : tie.Need-loop2-holds Inv-loop2 μ-loop2 Inv-loop μ-loop
+loop2-holds c = (omega arith, c .before .before .loop .inv .1)
+
+edge-at-requires : tie.Need-edge-at-requires Inv-loop2 μ-loop2 Inv-loop μ-loop
+edge-at-requires c κs = (inside c, start (turn c) .pre .0 .places)
+
+write-directions-requires : tie.Need-write-directions-requires Inv-loop2 μ-loop2 Inv-loop μ-loop
+write-directions-requires c κs = let at = c .before .before .before in (
+  omega (arith, inside at, at .before .loop2 .inv .1 .room, as-many (start (turn at))),
+  omega (arith, inside at, start (turn at) .pre .0 .few),
+)
+
+add-at : tie.Need-add-at Inv-loop2 μ-loop2 Inv-loop μ-loop
+add-at c =
+    let written = c .before .before in
+    let at = written .before .before .before .before in
+    omega (arith, inside at, start (turn at) .pre .0 .few)
+
+loop2-again : tie.Need-loop2-again Inv-loop2 μ-loop2 Inv-loop μ-loop
+loop2-again c =
     let written = c .before .before in
     let directed = written .before .before in
     let read = directed .before in
-    let at = read .before .before in
-    let start = begun at in
-    let i = at .loop .i in
-    let e : directed .unit-directions .result ≡ unitDirections (getD (edges start) i anyEdge) =
+    let at = read .before in
+    let here = at .before .loop2 in
+    let all = edges (start (turn at)) in
+    let e : directed .unit-directions .result ≡ unitDirections (getD all (here .at) anyEdge) =
     directed .unit-directions .ensures ∙ ap unitDirections (read .edge-at .ensures) in (
-      omega arith,
-      written .write-directions .kept .1 .1 .0 ∙ at .loop .inv .1,
-      at .loop .inv .2
-          ∙ rw (written .write-directions .ensures, e) (encode-next (edges start) (at .loop .out) i anyEdge (omega (arith, as-many start)) (omega arith)),
+      omega (arith, at .loop2-test .taken),
+      rw (written .write-directions .ensures, e)
+          (directing-next all (here .out) (here .at) (here .inv .1) anyEdge (omega (arith, inside at, as-many (start (turn at))))),
     )
 
-returns : tie.Need-returns Inv-loop μ-loop
+add-i : tie.Need-add-i Inv-loop2 μ-loop2 Inv-loop μ-loop
+add-i c =
+    let turn = c .before .before .before in
+    omega (arith, turn .loop-test .taken, start turn .pre .0 .contours-few)
+
+loop-again : tie.Need-loop-again Inv-loop2 μ-loop2 Inv-loop μ-loop
+loop-again c =
+    let turn = c .before .before .before in
+    let done = c .before .loop2 in
+    let at = turn .before .loop in
+    let same : at .at + n turn ≡ done .at = omega (arith, done .inv .0, c .loop2-test .left) in
+    (rw (← same) (next-passed _ _ _ _ (at .inv .0) (turn .loop-test .taken)), done .inv .1)
+
+returns : tie.Need-returns Inv-loop2 μ-loop2 Inv-loop μ-loop
 returns c =
-    let at = c .before in
-    let start = begun at in
-    sym (at .loop .inv .2 ∙ encode-end (edges start) (at .loop .out) (at .loop .i) (omega (arith, as-many start)))
+    let at = c .before .loop in
+    let start = begun (c .before) in
+    let none = total-end (start .args .lengths .now) (at .i) (c .loop-test .left) in
+    directing-all (edges start) (at .out) (at .at) (at .inv .1) (omega (arith, at .inv .0 .left, none, as-many start))
+
+same-length : tie.Need-same-length Inv-loop2 μ-loop2 Inv-loop μ-loop
+same-length c =
+    let start = begun (c .before) in
+    omega (arith, c .before .loop .inv .1 .room, start .pre .1, as-many start)
 
 pub unit-directions-spec : {M : Type 1} → statement M
 unit-directions-spec =
     tie.close
-    (tie.spec Inv-loop μ-loop loop-holds (λ c κs. search needs) (λ c κs. search needs) write-directions-requires
-    (λ c. search needs) (λ c. search needs) loop-again (λ c. search needs) returns)
+    (tie.spec Inv-loop2 μ-loop2 Inv-loop μ-loop loop-holds (λ c. search needs) (λ c. search needs) cast-end add-end loop2-holds
+    edge-at-requires (λ c κs. search needs) write-directions-requires add-at (λ c. search needs) loop2-again add-i
+    (λ c. search needs) loop-again same-length returns)
