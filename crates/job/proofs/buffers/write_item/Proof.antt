@@ -22,9 +22,13 @@ module _ (c : tie.Start) where
   room item e = subst (λ (i : Item). RecordFits i (c .args .n) (c .args .bytes .now)
       (buffers (c .args .lengths .now) (c .args .kinds .now) (c .args .points .now) (c .args .distances .now))) e (c .pre)
 
+-- where the function began, from the match
+abbrev begun : tie.After-slice-known4 → tie.Start
+begun c = c .before .before .before .before .before
+
 module _ (c : tie.After-item) where
   abbrev entry : tie.Start
-  entry = c .before .before .before .before .before .before .before
+  entry = begun (c .before .before)
 
   abbrev kind : Kind
   kind = c .item .given .0 .0
@@ -46,21 +50,17 @@ module _ (c : tie.After-body-size) where
 
 module _ (c : tie.After-item2) where
   abbrev entry2 : tie.Start
-  entry2 = c .before .before .before .before .before .before .before
+  entry2 = begun (c .before .before)
 
   distances-room : RecordFits (Distances (c .item2 .given .0 .0)) (entry2 .args .n) (entry2 .args .bytes .now)
       (buffers (entry2 .args .lengths .now) (entry2 .args .kinds .now) (entry2 .args .points .now) (entry2 .args .distances .now))
   distances-room = room entry2 (Distances (c .item2 .given .0 .0)) (c .item2 .given .1)
 
 mul-lengths : tie.Need-mul-lengths
-mul-lengths c =
-    let place = c .before .before .before .before .before .before .before in
-    omega (arith, room place Contour (c .enum-told2 .given .1))
+mul-lengths c = omega (arith, room (begun (c .before .before)) Contour (c .enum-told2 .given .1))
 
 slice-write-lengths : tie.Need-slice-write-lengths
-slice-write-lengths c =
-    let place = c .before .before .before .before .before .before .before in
-    omega (arith, room place Contour (c .enum-told2 .given .1))
+slice-write-lengths c = omega (arith, room (begun (c .before .before)) Contour (c .enum-told2 .given .1))
 
 sub-last : tie.Need-sub-last
 sub-last c = last-room (c .before .before) .0
@@ -139,14 +139,15 @@ returns-3 c =
 returns-4 : tie.Need-returns-4
 unfolding written
 returns-4 c =
-    let matched = c .before .before .before .before .before .before in
+    let floats = c .before .before in
+    let matched = floats .before .before .before .before in
     let bytes = entry2 matched .args .bytes .now in
     rw (matched .item2 .given .1)
     (record {
       lengths-are = refl;
       kinds-are = refl;
       points-are = refl;
-      distances-are = c .before .before .write-floats .ensures ∙ rw (part-after 4 bytes);
+      distances-are = floats .write-floats .ensures ∙ rw (part-after 4 bytes);
     })
 
 pub write-item-spec : {M : Type 1} → statement M

@@ -8,19 +8,27 @@ use borrow.Author.Needs.{needs}
 use Rattle.job.proofs.buffers.write_points.Statement.{statement}
 use Rattle.job.proofs.buffers.write_points.Tie as tie
 
+-- the places are cleared, and the control points counted
+module _ (c : tie.After-controls) where
+  abbrev cleared : tie.After-clear
+  cleared = c .before .before .before
+
+  abbrev start : tie.Start
+  start = cleared .before .before .before .before
+
 write-floats-requires : tie.Need-write-floats-requires
 write-floats-requires c κs =
-    let start = c .before .before .before .before .before .before .before .before in (
-      omega (arith, c .before .controls .ensures),
-      rw (c .before .before .before .before .clear .ensures, length-replicate)
-          (omega (arith, c .before .controls .ensures, controls-few (start .args .kind))),
+    let counted = c .before in (
+      omega (arith, counted .controls .ensures),
+      rw (cleared counted .clear .ensures, length-replicate) (omega (arith, counted .controls .ensures, controls-few (start counted .args .kind))),
     )
 
 returns : tie.Need-returns
 returns c =
-    let clear = c .before .before .before .before .before .before .before in
-    let start = clear .before .before .before .before in
-    c .before .before .write-floats .ensures ∙ rw (c .before .before .before .before .controls .ensures, clear .clear .ensures, start .pre .1)
+    let written = c .before .before in
+    let counted = written .before .before in
+    let start = start counted in
+    written .write-floats .ensures ∙ rw (counted .controls .ensures, cleared counted .clear .ensures, start .pre .1)
     (places-from (start .args .kind) (start .args .body .now))
 
 pub write-points-spec : {M : Type 1} → statement M

@@ -20,7 +20,8 @@ only ByDistance h = refl
 
 check-by-distance-requires : tie.Need-check-by-distance-requires
 check-by-distance-requires c κs =
-    let asked = c .before .before .before .before .before .before .before .before in
+    let job-lent = c .before .before .before .before in
+    let asked = job-lent .before .before .before .before in
     let tested = asked .before in
     let at = tested .before .before .before in (
       record {
@@ -35,7 +36,8 @@ check-by-distance-requires c κs =
 
 returns : tie.Need-returns
 returns c =
-    let counted = c .before .before .before .before .before .before .before .before in
+    let job-back = c .before .before .before .before in
+    let counted = job-back .before .before .before .before in
     counted .check-by-distance .ensures
 
 returns-2 : tie.Need-returns-2

@@ -24,15 +24,19 @@ module _ (c : tie.Start) where
   abbrev out : Result
   out = result (c .args .out-lengths .now) (c .args .out-kinds .now) (c .args .out-points .now) (c .args .out-splines .now)
 
+-- where the function began, from the call that writes the job
 abbrev began : tie.After-fill-arg4 → tie.Start
 began c =
-    let place = c .before .before .before .before .before .before .before .before .before .before .before .before .before in
-    place
+    let all-known = c .before .before .before .before in
+    let job-known = all-known .before .before .before .before in
+    job-known .before .before .before .before .before
 
 -- the job, written into the places
 module _ (c : tie.After-slice-known12) where
   abbrev wrote : tie.After-fill
-  wrote = c .before .before .before .before .before .before .before .before
+  wrote =
+      let kinds-back = c .before .before .before .before in
+      kinds-back .before .before .before .before
 
   abbrev start : tie.Start
   start = began (wrote .before)
@@ -70,8 +74,10 @@ slice-aggregate-collect-splines-3 c = sym (length-take-le _ _ (places-within (ho
 
 returns : tie.Need-returns
 returns c =
-    let collected = c .before .before .before .before .before .before .before .before .before in
-    let float = collected .before .before .before .before .before .before .before .before in
+    let kinds-back = c .before .before .before .before .before in
+    let collected = kinds-back .before .before .before .before in
+    let outline-lent = collected .before .before .before .before .before in
+    let float = outline-lent .before .before .before in
     let s = start (stored-at float) in
     c .paired .ensures ∙ ap (λ (o : Outcome). paired (o .answer) (s .args .n .distances)) (collected .collect-splines .ensures)
     ∙ held-checked (holding (stored-at float)) (float .float .result) (out s) (s .pre .1 .1) (s .pre .0 .asks) (float .float .ensures)

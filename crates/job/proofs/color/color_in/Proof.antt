@@ -26,10 +26,11 @@ module _ (c : tie.Start) where
   abbrev out : Result
   out = result (c .args .out-lengths .now) (c .args .out-kinds .now) (c .args .out-points .now) (c .args .out-colors .now)
 
+-- where the function began, from where the file was scanned
 abbrev began : tie.After-scan → tie.Start
 began c =
-    let place = c .before .before .before .before .before .before .before .before .before .before in
-    place
+    let job-known = c .before .before .before .before .before in
+    job-known .before .before .before .before .before
 
 -- a file that was read
 module _ (c : tie.After-n) where
@@ -39,13 +40,19 @@ module _ (c : tie.After-n) where
   numbers-are : gives (c .n .given .0 .0) ≡ answerOf (readJob (file begun))
   numbers-are = sym (ap readAnswer (c .n .given .1)) ∙ c .before .before .scan .ensures
 
+-- its numbers, from the call that writes its job
+abbrev numbered : tie.After-fill-arg4 → tie.After-n
+numbered c = c .before .before .before .before .before
+
 -- its job, written into the places
 module _ (c : tie.After-slice-known12) where
   abbrev wrote : tie.After-fill
-  wrote = c .before .before .before .before .before .before .before .before
+  wrote =
+      let kinds-back = c .before .before .before .before in
+      kinds-back .before .before .before .before
 
   abbrev chosen : tie.After-n
-  chosen = wrote .before .before .before .before .before .before
+  chosen = numbered (wrote .before)
 
   abbrev start : tie.Start
   start = begun chosen
@@ -58,9 +65,7 @@ abbrev stored-at : tie.After-float → tie.After-slice-known12
 stored-at c = c .before .before
 
 fill-requires : tie.Need-fill-requires
-fill-requires c κs =
-    let n = c .before .before .before .before .before in
-    fits-jobs _ _ _ (numbers-are n) (begun n .pre)
+fill-requires c κs = fits-jobs _ _ _ (numbers-are (numbered c)) (begun (numbered c) .pre)
 
 mul-places : tie.Need-mul-places
 mul-places c = omega (arith, edges-most (holding c))
@@ -91,8 +96,10 @@ slice-aggregate-color-stored-4 c = sym (length-take-le _ _ (distances-within (ho
 
 returns : tie.Need-returns
 returns c =
-    let colored = c .before .before .before .before .before .before .before .before in
-    let float = colored .before .before .before .before .before .before .before .before .before in
+    let kinds-back = c .before .before .before .before in
+    let colored = kinds-back .before .before .before .before in
+    let job-lent = colored .before .before .before .before .before in
+    let float = job-lent .before .before .before .before in
     colored .color-stored .ensures ∙ held-colored (holding (stored-at float)) (float .float .result) (out (start (stored-at float))) (float .float .ensures)
 
 returns-2 : tie.Need-returns-2

@@ -7,21 +7,24 @@ use Rattle.job.proofs.color.color_stored.Tie as tie
 returns : tie.Need-returns
 unfolding colorStored
 returns c =
-    let colored = c .before .before .before .before .before .before .before .before in
+    let kinds-back = c .before .before .before .before in
+    let colored = kinds-back .before .before .before .before in
     let arm = colored .before .before .before .before .before in
     rw (arm .enum-told .given .1) (colored .edge-coloring-simple .ensures)
 
 returns-2 : tie.Need-returns-2
 unfolding colorStored
 returns-2 c =
-    let colored = c .before .before .before .before .before .before .before .before in
+    let kinds-back = c .before .before .before .before in
+    let colored = kinds-back .before .before .before .before in
     let arm = colored .before .before .before .before .before in
     rw (arm .enum-told2 .given .1) (colored .edge-coloring-ink-trap .ensures)
 
 returns-3 : tie.Need-returns-3
 unfolding colorStored
 returns-3 c =
-    let colored = c .before .before .before .before .before .before .before .before in
+    let kinds-back = c .before .before .before .before in
+    let colored = kinds-back .before .before .before .before in
     let arm = colored .before .before .before .before .before in
     rw (arm .enum-told3 .given .1) (colored .edge-coloring-by-distance .ensures)
 

@@ -59,10 +59,11 @@ loop-less c = omega arith
 
 loop-again : tie.Need-loop-again Inv-loop μ-loop
 loop-again c =
-    let l = c .before .before .before .before .before .before in (
+    let line = c .before .before in
+    let l = line .before .before .before .before in (
       omega arith,
-      c .before .before .put-line .kept .0 ∙ at l .loop .inv .1,
-      pasting-next (here l) (rest l) (step l) (at l .loop .inv .2) (c .before .before .put-line .ensures),
+      line .put-line .kept .0 ∙ at l .loop .inv .1,
+      pasting-next (here l) (rest l) (step l) (at l .loop .inv .2) (line .put-line .ensures),
     )
 
 same-length : tie.Need-same-length Inv-loop μ-loop

@@ -19,9 +19,10 @@ put-requires c κs =
 
 returns : tie.Need-returns
 returns c =
-    let put-decimal = c .before .before .before .before .before .before in
-    let start = put-decimal .before .before .before in
-    pasted-then (put-decimal .put-decimal .ensures) (c .before .before .put .ensures)
+    let byte = c .before .before in
+    let number = byte .before .before .before .before in
+    let start = number .before .before .before in
+    pasted-then (number .put-decimal .ensures) (byte .put .ensures)
     (omega (arith, start .pre .1, field-length (start .args .n) (start .args .byte)))
 
 pub put-field-spec : {M : Type 1} → statement M

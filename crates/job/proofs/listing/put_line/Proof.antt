@@ -27,12 +27,15 @@ module _ (c : tie.Start) where
 
 -- two fields are written
 module _ (c : tie.After-put-field2) where
+  abbrev one : tie.After-put-field
+  one = c .before .before .before .before
+
   abbrev start : tie.Start
-  start = c .before .before .before .before .before .before .before
+  start = one .before .before .before
 
   fields : Pasted (field (contour start) space ++ field (place start) space) (start .args .at) (start .args .out .now) (c .put-field2 .result)
       (c .put-field2 .last .0)
-  fields = pasted-then (c .before .before .before .before .put-field .ensures) (c .put-field2 .ensures)
+  fields = pasted-then (one .put-field .ensures) (c .put-field2 .ensures)
       (omega (arith, room start, field-length (contour start) space, field-length (place start) space))
 
   fields-length : length (field (contour start) space ++ field (place start) space) ≡ length (decimal (contour start)) + length (decimal (place start)) + 2
@@ -44,7 +47,7 @@ module _ (c : tie.After-put-field2) where
   )
 
   kept : length (c .put-field2 .last .0) ≡ length (start .args .out .now)
-  kept = omega (arith, c .put-field2 .kept .0, c .before .before .before .before .put-field .kept .0)
+  kept = omega (arith, c .put-field2 .kept .0, one .put-field .kept .0)
 
 put-field-requires : tie.Need-put-field-requires
 put-field-requires c κs =
@@ -53,16 +56,16 @@ put-field-requires c κs =
 
 put-field-requires-2 : tie.Need-put-field-requires-2
 put-field-requires-2 c κs =
-    let s = c .before .before .before .before .before .before in
-    let first = c .before .before .before in (
+    let one = c .before .before .before in
+    let s = one .before .before .before in (
       s .pre .1,
       omega (
         arith,
         room s,
         field-length (contour s) space,
         field-length (place s) space,
-        first .put-field .ensures .place,
-        first .put-field .kept .0,
+        one .put-field .ensures .place,
+        one .put-field .kept .0,
       ),
     )
 

@@ -24,13 +24,17 @@ Inv-loop out₀ at lengths kinds colors next₀ from₀ contour₀ out next from
 abbrev μ-loop : tie.MeasureT-loop
 μ-loop out₀ at lengths kinds colors next₀ from₀ contour₀ out next from contour = length lengths - contour
 
+-- where the function began, from the head of the loop
+abbrev begun : tie.At-loop Inv-loop μ-loop → tie.Start Inv-loop μ-loop
+begun at = at .before .before .before .before .before
+
 -- the lines of this contour, and those after it
 module _ (c : tie.In-loop Inv-loop μ-loop) where
   abbrev at : tie.At-loop Inv-loop μ-loop
   at = c .before
 
   abbrev start : tie.Start Inv-loop μ-loop
-  start = at .before .before .before .before .before
+  start = begun at
 
   abbrev contour : ℕ
   contour = at .loop .contour
@@ -130,7 +134,7 @@ same-length c = c .before .loop .inv .2
 returns : tie.Need-returns Inv-loop μ-loop
 unfolding shapeLines cut
 returns c =
-    let start = c .before .before .before .before .before .before in
+    let start = begun (c .before) in
     let none : drop (c .before .loop .contour) (start .args .lengths .now) ≡ [] = drop-of-length-le
     (start .args .lengths .now) {i = c .before .loop .contour} (omega arith) in
     pasting-end (rw none at (c .before .loop .inv .3))

@@ -9,18 +9,15 @@ use Rattle.job.proofs.listing.text.Tie as tie
 write-answer-requires : tie.Need-write-answer-requires
 write-answer-requires c κs = (record { lengths-fit = omega arith; kinds-fit = omega arith; points-fit = omega arith; colors-fit = omega arith }, omega arith)
 
-abbrev start : tie.After-write-answer → tie.Start
-start c =
-    let place = c .before .before .before .before .before .before .before in
-    place
-
 returns : tie.Need-returns
 returns c =
     let written = c .before .before .before .before in
+    let shape-lent = written .before .before in
+    let start = shape-lent .before .before .before .before .before in
     let pasted = written .write-answer .ensures in
     record {
       counts = omega (arith, pasted .place);
-      within = omega (arith, pasted .place, text-few (start written .args .file .now), written .write-answer .kept);
+      within = omega (arith, pasted .place, text-few (start .args .file .now), written .write-answer .kept);
       holds = pasted-over pasted;
     }
 

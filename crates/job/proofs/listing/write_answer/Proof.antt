@@ -26,13 +26,14 @@ module _ (c : tie.Start) where
 -- from what the match looks at back to the colouring, and from there to the start
 abbrev colored-here : tie.After-slice-known9 → tie.After-color
 colored-here c =
-    let place = c .before .before .before .before .before .before .before .before in
-    place
+    let kinds-back = c .before .before .before .before in
+    kinds-back .before .before .before .before
 
 abbrev began : tie.After-color → tie.Start
 began c =
-    let place = c .before .before .before .before .before .before .before .before .before .before .before in
-    place
+    let all-known = c .before .before .before .before .before in
+    let kinds-known = all-known .before .before .before in
+    kinds-known .before .before .before
 
 abbrev new : tie.After-color → Result
 new c = result (c .color .last .1 .0) (c .color .last .1 .1 .0) (c .color .last .1 .1 .1 .0) (c .color .last .1 .1 .1 .1 .0)

@@ -23,25 +23,26 @@ module _ (c : tie.Start) where
   room : length lines + 6 + length last ≤ length (c .args .out .now)
   room = omega (arith, c .pre .1, listing-length (c .args .lengths .now) (c .args .kinds .now) (c .args .colors .now) (c .pre .0 .2))
 
-abbrev start : tie.After-put-shape → tie.Start
-start c = c .before .before .before .before .before .before
+-- where the function began, from the call that writes the lines
+abbrev start : tie.After-put-shape-arg → tie.Start
+start c = c .before .before .before .before .before
 
 put-shape-requires : tie.Need-put-shape-requires
 put-shape-requires c κs =
-    let s = c .before .before .before .before .before in
+    let s = start c in
     (s .pre .0, omega (arith, room s))
 
 put-word-requires : tie.Need-put-word-requires
 put-word-requires c κs =
     let shape = c .before .before .before .before in
-    let s = start shape in
+    let s = start (shape .before) in
     omega (arith, room s, shape .put-shape .ensures .place, shape .put-shape .kept .0)
 
 put-field-requires : tie.Need-put-field-requires
 put-field-requires c κs =
     let word = c .before .before .before in
     let shape = word .before .before .before .before .before in
-    let s = start shape in
+    let s = start (shape .before) in
     (s .pre .0 .1, omega (arith, room s, shape .put-shape .ensures .place, shape .put-shape .kept .0, word .put-word .ensures .place, word .put-word .kept .0))
 
 returns : tie.Need-returns
@@ -49,7 +50,7 @@ returns c =
     let field = c .before .before in
     let word = field .before .before .before .before in
     let shape = word .before .before .before .before .before in
-    let s = start shape in
+    let s = start (shape .before) in
     let old = s .args .out .now in
     let two : Pasted (lines s ++ edgesWord) 0 old (word .put-word .result) (word .put-word .last .0) = pasted-then (shape .put-shape .ensures)
     (word .put-word .ensures) (omega (arith, room s)) in

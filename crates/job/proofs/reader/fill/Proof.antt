@@ -23,13 +23,19 @@ Inv-loop file lengths₀ kinds₀ points₀ distances₀ p₀ lengths kinds poin
 abbrev μ-loop : tie.MeasureT-loop
 μ-loop file lengths₀ kinds₀ points₀ distances₀ p₀ lengths kinds points distances p = length file - p .at
 
+-- where the function began, from the head of the loop
+abbrev begun : tie.At-loop Inv-loop μ-loop → tie.Start Inv-loop μ-loop
+begun at =
+    let known = at .before .before in
+    known .before .before .before .before .before
+
 -- what the code finds is the first record of the bytes ahead
 module _ (c : tie.After-read-record Inv-loop μ-loop) where
   abbrev at : tie.At-loop Inv-loop μ-loop
   at = c .before .before .before
 
   abbrev start : tie.Start Inv-loop μ-loop
-  start = at .before .before .before .before .before .before .before
+  start = begun at
 
   abbrev file : List ℕ
   file = start .args .file .now
@@ -58,10 +64,22 @@ module _ (c : tie.After-item Inv-loop μ-loop) where
       (at found .loop .distances)
       (at found .loop .inv) _ _ as-read
 
+-- the record, from the call that writes it
+abbrev taken : tie.After-write-item-arg5 Inv-loop μ-loop → tie.After-item Inv-loop μ-loop
+taken c =
+    let numbered = c .before .before .before .before .before in
+    numbered .before .before
+
+-- and the call, from where the buffers are back
+abbrev wrote : tie.After-slice-known8 Inv-loop μ-loop → tie.After-write-item Inv-loop μ-loop
+wrote c =
+    let kinds-back = c .before .before .before .before in
+    kinds-back .before .before .before .before
+
 -- the record, written
 module _ (c : tie.After-write-item Inv-loop μ-loop) where
   abbrev chosen : tie.After-item Inv-loop μ-loop
-  chosen = c .before .before .before .before .before .before .before .before
+  chosen = taken (c .before)
 
   abbrev turn : tie.At-loop Inv-loop μ-loop
   turn = at (found chosen)
@@ -103,7 +121,7 @@ part-write-item-end c = omega arith
 
 write-item-requires : tie.Need-write-item-requires Inv-loop μ-loop
 write-item-requires c κs =
-    let i = c .before .before .before .before .before .before .before in
+    let i = taken c in
     let f = found i in
     subst (λ (x : List ℕ). RecordFits (i .item .given .0 .0) (p f .state .numbers) x
     (buffers (at f .loop .lengths) (at f .loop .kinds) (at f .loop .points) (at f .loop .distances)))
@@ -111,20 +129,16 @@ write-item-requires c κs =
 
 advance-requires : tie.Need-advance-requires Inv-loop μ-loop
 advance-requires c κs =
-    let place = c .before .before .before .before .before .before .before .before in
-    let i = chosen place in
+    let i = chosen (wrote c) in
     counts-on _ _ (at (found i) .loop .inv .at) (as-read i) (omega (arith, start (found i) .good))
 
 loop-less : tie.Need-loop-less Inv-loop μ-loop
 loop-less c =
-    let place = c .before .before .before .before .before .before .before .before .before in
-    let i = chosen place in
+    let i = chosen (wrote (c .before)) in
     rw (c .advance .ensures) (less-on _ _ (at (found i) .loop .inv .at) (as-read i))
 
 loop-again : tie.Need-loop-again Inv-loop μ-loop
-loop-again c =
-    let place = c .before .before .before .before .before .before .before .before .before in
-    rw (c .advance .ensures) (next place)
+loop-again c = rw (c .advance .ensures) (next (wrote (c .before)))
 
 same-length : tie.Need-same-length Inv-loop μ-loop
 same-length c = at (c .before .before) .loop .inv .lengths-kept

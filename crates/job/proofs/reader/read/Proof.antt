@@ -23,10 +23,14 @@ module _ (c : tie.Start) where
   abbrev old : Buffers
   old = buffers (c .args .lengths .now) (c .args .kinds .now) (c .args .points .now) (c .args .distances .now)
 
+-- where the function began, from where its buffers are known
+abbrev begun : tie.After-slice-known4 → tie.Start
+begun c = c .before .before .before .before .before
+
 -- the file's job
 module _ (c : tie.After-n) where
   abbrev start : tie.Start
-  start = c .before .before .before .before .before .before .before .before
+  start = begun (c .before .before .before)
 
   abbrev numbers : Numbers
   numbers = c .n .given .0 .0
@@ -60,7 +64,8 @@ fill-requires c κs =
 
 returns-2 : tie.Need-returns-2
 returns-2 c =
-    let written = c .before .before .before .before .before .before .before .before in
+    let kinds-back = c .before .before .before .before in
+    let written = kinds-back .before .before .before .before in
     let tested = written .before .before .before .before .before in
     let j = tested .before .before .before in
     delivers-job (acceptJob (file (start j))) (numbers j) (job j) (old (start j)) _ _ _ _
@@ -69,7 +74,7 @@ returns-2 c =
 returns-3 : tie.Need-returns-3
 returns-3 c =
     let scanned = c .before .before .before in
-    let start = scanned .before .before .before .before .before .before in
+    let start = begun (scanned .before) in
     delivers-refused (acceptJob (file start)) (old start) _ (answer-refused _ _ (sym (ap readAnswer (c .before .refusal .given .1)) ∙ scanned .accept .ensures))
 
 pub read-spec : {M : Type 1} → statement M

@@ -36,9 +36,10 @@ returns-2 c = rw (c .enum-told2 .given .1, size-is, contour-body c)
 returns-3 : tie.Need-returns-3
 unfolding readBody
 returns-3 c =
-    let start = c .before .before .before .before .before .before in
-    rw (c .before .before .mark .given .1) (c .read-edge .ensures
-    ∙ sym (edge-rest (c .before .before .mark .given .0 .0) (start .args .body .now) (start .args .rest .now)))
+    let marked = c .before .before in
+    let start = marked .before .before .before .before in
+    rw (marked .mark .given .1) (c .read-edge .ensures
+    ∙ sym (edge-rest (marked .mark .given .0 .0) (start .args .body .now) (start .args .rest .now)))
 
 returns-4 : tie.Need-returns-4
 unfolding readBody
