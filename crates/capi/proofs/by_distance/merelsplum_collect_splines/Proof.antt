@@ -7,9 +7,9 @@ use Rattle.capi.proofs.by_distance.merelsplum_collect_splines.Tie as ti
 
 returns : tie.Need-returns
 returns c =
-    let collect-splines = c .before .before .before .before .before .before .before .before .before in
-    let colored = collect-splines .collect-splines .ensures in
-    hands-out collectedCode (c .collected-code .ensures) colored
+    let kinds-back = c .before .before .before .before .before in
+    let collected = kinds-back .before .before .before .before in
+    hands-out collectedCode (c .collected-code .ensures) (collected .collect-splines .ensures)
 
 pub merelsplum-collect-splines-spec : {M : Type 1} → statement M
 merelsplum-collect-splines-spec =

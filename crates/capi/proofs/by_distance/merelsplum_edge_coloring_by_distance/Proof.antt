@@ -7,9 +7,9 @@ use Rattle.capi.proofs.by_distance.merelsplum_edge_coloring_by_distance
 
 returns : tie.Need-returns
 returns c =
-    let edge-coloring-by-distance = c .before .before .before .before .before .before .before .before .before in
-    let colored = edge-coloring-by-distance .edge-coloring-by-distance .ensures in
-    hands-out coloredCode (c .code .ensures) colored
+    let kinds-back = c .before .before .before .before .before in
+    let colored = kinds-back .before .before .before .before in
+    hands-out coloredCode (c .code .ensures) (colored .edge-coloring-by-distance .ensures)
 
 pub merelsplum-edge-coloring-by-distance-spec : {M : Type 1} → statement M
 merelsplum-edge-coloring-by-distance-spec =

@@ -7,9 +7,9 @@ use Rattle.capi.proofs.edge_coloring.merelsplum_edge_coloring_ink_trap.
 
 returns : tie.Need-returns
 returns c =
-    let edge-coloring-ink-trap = c .before .before .before .before .before .before .before .before .before in
-    let colored = edge-coloring-ink-trap .edge-coloring-ink-trap .ensures in
-    hands-out coloredCode (c .code .ensures) colored
+    let kinds-back = c .before .before .before .before .before in
+    let colored = kinds-back .before .before .before .before in
+    hands-out coloredCode (c .code .ensures) (colored .edge-coloring-ink-trap .ensures)
 
 pub merelsplum-edge-coloring-ink-trap-spec : {M : Type 1} → statement M
 merelsplum-edge-coloring-ink-trap-spec =

@@ -7,9 +7,9 @@ use Rattle.capi.proofs.edge_coloring.merelsplum_edge_coloring_simple.Ti
 
 returns : tie.Need-returns
 returns c =
-    let edge-coloring-simple = c .before .before .before .before .before .before .before .before .before in
-    let colored = edge-coloring-simple .edge-coloring-simple .ensures in
-    hands-out coloredCode (c .code .ensures) colored
+    let kinds-back = c .before .before .before .before .before in
+    let colored = kinds-back .before .before .before .before in
+    hands-out coloredCode (c .code .ensures) (colored .edge-coloring-simple .ensures)
 
 pub merelsplum-edge-coloring-simple-spec : {M : Type 1} → statement M
 merelsplum-edge-coloring-simple-spec =

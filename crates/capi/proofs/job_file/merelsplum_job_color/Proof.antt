@@ -7,8 +7,9 @@ use Rattle.capi.proofs.job_file.merelsplum_job_color.Tie as tie
 
 returns : tie.Need-returns
 returns c =
-    let color = c .before .before .before .before .before .before .before .before .before in
-    hands-out coloredCode (c .code .ensures) (color .color .ensures)
+    let kinds-back = c .before .before .before .before .before in
+    let colored = kinds-back .before .before .before .before in
+    hands-out coloredCode (c .code .ensures) (colored .color .ensures)
 
 pub merelsplum-job-color-spec : {M : Type 1} → statement M
 merelsplum-job-color-spec =

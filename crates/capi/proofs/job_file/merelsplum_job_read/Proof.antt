@@ -7,8 +7,10 @@ use Rattle.capi.proofs.job_file.merelsplum_job_read.Tie as tie
 returns : tie.Need-returns
 returns c =
     let numbers = c .before in
-    let read = numbers .before .before .before .before .before .before .before .before .before .before in
-    let start = read .before .before .before .before .before .before .before .before .before .before in
+    let points-back = numbers .before .before .before .before .before in
+    let read = points-back .before .before .before .before .before in
+    let buffers-known = read .before .before .before .before .before in
+    let start = buffers-known .before .before .before .before .before in
     hands-out-job (start .args .numbers .now) (c .read-code .ensures) (numbers .write-numbers .ensures) (read .read .ensures)
 
 pub merelsplum-job-read-spec : {M : Type 1} → statement M
