@@ -9,13 +9,17 @@ use Rattle.math.proofs.sqrt.SqrtGuess.{stays, rises, product-below, rem
 use Rattle.math.proofs.sqrt.check.Statement.{statement}
 use Rattle.math.proofs.sqrt.check.Tie as tie
 
+-- where the function began, from where its guess is known
+abbrev start : tie.After-struct-known → tie.Start
+start c = c .before .before .before
+
 -- the second digits are few
 low-digits : (c : tie.After-struct-known)
-    → let start = c .before .before .before in
+    → let start = start c in
     let a = c .before .before .wrapping-sub-u64 .result in
     (a * start .args .g .inverse < 2 ^ 35 * 2 ^ 29) × (a * start .args .g .inverse / 2 ^ 39 < 2 ^ 25)
 low-digits c =
-    let start = c .before .before .before in
+    let start = start c in
     let below = product-below _ _ (2 ^ 35) (2 ^ 29) (c .before .if1 .left) (start .pre .3) in
     (below, omega arith)
 
@@ -29,7 +33,7 @@ mul-l : tie.Need-mul-l
 mul-l c = omega (arith, low-digits c .0)
 
 mul-wrapping-sub-u64-4 : tie.Need-mul-wrapping-sub-u64-4
-mul-wrapping-sub-u64-4 c = omega (arith, product-below _ _ (2 ^ 32) (2 ^ 25) (c .before .before .before .pre .2) (low-digits c .1))
+mul-wrapping-sub-u64-4 c = omega (arith, product-below _ _ (2 ^ 32) (2 ^ 25) (start c .pre .2) (low-digits c .1))
 
 returns-2 : tie.Need-returns-2
 returns-2 c = inl refl
@@ -51,15 +55,19 @@ add-if3 c = omega (arith, low-digits (c .before .before .before) .1)
 returns-3 : tie.Need-returns-3
 returns-3 c = inl refl
 
+-- where the guess is known, from the last test
+abbrev known-at : tie.Else3 → tie.After-struct-known
+known-at c = c .before .before .before .before
+
 -- the root's digits, and what their square leaves
 root-of : tie.Else3 → ℕ
 root-of c =
-    let known = c .before .before .before .before in
-    let start = known .before .before .before in
+    let known = known-at c in
+    let start = start known in
     start .args .g .root * 2 ^ 21 + known .before .before .wrapping-sub-u64 .result * start .args .g .inverse / 2 ^ 39
 
 square-leaves : (c : tie.Else3)
-    → root-of c * root-of c + c .before .wrapping-sub-u643 .result ≡ c .before .before .before .before .before .before .before .args .n * 2 ^ 52
+    → root-of c * root-of c + c .before .wrapping-sub-u643 .result ≡ start (known-at c) .args .n * 2 ^ 52
 unfolding root-of
 square-leaves c =
     let third = c .before in
