@@ -20,8 +20,8 @@ only ByDistance h = refl
 
 check-by-distance-requires : tie.Need-check-by-distance-requires
 check-by-distance-requires c κs =
-    let job-lent = c .before .before .before .before in
-    let asked = job-lent .before .before .before .before in
+    let job-borrowed = c .before .before .before .before in
+    let asked = job-borrowed .before .before .before .before in
     let tested = asked .before in
     let at = tested .before .before .before in (
       record {

@@ -76,8 +76,8 @@ returns : tie.Need-returns
 returns c =
     let kinds-back = c .before .before .before .before .before in
     let collected = kinds-back .before .before .before .before in
-    let outline-lent = collected .before .before .before .before .before in
-    let float = outline-lent .before .before .before in
+    let outline-borrowed = collected .before .before .before .before .before in
+    let float = outline-borrowed .before .before .before in
     let s = start (stored-at float) in
     c .paired .ensures ∙ ap (λ (o : Outcome). paired (o .answer) (s .args .n .distances)) (collected .collect-splines .ensures)
     ∙ held-checked (holding (stored-at float)) (float .float .result) (out s) (s .pre .1 .1) (s .pre .0 .asks) (float .float .ensures)

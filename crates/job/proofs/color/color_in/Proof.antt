@@ -98,8 +98,8 @@ returns : tie.Need-returns
 returns c =
     let kinds-back = c .before .before .before .before in
     let colored = kinds-back .before .before .before .before in
-    let job-lent = colored .before .before .before .before .before in
-    let float = job-lent .before .before .before .before in
+    let job-borrowed = colored .before .before .before .before .before in
+    let float = job-borrowed .before .before .before .before in
     colored .color-stored .ensures ∙ held-colored (holding (stored-at float)) (float .float .result) (out (start (stored-at float))) (float .float .ensures)
 
 returns-2 : tie.Need-returns-2

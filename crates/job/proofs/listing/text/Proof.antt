@@ -12,8 +12,8 @@ write-answer-requires c κs = (record { lengths-fit = omega arith; kinds-fit = o
 returns : tie.Need-returns
 returns c =
     let written = c .before .before .before .before in
-    let shape-lent = written .before .before in
-    let start = shape-lent .before .before .before .before .before in
+    let shape-borrowed = written .before .before in
+    let start = shape-borrowed .before .before .before .before .before in
     let pasted = written .write-answer .ensures in
     record {
       counts = omega (arith, pasted .place);
