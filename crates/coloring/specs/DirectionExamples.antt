@@ -1,4 +1,5 @@
--- The directions of an outline, computed from the definition. Each refutes an entry that does something else.
+-- The directions of an outline and the corners of a contour by them, computed from the definitions. Each refutes a
+-- program that does something else.
 use Prim.Native.Nat.{ℕ}
 use mathlib.Core.Path.{_≡_, refl}
 use mathlib.Core.List.{List, [], _∷_}
@@ -6,13 +7,17 @@ use lib.ListN.{replicate}
 use lib.Ieee as Ieee
 use lib.Ieee.{Float, nan}
 use Rattle.math.specs.Sqrt.{sqrtOf}
-use Rattle.math.specs.Vector2.{add, sub, mulScalar, divScalar, squaredLength, lengthOf, isNonzero, normalize}
-use Rattle.geometry.specs.EdgeSegment.{vmix, quadraticTangent, quadraticDirection, fromStored}
+use Rattle.math.specs.Vector2.{new, add, sub, mulScalar, divScalar, dot, cross, squaredLength, lengthOf, isNonzero, normalize}
+use Rattle.geometry.specs.EdgeSegment.{vmix, quadraticTangent, quadraticDirection, unitDirections, fromStored}
+use Rattle.geometry.specs.declared.edge_segment.EdgeSegment.{EdgeSegment}
+use Rattle.geometry.specs.declared.edge_segment.EdgeSegment.the-variants.{Line, Quadratic}
 use Rattle.geometry.specs.Examples.{n0, n1, n2, n3, tiny}
 use Rattle.coloring.specs.Answers.{gives, refusal}
 use Rattle.coloring.specs.Fill.{Filled, filled}
+use Rattle.coloring.specs.Corners.{identifyCorners, directionsOf, cornersBetween}
 use Rattle.coloring.specs.Outline.{Outline, outline}
 use Rattle.coloring.specs.Directions.{edgeDirections}
+use Rattle.coloring.specs.Examples.{eighth}
 
 -- a quadratic that starts to the right and ends downwards; an empty contour; a line of length 2 ^ -600. What an edge
 -- does not use is no number.
@@ -48,3 +53,20 @@ pub direction-refusals :
     × (refused [] [] [] ≡ filled (gives 0) [])
 unfolding edgeDirections fromStored Ieee.neg Ieee.le Ieee.lt Ieee.ofBits
 direction-refusals = (refl, refl, refl, refl, refl)
+
+-- ---- corners
+
+-- a curve from the right to downwards, and lines down, left and up: all joints but the one after the curve are corners
+abbrev hook : List EdgeSegment
+hook =
+    Quadratic (new n0 n0) (new n2 n0) (new n2 (Ieee.neg n2))
+    ∷ Line (new n2 (Ieee.neg n2)) (new n2 (Ieee.neg n3))
+    ∷ Line (new n2 (Ieee.neg n3)) (new n0 (Ieee.neg n3))
+    ∷ Line (new n0 (Ieee.neg n3)) (new n0 n0)
+    ∷ []
+
+-- refutes one that compares starts with starts, or that has no joint of the last edge and the first
+pub smooth-joint : (cornersBetween eighth (directionsOf hook) ≡ (0 ∷ 2 ∷ 3 ∷ [])) × (identifyCorners eighth hook ≡ (0 ∷ 2 ∷ 3 ∷ []))
+unfolding cornersBetween identifyCorners unitDirections quadraticDirection quadraticTangent vmix add sub mulScalar isNonzero normalize lengthOf
+    squaredLength divScalar dot cross sqrtOf Ieee.add Ieee.sub Ieee.mul Ieee.div Ieee.neg Ieee.le Ieee.lt Ieee.ne Ieee.eq Ieee.ofBits
+smooth-joint = (refl, refl)
