@@ -92,7 +92,8 @@ module _ (edges : List EdgeSegment) (out : List Float) where
       record { room = h; so-far = sym (over-all (encodeDirections all) out long) }
 
   module _ (at : ℕ) (s : Directing edges at out) where
-    pub directing-next : (d : EdgeSegment) → at < length edges → Directing edges (at + 1) (overFrom (4 * at) (directionPlaces (unitDirections (getD edges at d))) out)
+    pub directing-next : (d : EdgeSegment) → at < length edges
+        → Directing edges (at + 1) (overFrom (4 * at) (directionPlaces (unitDirections (getD edges at d))) out)
     unfolding encodeDirections
     directing-next d h =
         let here = directionPlaces (unitDirections (getD edges at d)) in
