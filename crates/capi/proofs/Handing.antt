@@ -3,7 +3,7 @@ use mathlib.Core.Path.{_≡_, ap, _∙_}
 use mathlib.Core.List.{List}
 use Prim.Native.Nat.{ℕ}
 use Rattle.coloring.specs.Answers.{Answer}
-use Rattle.coloring.specs.Fill.{Filled, filled}
+use Rattle.coloring.specs.Fill.{FillOutcome, fillOutcome}
 use Rattle.coloring.specs.declared.outline.Counts.{Counts}
 use Rattle.coloring.specs.Outline.{Outcome, Result, outcome}
 use Rattle.job.specs.declared.progress.Numbers.{Numbers}
@@ -21,6 +21,6 @@ pub hands-out-job : (old : List ℕ) {code : ℕ} {answer : Answer Numbers} {buf
     → code ≡ readCode answer → numbers ≡ numbersAfter answer old → readOutcome answer buffers ≡ o → handedJob code buffers numbers ≡ handOutJob o old
 hands-out-job old p n q = rw (p, n) (ap (λ (r : ReadOutcome). handOutJob r old) q)
 
-pub hands-out-buffer : {A : Type 0} {code : ℕ} {answer : Answer ℕ} {buffer : List A} {o : Filled A} → code ≡ countCode answer → filled answer buffer ≡ o
-    → handedBuffer code buffer ≡ handOutBuffer o
+pub hands-out-buffer : {A : Type 0} {code : ℕ} {answer : Answer ℕ} {buffer : List A} {o : FillOutcome A}
+    → code ≡ countCode answer → fillOutcome answer buffer ≡ o → handedBuffer code buffer ≡ handOutBuffer o
 hands-out-buffer {buffer} p q = ap (λ (k : ℕ). handedBuffer k buffer) p ∙ ap handOutBuffer q

@@ -2,7 +2,7 @@
 use Prim.Native.Nat.{ℕ, _+_}
 use mathlib.Core.List.{List}
 use Rattle.coloring.specs.Answers.{Answer, gives, refusal}
-use Rattle.coloring.specs.Fill.{Filled}
+use Rattle.coloring.specs.Fill.{FillOutcome}
 
 abbrev pub codeOf : {A : Type 0} → (A → ℕ) → ℕ → Answer A → ℕ
 codeOf number base (gives a) = number a
@@ -20,5 +20,5 @@ pub record HandedBuffer (A : Type 0) : Type 0 where
 abbrev pub handedBuffer : {A : Type 0} → ℕ → List A → HandedBuffer A
 handedBuffer code buffer = record { code = code; buffer = buffer }
 
-abbrev pub handOutBuffer : {A : Type 0} → Filled A → HandedBuffer A
+abbrev pub handOutBuffer : {A : Type 0} → FillOutcome A → HandedBuffer A
 handOutBuffer o = handedBuffer (countCode (o .answer)) (o .buffer)

@@ -13,7 +13,7 @@ use Rattle.geometry.specs.declared.edge_segment.EdgeSegment.{EdgeSegment}
 use Rattle.geometry.specs.declared.edge_segment.EdgeSegment.the-variants.{Line, Quadratic}
 use Rattle.geometry.specs.Examples.{n0, n1, n2, n3, tiny}
 use Rattle.coloring.specs.Answers.{gives, refusal}
-use Rattle.coloring.specs.Fill.{Filled, filled}
+use Rattle.coloring.specs.Fill.{FillOutcome, fillOutcome}
 use Rattle.coloring.specs.Corners.{identifyCorners, directionsOf, cornersBetween}
 use Rattle.coloring.specs.Outline.{Outline, outline}
 use Rattle.coloring.specs.Directions.{edgeDirections}
@@ -27,7 +27,7 @@ two =
     (n0 ∷ n0 ∷ n2 ∷ n0 ∷ n2 ∷ Ieee.neg n2 ∷ nan ∷ nan ∷ n0 ∷ n0 ∷ tiny ∷ n0 ∷ replicate 4 nan)
 
 -- refutes one that writes nothing, the first contour only, a start twice or another order, and one that clears the rest
-pub two-edges : edgeDirections two (replicate 10 n3) ≡ filled (gives 2) (n1 ∷ n0 ∷ n0 ∷ Ieee.neg n1 ∷ n0 ∷ n1 ∷ n0 ∷ n1 ∷ n3 ∷ n3 ∷ [])
+pub two-edges : edgeDirections two (replicate 10 n3) ≡ fillOutcome (gives 2) (n1 ∷ n0 ∷ n0 ∷ Ieee.neg n1 ∷ n0 ∷ n1 ∷ n0 ∷ n1 ∷ n3 ∷ n3 ∷ [])
 unfolding edgeDirections quadraticDirection quadraticTangent vmix fromStored add sub mulScalar isNonzero normalize lengthOf squaredLength
     divScalar sqrtOf Ieee.add Ieee.sub Ieee.mul Ieee.div Ieee.neg Ieee.le Ieee.lt Ieee.ne Ieee.eq Ieee.ofBits
 two-edges = refl
@@ -37,20 +37,20 @@ pub exactly-two : edgeDirections two (replicate 8 n3) .answer ≡ gives 2
 unfolding edgeDirections fromStored Ieee.neg Ieee.le Ieee.lt Ieee.ofBits
 exactly-two = refl
 
-pub one-place-short : edgeDirections two (replicate 7 n3) ≡ filled (refusal 11) (replicate 7 n3)
+pub one-place-short : edgeDirections two (replicate 7 n3) ≡ fillOutcome (refusal 11) (replicate 7 n3)
 unfolding edgeDirections fromStored Ieee.neg Ieee.le Ieee.lt Ieee.ofBits
 one-place-short = refl
 
 -- refutes one that looks for room before it looks at the outline: each refusal, with the fault of the next
-abbrev refused : List ℕ → List ℕ → List Float → Filled Float
+abbrev refused : List ℕ → List ℕ → List Float → FillOutcome Float
 refused lengths kinds points = edgeDirections (outline lengths kinds points) []
 
 pub direction-refusals :
-    (refused (257 ∷ []) [] [] ≡ filled (refusal 4) [])
-    × (refused (1 ∷ []) (0 ∷ []) [] ≡ filled (refusal 8) [])
-    × (refused (1 ∷ []) (0 ∷ []) (replicate 8 nan) ≡ filled (refusal 5) [])
-    × (refused (1 ∷ []) (1 ∷ []) (replicate 8 nan) ≡ filled (refusal 7) [])
-    × (refused [] [] [] ≡ filled (gives 0) [])
+    (refused (257 ∷ []) [] [] ≡ fillOutcome (refusal 4) [])
+    × (refused (1 ∷ []) (0 ∷ []) [] ≡ fillOutcome (refusal 8) [])
+    × (refused (1 ∷ []) (0 ∷ []) (replicate 8 nan) ≡ fillOutcome (refusal 5) [])
+    × (refused (1 ∷ []) (1 ∷ []) (replicate 8 nan) ≡ fillOutcome (refusal 7) [])
+    × (refused [] [] [] ≡ fillOutcome (gives 0) [])
 unfolding edgeDirections fromStored Ieee.neg Ieee.le Ieee.lt Ieee.ofBits
 direction-refusals = (refl, refl, refl, refl, refl)
 

@@ -9,7 +9,7 @@ use Rattle.geometry.specs.EdgeSegment.{unitDirections, pointAt}
 use Rattle.geometry.specs.declared.edge_segment.Directions.{Directions}
 use Rattle.coloring.specs.Refusal.{refusalNumber}
 use Rattle.coloring.specs.Answers.{Answer, gives, refusal}
-use Rattle.coloring.specs.Fill.{Filled, fill}
+use Rattle.coloring.specs.Fill.{FillOutcome, fill}
 use Rattle.coloring.specs.Corners.{directionsOf, flagsBetween}
 use Rattle.coloring.specs.Outline.{Outline, cut, contours, checkOutline}
 use Rattle.coloring.specs.declared.directions.Directed.{Directed}
@@ -45,7 +45,7 @@ directedAnswer (Edges edges) = gives edges
 directedAnswer (Refused r) = refusal (refusalNumber r)
 
 -- the checks of the outline; then the directions of its edges, contour by contour
-unfoldable pub edgeDirections : Outline → List Float → Filled Float
+unfoldable pub edgeDirections : Outline → List Float → FillOutcome Float
 unfolding checkOutline contours encodeDirections unitDirections fill
 edgeDirections o old =
     let directions = flatten (map directionsOf (contours o)) in

@@ -11,7 +11,7 @@ ghost use Prim.Native.Nat.{_≤_, _<_, _+_, _*_};
 ghost use lib.ListN.{length, drop};
 ghost use Rattle.coloring.specs.Limits.{maxEdges};
 ghost use Rattle.coloring.specs.Lists.{overFrom};
-ghost use Rattle.coloring.specs.Fill.{filled};
+ghost use Rattle.coloring.specs.Fill.{fillOutcome};
 ghost use Rattle.coloring.specs.Corners.{directionsOf};
 ghost use Rattle.coloring.specs.Outline.{edgesOf, outline, given, Agrees};
 ghost use Rattle.coloring.specs.Directions.{directionPlaces, encodeDirections, directionsAt, directedAnswer, edgeDirections};
@@ -70,7 +70,8 @@ pub fn edge_directions(
     points: &[f64],
     out_directions: &mut [f64],
 ) -> Directed
-    ensures { λ r. ⌜ filled (directedAnswer r) (now («out_directions» .exit)) ≡ edgeDirections (given lengths kinds points) (now («out_directions» .entry)) ⌝ }
+    ensures { λ r. ⌜ fillOutcome (directedAnswer r) (now («out_directions» .exit))
+        ≡ edgeDirections (given lengths kinds points) (now («out_directions» .entry)) ⌝ }
 {
     let checked = check_outline(lengths, kinds, points);
     if let Checked::Failed(refusal) = checked {

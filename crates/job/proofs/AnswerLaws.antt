@@ -15,7 +15,7 @@ use Rattle.coloring.specs.Sizes.{Sized, sizes, sizes-map, cut-again, flatten-le
 use Rattle.coloring.specs.Outline.{kindStored, cut, encode, Result, Outcome, outcome, resultFits, delivered, deliver}
 use Rattle.coloring.specs.Shape.{countsOf}
 use Rattle.coloring.specs.Answers.{Answer, gives, refusal, allPass, inOrder, firstRefusal, all-passed, one-failed, either-way}
-use Rattle.coloring.specs.Fill.{filled, fill-short, fill-fits}
+use Rattle.coloring.specs.Fill.{fillOutcome, fill-short, fill-fits}
 use Rattle.coloring.specs.DeliverLaws.{deliver-fits, deliver-passed, deliver-failed, deliver-answer}
 use Rattle.job.specs.Limits.{maxText}
 use Rattle.job.specs.Job.{Job, Reading, readJob}
@@ -187,10 +187,10 @@ unfolding firstRefusal
 no-checks = refl
 
 module _ (file old : List ℕ) (n : ℕ) (e : n ≡ length (fileText file)) where
-  pub list-short : length old < n → filled (refusal 11) old ≡ listFile file old
+  pub list-short : length old < n → fillOutcome (refusal 11) old ≡ listFile file old
   unfolding listFile
   list-short h = fill-short [] (length (fileText file)) (fileText file) old no-checks (omega (arith, e))
 
-  pub list-fits : (new : List ℕ) → n ≤ length old → new ≡ over (fileText file) old → filled (gives n) new ≡ listFile file old
+  pub list-fits : (new : List ℕ) → n ≤ length old → new ≡ over (fileText file) old → fillOutcome (gives n) new ≡ listFile file old
   unfolding listFile
   list-fits new h same = rw (e, same) (fill-fits [] (length (fileText file)) (fileText file) old no-checks (omega (arith, e)))

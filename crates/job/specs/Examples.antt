@@ -14,7 +14,7 @@ use Rattle.geometry.specs.declared.edge_segment.EdgeSegment.the-variants.{Line}
 use Rattle.coloring.specs.Corners.{searchCorners, cornerCount, firstCorner}
 use Rattle.coloring.specs.Outline.{Result, result, outcome}
 use Rattle.coloring.specs.Answers.{gives, refusal}
-use Rattle.coloring.specs.Fill.{filled}
+use Rattle.coloring.specs.Fill.{fillOutcome}
 use Rattle.job.specs.declared.records.Strategy.{Strategy}
 use Rattle.job.specs.declared.records.Strategy.the-variants.{Simple, InkTrap, ByDistance}
 use Rattle.job.specs.declared.records.Header.{Header}
@@ -316,12 +316,12 @@ unfolding fileText
 no-bytes-printed = refl
 
 -- a place beyond the text keeps its byte; one place too few, and all do
-pub listed : listFile [] (1 ∷ 2 ∷ 3 ∷ 4 ∷ 5 ∷ 6 ∷ 7 ∷ 8 ∷ 9 ∷ 10 ∷ 11 ∷ []) ≡ filled (gives 10)
+pub listed : listFile [] (1 ∷ 2 ∷ 3 ∷ 4 ∷ 5 ∷ 6 ∷ 7 ∷ 8 ∷ 9 ∷ 10 ∷ 11 ∷ []) ≡ fillOutcome (gives 10)
     (0x72 ∷ 0x65 ∷ 0x66 ∷ 0x75 ∷ 0x73 ∷ 0x65 ∷ 0x64 ∷ 0x20 ∷ 0x31 ∷ 0x0A ∷ 11 ∷ [])
 unfolding listFile
 listed = refl
 
-pub not-listed : listFile [] (1 ∷ 2 ∷ 3 ∷ 4 ∷ 5 ∷ 6 ∷ 7 ∷ 8 ∷ 9 ∷ []) ≡ filled (refusal 11) (1 ∷ 2 ∷ 3 ∷ 4 ∷ 5 ∷ 6 ∷ 7 ∷ 8 ∷ 9 ∷ [])
+pub not-listed : listFile [] (1 ∷ 2 ∷ 3 ∷ 4 ∷ 5 ∷ 6 ∷ 7 ∷ 8 ∷ 9 ∷ []) ≡ fillOutcome (refusal 11) (1 ∷ 2 ∷ 3 ∷ 4 ∷ 5 ∷ 6 ∷ 7 ∷ 8 ∷ 9 ∷ [])
 unfolding listFile
 not-listed = refl
 

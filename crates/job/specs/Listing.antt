@@ -10,7 +10,7 @@ use Rattle.coloring.specs.Refusal.{refusalNumber}
 use Rattle.coloring.specs.Lists.{over, overFrom}
 use Rattle.coloring.specs.Outline.{kindStored}
 use Rattle.coloring.specs.Answers.{Answer, gives, refusal, inOrder}
-use Rattle.coloring.specs.Fill.{Filled, fill}
+use Rattle.coloring.specs.Fill.{FillOutcome, fill}
 use Rattle.job.specs.declared.listing.Listed.{Listed}
 use Rattle.job.specs.declared.listing.Listed.the-variants.{Bytes, Refused}
 use Rattle.job.specs.Job.{Job, Reading, readJob}
@@ -103,7 +103,7 @@ unfolding readJob readingText
 fileText file = readingText (readJob file)
 
 -- the text over what stood there, and its length; 11 where it would not fit
-unfoldable pub listFile : List ℕ → List ℕ → Filled ℕ
+unfoldable pub listFile : List ℕ → List ℕ → FillOutcome ℕ
 unfolding fileText fill
 listFile file old =
     let text = fileText file in

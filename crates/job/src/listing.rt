@@ -16,7 +16,7 @@ ghost use Rattle.coloring.specs.Outline.{cut, result};
 ghost use Rattle.job.specs.Limits.{maxText};
 ghost use Rattle.job.specs.Color.{HoldsResults};
 ghost use Rattle.job.specs.Listing.{digit, decimal, letter, field, edgeLine, contourLines, shapeLines, listing, refusalLine, fileText, listFile};
-ghost use Rattle.coloring.specs.Fill.{filled};
+ghost use Rattle.coloring.specs.Fill.{fillOutcome};
 ghost use Rattle.job.specs.Listing.{listedAnswer, Pasted, Printed};
 
 // The answer of a listing: how many bytes were written, or 11.
@@ -211,7 +211,7 @@ pub fn text(file: &[u8], out: &mut [u8; MAX_TEXT]) -> usize
 // they do not fit, and the buffer is as it came. A file that is refused has a text too, one line. No text is longer
 // than 5,598 bytes.
 pub fn listing(file: &[u8], out: &mut [u8]) -> Listed
-    ensures { λ r. ⌜ filled (listedAnswer r) (now (out .exit)) ≡ listFile (now (file .entry)) (now (out .entry)) ⌝ }
+    ensures { λ r. ⌜ fillOutcome (listedAnswer r) (now (out .exit)) ≡ listFile (now (file .entry)) (now (out .entry)) ⌝ }
 {
     let mut whole = [0u8; MAX_TEXT];
     let n = text(file, &mut whole);

@@ -10,7 +10,7 @@ use lib.Seq.{length-take-le}
 use Rattle.geometry.specs.EdgeSegment.{unitDirections}
 use Rattle.geometry.specs.declared.edge_segment.Directions.{Directions}
 use Rattle.coloring.specs.Answers.{gives, refusal, allPass, checkedAnswer, firstRefusal}
-use Rattle.coloring.specs.Fill.{filled, fill, fill-failed, fill-short, fill-fits}
+use Rattle.coloring.specs.Fill.{fillOutcome, fill, fill-failed, fill-short, fill-fits}
 use Rattle.coloring.specs.Lists.{over}
 use Rattle.coloring.specs.Corners.{directionsOf}
 use Rattle.coloring.specs.Outline.{Outline, outline, edgesOf, contours, checkOutline, Agrees}
@@ -30,7 +30,7 @@ module _ (o : Outline) (old : List Float) where
   abbrev all : List Directions
   all = directionsOf (edgesOf (o .kinds) (o .points))
 
-  refused : {number : ℕ} → firstRefusal (checkOutline o) ≡ refusal number → filled (refusal number) old ≡ edgeDirections o old
+  refused : {number : ℕ} → firstRefusal (checkOutline o) ≡ refusal number → fillOutcome (refusal number) old ≡ edgeDirections o old
   unfolding edgeDirections
   refused e = fill-failed (checkOutline o) (length directions) (encodeDirections directions) old e
 
@@ -54,11 +54,11 @@ module _ (o : Outline) (old : List Float) where
     outcome-is = ap (λ (d : List Directions). fill (checkOutline o) (length d) (encodeDirections d) old) whole
         ∙ ap (λ n. fill (checkOutline o) n (encodeDirections all) old) as-many
 
-    short : length old < 4 * length (o .kinds) → filled (refusal 11) old ≡ edgeDirections o old
+    short : length old < 4 * length (o .kinds) → fillOutcome (refusal 11) old ≡ edgeDirections o old
     short h = fill-short (checkOutline o) (length (o .kinds)) (encodeDirections all) old passed (rw long h) ∙ sym outcome-is
 
     fits : 4 * length (o .kinds) ≤ length old
-        → filled (gives (length (o .kinds))) (encodeDirections all ++ drop (4 * length (o .kinds)) old) ≡ edgeDirections o old
+        → fillOutcome (gives (length (o .kinds))) (encodeDirections all ++ drop (4 * length (o .kinds)) old) ≡ edgeDirections o old
     unfolding over
     fits h = rw (← long) (fill-fits (checkOutline o) (length (o .kinds)) (encodeDirections all) old passed (rw long h)) ∙ sym outcome-is
 
