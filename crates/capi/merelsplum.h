@@ -25,6 +25,8 @@
  * Threshold: the sine of the angle from which a turn counts as a corner, -1 to 1. msdfgen's default angle is 3 radians,
  * sin(3) = 0.14112.
  * Seed: any number; it picks among colours that are as good as each other. msdfgen's default is 0.
+ * Stand-in: (0, 1) in the place of a direction that has no length, as that of a line between two equal points. An edge
+ * has two directions, in which it starts and in which it ends; those of a line are the same, and both count.
  *
  * Stack: a call uses less than MERELSPLUM_STACK_BYTES. Measured: 24 KB by distance, 22 KB for the other colourings,
  * less than 1 KB for directions and offers, 96 KB for a job file.
@@ -48,11 +50,12 @@ extern "C" {
 #define MERELSPLUM_MAX_CONTOURS 64
 #define MERELSPLUM_MAX_EDGES 256
 #define MERELSPLUM_MAX_RESULT_EDGES 508
+#define MERELSPLUM_MAX_STAND_INS 512          /* 2 * 256 */
 #define MERELSPLUM_MAX_SPLINES 64             /* counted for colouring by distance and its collecting pass only */
 #define MERELSPLUM_MAX_DISTANCES 2016         /* 64 * 63 / 2 */
 #define MERELSPLUM_MAX_COORDINATE 1048576.0   /* of either sign */
 #define MERELSPLUM_MAX_JOB_BYTES 33177        /* no job file that is accepted is longer */
-#define MERELSPLUM_MAX_LISTING_BYTES 5598
+#define MERELSPLUM_MAX_LISTING_BYTES 5611
 #define MERELSPLUM_STACK_BYTES 131072
 
 /* ---- kinds of edges, colours, strategies */
@@ -111,11 +114,25 @@ static inline unsigned merelsplum_refusal(uint64_t answer) {
     return merelsplum_is_refusal(answer) ? (unsigned)(answer - MERELSPLUM_REFUSED) : 0;
 }
 
+/* The counts of a colouring, of its collecting pass, of merelsplum_job_check and of merelsplum_job_color stand in one
+ * answer, 16 bits each:
+ *   bits 0 to 15   the edges of the result
+ *   bits 16 to 31  the splines, of the collecting pass; 0 of all others
+ *   bits 32 to 47  0; a refusal has 1 here, bit 32, and no counts
+ *   bits 48 to 63  the stand-ins among the directions of the outline as it is given, before any edge is split: two for
+ *                  each edge at most, and so MERELSPLUM_MAX_STAND_INS at most
+ * So the answer itself is the number of edges only where there are no splines and no stand-ins; merelsplum_colored_edges
+ * takes it out, of the collecting pass too. The functions that take a count out give 0 for a refusal. */
+static inline unsigned merelsplum_colored_edges(uint64_t answer) {
+    return merelsplum_is_refusal(answer) ? 0 : (unsigned)(answer & 0xFFFF);
+}
+static inline unsigned merelsplum_stand_ins(uint64_t answer) { return (unsigned)(answer >> 48); }
+
 /* ---- colouring an outline
  *
- * Answer: the number of edges of the result, or a refusal, looked for in this order: 4 (contours, edges, distances),
- * 8 (lengths), 5, 7, 6, then by distance 4 (splines), 8 (number of distances), 9, and last 11. out_colors gets a
- * colour for each edge of the result. */
+ * Answer: the number of edges of the result and 2^48 times the stand-ins, or a refusal, looked for in this order:
+ * 4 (contours, edges, distances), 8 (lengths), 5, 7, 6, then by distance 4 (splines), 8 (number of distances), 9, and
+ * last 11. out_colors gets a colour for each edge of the result. */
 
 uint64_t merelsplum_edge_coloring_simple(
     const uint16_t *lengths, size_t lengths_len,
@@ -154,7 +171,8 @@ uint64_t merelsplum_edge_coloring_by_distance(
     uint8_t *out_colors, size_t out_colors_len);
 
 /* The collecting pass: the same edges as the colouring by distance writes, and in out_splines the number of each
- * one's spline, or MERELSPLUM_NO_SPLINE. Answer: the edges and 2^16 times the splines, or a refusal as above. */
+ * one's spline, or MERELSPLUM_NO_SPLINE. Answer: the edges, 2^16 times the splines and 2^48 times the stand-ins, or a
+ * refusal as above. */
 uint64_t merelsplum_collect_splines(
     const uint16_t *lengths, size_t lengths_len,
     const uint8_t *kinds, size_t kinds_len,
@@ -165,26 +183,31 @@ uint64_t merelsplum_collect_splines(
     double *out_points, size_t out_points_len,
     uint8_t *out_splines, size_t out_splines_len);
 
-static inline unsigned merelsplum_collected_edges(uint64_t answer) { return (unsigned)(answer & 0xFFFF); }
+static inline unsigned merelsplum_collected_edges(uint64_t answer) { return merelsplum_colored_edges(answer); }
 static inline unsigned merelsplum_collected_splines(uint64_t answer) { return (unsigned)(answer >> 16 & 0xFFFF); }
 
 /* ---- directions of an outline's edges
  *
- * Four doubles for each edge, through all contours: x and y of the unit direction in which it starts, then of that in
- * which it ends. Where the two control points at an end of a curve are the same, the next one is taken in place of the
- * nearer. A direction whose squared length comes out as 0 is (0, 1). Corners follow from these numbers and the
- * threshold alone: an edge begins at a corner where e, the end of the one before it in its contour (of the last one for
- * the first), and s, its start, have e.x * s.x + e.y * s.y <= 0 or |e.x * s.y - e.y * s.x| above the threshold.
+ * out_directions gets four doubles for each edge, through all contours: x and y of the unit direction in which it
+ * starts, then of that in which it ends. Where the two control points at an end of a curve are the same, the next one
+ * is taken in place of the nearer. Corners follow from these numbers and the threshold alone: an edge begins at a
+ * corner where e, the end of the one before it in its contour (of the last one for the first), and s, its start, have
+ * e.x * s.x + e.y * s.y <= 0 or |e.x * s.y - e.y * s.x| above the threshold.
+ *
+ * out_stand_ins gets two bytes for each edge, of its start and of its end: 1 where the length, the root of the squared
+ * length as rounded, is 0 and (0, 1) stands in, else 0. (2^-600, 0) has length 0; a direction that is (0, 1) by itself
+ * has length 1 and is no stand-in. These bytes add up to the stand-ins of a colouring's answer.
  *
  * Answer: the number of edges, or a refusal, looked for in this order: 4 (contours, edges), 8 (lengths), 5, 7, and last
- * 11, where out_directions has fewer than 4 doubles for each edge. It may have more, which keep their bytes;
- * 4 * MERELSPLUM_MAX_EDGES are always enough. */
+ * 11, where out_directions has fewer than 4 doubles for each edge, or out_stand_ins fewer than 2 bytes. Both may have
+ * more, which keep their bytes; 4 * MERELSPLUM_MAX_EDGES and 2 * MERELSPLUM_MAX_EDGES are always enough. */
 
 uint64_t merelsplum_edge_directions(
     const uint16_t *lengths, size_t lengths_len,
     const uint8_t *kinds, size_t kinds_len,
     const double *points, size_t points_len,
-    double *out_directions, size_t out_directions_len);
+    double *out_directions, size_t out_directions_len,
+    uint8_t *out_stand_ins, size_t out_stand_ins_len);
 
 /* ---- offers to a spline table
  *
@@ -229,11 +252,12 @@ uint64_t merelsplum_job_read(
     double *distances, size_t distances_len,
     uint64_t numbers[6]);
 
-/* Whether the file is accepted, without buffers. Answer: the edges that colouring it gives, or a refusal, never 11. */
+/* Whether the file is accepted, without buffers. Answer: what merelsplum_job_color answers with buffers that are long
+ * enough; never 11. */
 uint64_t merelsplum_job_check(const uint8_t *file, size_t file_len);
 
-/* Reads and colours. Answer: the number of edges of the result, or a refusal. merelsplum_job_read says how many
- * contours there are. */
+/* Reads and colours. Answer: the number of edges of the result and 2^48 times the stand-ins, or a refusal.
+ * merelsplum_job_read says how many contours there are. */
 uint64_t merelsplum_job_color(
     const uint8_t *file, size_t file_len,
     uint16_t *out_lengths, size_t out_lengths_len,
@@ -241,9 +265,9 @@ uint64_t merelsplum_job_color(
     double *out_points, size_t out_points_len,
     uint8_t *out_colors, size_t out_colors_len);
 
-/* Reads, colours and writes the result as text, a line for each edge (not ended by a zero byte). Answer: the number
- * of bytes, or 11 where the text does not fit; MERELSPLUM_MAX_LISTING_BYTES are always enough. A file that is
- * refused gives its text, "refused" and the number. */
+/* Reads, colours and writes the result as text (not ended by a zero byte): a line for each edge, then "edges" and their
+ * number, then "standins" and theirs. Answer: the number of bytes, or 11 where the text does not fit;
+ * MERELSPLUM_MAX_LISTING_BYTES are always enough. A file that is refused gives its text, "refused" and the number. */
 uint64_t merelsplum_job_listing(const uint8_t *file, size_t file_len, uint8_t *out, size_t out_len);
 
 /* Where in the file the records of one contour are (from 0): the place of the first byte and 2^32 times their

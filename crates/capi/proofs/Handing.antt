@@ -21,6 +21,6 @@ pub hands-out-job : (old : List ℕ) {code : ℕ} {answer : Answer Numbers} {buf
     → code ≡ readCode answer → numbers ≡ numbersAfter answer old → readOutcome answer buffers ≡ o → handedJob code buffers numbers ≡ handOutJob o old
 hands-out-job old p n q = rw (p, n) (ap (λ (r : ReadOutcome). handOutJob r old) q)
 
-pub hands-out-buffer : {A : Type 0} {code : ℕ} {answer : Answer ℕ} {buffer : List A} {o : FillOutcome A}
+pub hands-out-buffer : {B : Type 0} {code : ℕ} {answer : Answer ℕ} {buffer : B} {o : FillOutcome B}
     → code ≡ countCode answer → fillOutcome answer buffer ≡ o → handedBuffer code buffer ≡ handOutBuffer o
 hands-out-buffer {buffer} p q = ap (λ (k : ℕ). handedBuffer k buffer) p ∙ ap handOutBuffer q

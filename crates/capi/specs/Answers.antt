@@ -1,6 +1,5 @@
 -- An answer as C sees it, one number: a number of its value, or a base and the number of the refusal.
 use Prim.Native.Nat.{ℕ, _+_}
-use mathlib.Core.List.{List}
 use Rattle.coloring.specs.Answers.{Answer, gives, refusal}
 use Rattle.coloring.specs.Fill.{FillOutcome}
 
@@ -12,13 +11,13 @@ codeOf number base (refusal n) = base + n
 abbrev pub countCode : Answer ℕ → ℕ
 countCode = codeOf (λ n. n) 4294967296
 
--- a number and one buffer at exit, and so of a call that fills it
-pub record HandedBuffer (A : Type 0) : Type 0 where
+-- a number and what a call fills, at exit
+pub record HandedBuffer (B : Type 0) : Type 0 where
   pub code : ℕ
-  pub buffer : List A
+  pub buffer : B
 
-abbrev pub handedBuffer : {A : Type 0} → ℕ → List A → HandedBuffer A
+abbrev pub handedBuffer : {B : Type 0} → ℕ → B → HandedBuffer B
 handedBuffer code buffer = record { code = code; buffer = buffer }
 
-abbrev pub handOutBuffer : {A : Type 0} → FillOutcome A → HandedBuffer A
+abbrev pub handOutBuffer : {B : Type 0} → FillOutcome B → HandedBuffer B
 handOutBuffer o = handedBuffer (countCode (o .answer)) (o .buffer)

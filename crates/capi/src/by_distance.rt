@@ -8,13 +8,16 @@ ghost use Rattle.coloring.specs.Outline.{given, atEntry, atExit, coloredAnswer}
 ghost use Rattle.coloring.specs.EdgeColoring.{collectSplines, edgeColoringByDistance};
 ghost use Rattle.capi.specs.EdgeColoring.{collectedCode, coloredCode, handed, handOut};
 
-// The number of edges and 2^16 times that of splines, or 2^32 and the number of the refusal.
+// The number of edges, 2^16 times that of splines and 2^48 times that of stand-ins, or 2^32 and the number of the
+// refusal.
 fn collected_code(answer: Colored) -> u64
     ensures { λ r. ⌜ r ≡ collectedCode (coloredAnswer answer) ⌝ }
 {
     match answer {
         Colored::Edges(counts) => {
-            (counts.edges % 65536) as u64 + 65536 * (counts.splines % 65536) as u64
+            (counts.edges % 65536) as u64
+                + 65536 * (counts.splines % 65536) as u64
+                + 281474976710656 * (counts.stand_ins % 65536) as u64
         }
         Colored::Refused(refusal) => 4294967296 + wide(refusal.number()),
     }

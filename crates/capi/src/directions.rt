@@ -1,10 +1,10 @@
-// The unit directions of an outline's edges.
+// The unit directions of an outline's edges, and which of them are stand-ins.
 use crate::wide;
 use coloring::directions;
 use coloring::directions::Directed;
 ghost use mathlib.Core.Path.{_≡_};
 ghost use Rattle.coloring.specs.Outline.{given};
-ghost use Rattle.coloring.specs.Directions.{directedAnswer, edgeDirections};
+ghost use Rattle.coloring.specs.Directions.{directedAnswer, edgeDirections, buffersAtEntry, buffersAtExit};
 ghost use Rattle.capi.specs.Answers.{countCode, handedBuffer, handOutBuffer};
 
 // The number of edges, or 2^32 and the number of the refusal.
@@ -23,9 +23,10 @@ pub extern "C" fn merelsplum_edge_directions(
     kinds: &[u8],
     points: &[f64],
     out_directions: &mut [f64],
+    out_stand_ins: &mut [u8],
 ) -> u64
-    ensures { λ r. ⌜ handedBuffer r (now («out_directions» .exit))
-        ≡ handOutBuffer (edgeDirections (given lengths kinds points) (now («out_directions» .entry))) ⌝ }
+    ensures { λ r. ⌜ handedBuffer r (buffersAtExit «out_directions» «out_stand_ins»)
+        ≡ handOutBuffer (edgeDirections (given lengths kinds points) (buffersAtEntry «out_directions» «out_stand_ins»)) ⌝ }
 {
-    code(directions::edge_directions(lengths, kinds, points, out_directions))
+    code(directions::edge_directions(lengths, kinds, points, out_directions, out_stand_ins))
 }

@@ -7,12 +7,14 @@ ghost use Rattle.coloring.specs.Outline.{given, atEntry, atExit, coloredAnswer}
 ghost use Rattle.coloring.specs.EdgeColoring.{edgeColoringSimple, edgeColoringInkTrap};
 ghost use Rattle.capi.specs.EdgeColoring.{coloredCode, handed, handOut};
 
-// The number of edges, or 2^32 and the number of the refusal.
+// The number of edges and 2^48 times that of stand-ins, or 2^32 and the number of the refusal.
 pub(crate) fn code(answer: Colored) -> u64
     ensures { λ r. ⌜ r ≡ coloredCode (coloredAnswer answer) ⌝ }
 {
     match answer {
-        Colored::Edges(counts) => counts.edges as u64,
+        Colored::Edges(counts) => {
+            (counts.edges % 65536) as u64 + 281474976710656 * (counts.stand_ins % 65536) as u64
+        }
         Colored::Refused(refusal) => 4294967296 + wide(refusal.number()),
     }
 }

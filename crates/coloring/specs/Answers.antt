@@ -1,9 +1,10 @@
 -- Answers in numbers (SCOPE, Refusals): a value, or the number of a refusal; and checks in an order, each with its
 -- number. Every entry's promise is made of these.
 use Prim.Native.Nat.{ℕ}
-use mathlib.Core.Path.{_≡_, refl}
+use mathlib.Core.Path.{_≡_, refl, sym, _∙_}
 use mathlib.Core.Bool.{Bool, true, false}
 use mathlib.Core.List.{List, [], _∷_, _++_, append-nil}
+use native.Mathlib.Omega.{arith}
 use Rattle.coloring.specs.Refusal.{refusalNumber}
 use Rattle.coloring.specs.declared.refusal.Checked.{Checked}
 use Rattle.coloring.specs.declared.refusal.Checked.the-variants.{Passed, Failed}
@@ -95,7 +96,17 @@ pub refused-first : (checks more : List Check) {number : ℕ} → firstRefusal c
 unfolding firstRefusal
 refused-first checks more e = failed-on checks more refusal allPass e
 
--- where all pass, the first does and the rest do
+-- where all pass, those before do
+pub passed-first : (checks more : List Check) → firstRefusal (checks ++ more) ≡ allPass → firstRefusal checks ≡ allPass
+passed-first checks more e = go (firstRefusal checks) refl
+  where
+    go : (answer : Answer Unit) → firstRefusal checks ≡ answer → firstRefusal checks ≡ allPass
+    go (gives u) found = found
+    go (refusal number) found =
+        let other : refusal number ≡ allPass = sym (refused-first checks more found) ∙ e in
+        let no : _≡_ {A = ℕ} 0 1 = cc in absurd (omega arith)
+
+-- and the first and the rest
 pub passed-both : (number : ℕ) (b : Bool) (checks : List Check) → firstRefusal (unless number b ∷ checks) ≡ allPass
     → (b ≡ true) × (firstRefusal checks ≡ allPass)
 unfolding firstRefusal inOrder

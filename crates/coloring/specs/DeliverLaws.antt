@@ -8,7 +8,7 @@ use Rattle.coloring.specs.declared.outline.Counts.{Counts}
 use Rattle.coloring.specs.declared.settings.Marking.{Marking}
 use Rattle.coloring.specs.Answers.{Answer, gives, refusal, Check, inOrder, allPass}
 use Rattle.coloring.specs.Answers.{firstRefusal, passed-on, failed-on, all-passed, one-failed, refused-first}
-use Rattle.coloring.specs.Corners.{Cornered}
+use Rattle.coloring.specs.Corners.{Cornered, Found}
 use Rattle.coloring.specs.Layout.{layout}
 use Rattle.coloring.specs.Splines.{splineTotal}
 use Rattle.coloring.specs.Values.{splineValues, middleValue, checkMarking}
@@ -49,9 +49,12 @@ module _ (counts : Counts) (written old : Result) where
       go (refusal number) failed = ap (λ (o : Outcome). o .answer) (sym (deliver-failed checks failed)) ∙ sym (one-failed checks refusal (gives counts) failed)
 
 -- the same with the corners found
-module _ (marking : Marking) (distances : List Float) (found : List Cornered) (old : Result) where
+module _ (marking : Marking) (distances : List Float) (found : Found) (old : Result) where
   abbrev laid : List Cornered
-  laid = map layout found
+  laid = map layout (found .contours)
+
+  abbrev counts : Counts
+  counts = countsOf laid (found .standIns)
 
   abbrev written : List ℕ → Result
   written values = painted (middleValue marking) values laid
@@ -62,15 +65,15 @@ module _ (marking : Marking) (distances : List Float) (found : List Cornered) (o
 
   pub found-passed : (checks : List Check) → firstRefusal checks ≡ allPass
       → deliverFound checks marking distances found old ≡ deliverFound [] marking distances found old
-  found-passed checks e = deliver-on (countsOf laid) (written (splineValues marking distances laid)) old checks last e
+  found-passed checks e = deliver-on counts (written (splineValues marking distances laid)) old checks last e
 
   pub found-failed : (checks : List Check) {number : ℕ} → firstRefusal checks ≡ refusal number
       → outcome (refusal number) old ≡ deliverFound checks marking distances found old
-  found-failed checks e = deliver-failed (countsOf laid) (written (splineValues marking distances laid)) old (checks ++ last) (refused-first checks last e)
+  found-failed checks e = deliver-failed counts (written (splineValues marking distances laid)) old (checks ++ last) (refused-first checks last e)
 
   pub values-passed : {values : List ℕ} → firstRefusal last ≡ allPass → values ≡ splineValues marking distances laid
-      → deliverValues [] marking values laid old ≡ deliverFound [] marking distances found old
-  values-passed {values} e values-are = rw (← values-are) (sym (deliver-passed (countsOf laid) (written values) old last e))
+      → deliverValues [] marking values laid (found .standIns) old ≡ deliverFound [] marking distances found old
+  values-passed {values} e values-are = rw (← values-are) (sym (deliver-passed counts (written values) old last e))
 
   pub values-failed : {number : ℕ} → firstRefusal last ≡ refusal number → outcome (refusal number) old ≡ deliverFound [] marking distances found old
-  values-failed e = deliver-failed (countsOf laid) (written (splineValues marking distances laid)) old last e
+  values-failed e = deliver-failed counts (written (splineValues marking distances laid)) old last e

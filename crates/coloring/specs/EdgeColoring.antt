@@ -2,7 +2,7 @@
 -- `edge_coloring_by_distance` of by_distance.rs, their first line replaced by the given threshold and the matrix by the
 -- given distances; and the collecting pass of the last. One definition stands behind all four.
 use Prim.Native.Nat.{ℕ}
-use mathlib.Core.List.{List, [], _∷_, map}
+use mathlib.Core.List.{List, [], _∷_}
 use lib.Dec.{leb}
 use lib.Ieee.{Float}
 use lib.ListN.{length}
@@ -12,7 +12,7 @@ use Rattle.coloring.specs.declared.settings.Strategy.the-variants.{Simpl
 use Rattle.coloring.specs.declared.settings.Marking.{Marking}
 use Rattle.coloring.specs.declared.settings.Marking.the-variants.{Colors, Numbers, Distances}
 use Rattle.coloring.specs.declared.settings.Settings.{Settings}
-use Rattle.coloring.specs.Corners.{searchCorners}
+use Rattle.coloring.specs.Corners.{findCorners}
 use Rattle.coloring.specs.Layout.{layout}
 use Rattle.coloring.specs.Splines.{splineTotal}
 use Rattle.coloring.specs.Values.{splineValues}
@@ -20,12 +20,12 @@ use Rattle.coloring.specs.Outline.{Outline, Result, Outcome, contours, c
 use Rattle.coloring.specs.Shape.{painted, countsOf, deliverFound}
 
 -- The outcome of an entry, answer and buffers: the checks, too many distances counted with too many contours and edges;
--- the corners of each contour; then the edges of the result and the byte of each.
+-- the corners and the stand-ins of all contours; then the edges of the result and the byte of each.
 unfoldable pub edgeColoring : Settings → Outline → List Float → Result → Outcome
-unfolding searchCorners contours check layout deliver painted countsOf splineValues splineTotal
+unfolding findCorners contours check layout deliver painted countsOf splineValues splineTotal
 edgeColoring settings o distances =
     deliverFound (unless 4 (leb (length distances) maxDistances) ∷ check o (settings .threshold)) (settings .marking) distances
-    (map (searchCorners (settings .threshold)) (contours o))
+    (findCorners (settings .threshold) (contours o))
 
 abbrev settingsOf : Marking → Float → Settings
 settingsOf marking threshold = record { marking = marking; threshold = threshold }

@@ -106,7 +106,7 @@ into colors = edgeColoringSimple squareOutline eighth 0 (room 1 colors)
 
 -- refutes one that refuses a result that fits exactly, or writes beyond it
 pub exactly-fits :
-    (into (9 ∷ 9 ∷ 9 ∷ 9 ∷ 8 ∷ []) .answer ≡ gives (record { contours = 1; edges = 4; splines = 4 }))
+    (into (9 ∷ 9 ∷ 9 ∷ 9 ∷ 8 ∷ []) .answer ≡ gives (record { contours = 1; edges = 4; splines = 4; «stand_ins» = 0 }))
     × (into (9 ∷ 9 ∷ 9 ∷ 9 ∷ 8 ∷ []) .buffers .colors ≡ (5 ∷ 3 ∷ 6 ∷ 3 ∷ 8 ∷ []))
 unfolding squareOutline edgeColoring cornerCount firstCorner direction sub dot cross divScalar squaredLength lengthOf normalize
     sqrtOf toStored fromStored Ieee.add Ieee.sub Ieee.mul Ieee.div Ieee.neg Ieee.ne Ieee.le Ieee.lt Ieee.ofBits

@@ -40,4 +40,5 @@ pub mod SplineColorsExamples
 pub mod Examples
 pub mod ByDistanceExamples
 pub mod DirectionExamples
+pub mod StandInExamples
 pub mod TenExamples

@@ -7,6 +7,10 @@ maxContours = 64
 abbrev pub maxEdges : ℕ
 maxEdges = 256
 
+-- stand-ins of an outline: two an edge
+abbrev pub maxStandIns : ℕ
+maxStandIns = 512
+
 -- edges of a result: of 63 contours with two edges each, and of one with the other 130
 abbrev pub maxResultEdges : ℕ
 maxResultEdges = 508

@@ -147,7 +147,8 @@ pub record Outcome : Type 0 where
 abbrev pub outcome : Answer Counts → Result → Outcome
 outcome answer buffers = record { answer = answer; buffers = buffers }
 
--- what a colouring answers: the contours, edges and splines of the result, or the number of a refusal
+-- what a colouring answers: the contours, edges and splines of the result and the stand-ins of the outline, or the
+-- number of a refusal
 abbrev pub coloredAnswer : Colored → Answer Counts
 coloredAnswer (Edges counts) = gives counts
 coloredAnswer (Refused r) = refusal (refusalNumber r)

@@ -10,7 +10,7 @@ use Rattle.coloring.specs.declared.settings.Marking.{Marking}
 use Rattle.coloring.specs.declared.outline.Counts.{Counts}
 use Rattle.coloring.specs.Limits.{maxResultEdges, maxShapeSplines}
 use Rattle.coloring.specs.Places.{total}
-use Rattle.coloring.specs.Corners.{Cornered, edgesIn, flagsIn}
+use Rattle.coloring.specs.Corners.{Cornered, Found, edgesIn, flagsIn}
 use Rattle.coloring.specs.Layout.{layout, resultEdges}
 use Rattle.coloring.specs.Splines.{splineCount, splineTotal, paintContours}
 use Rattle.coloring.specs.Values.{splineValues, middleValue, checkMarking}
@@ -21,21 +21,23 @@ unfoldable pub painted : ℕ → List ℕ → List Cornered → Result
 unfolding encode paintContours
 painted middle values laid = encode (edgesIn laid) (paintContours middle values (flagsIn laid))
 
-unfoldable pub countsOf : List Cornered → Counts
+-- of what is laid out, and the stand-ins of the outline
+unfoldable pub countsOf : List Cornered → ℕ → Counts
 unfolding encode splineTotal
-countsOf laid =
+countsOf laid standIns =
     let written = encode (edgesIn laid) [] in
-    record { contours = length (written .lengths); edges = length (written .kinds); splines = splineTotal laid }
+    record { contours = length (written .lengths); edges = length (written .kinds); splines = splineTotal laid; «stand_ins» = standIns }
 
-abbrev pub deliverValues : List Check → Marking → List ℕ → List Cornered → Result → Outcome
-deliverValues checks marking values laid old = deliver checks (countsOf laid) (painted (middleValue marking) values laid) old
+abbrev pub deliverValues : List Check → Marking → List ℕ → List Cornered → ℕ → Result → Outcome
+deliverValues checks marking values laid standIns old = deliver checks (countsOf laid standIns) (painted (middleValue marking) values laid) old
 
 -- The outcome of an entry, once its checks are made and its corners found: the layout, and from there on the result
 -- alone. The splines are checked, each gets its value, and each edge that of its spline.
-abbrev pub deliverFound : List Check → Marking → List Float → List Cornered → Result → Outcome
+abbrev pub deliverFound : List Check → Marking → List Float → Found → Result → Outcome
 deliverFound checks marking distances found old =
-    let laid = map layout found in
-    deliverValues (checks ++ checkMarking marking (splineTotal laid) distances) marking (splineValues marking distances laid) laid old
+    let laid = map layout (found .contours) in
+    let last = checkMarking marking (splineTotal laid) distances in
+    deliverValues (checks ++ last) marking (splineValues marking distances laid) laid (found .standIns) old
 
 -- ---- in the words of contracts
 

@@ -11,15 +11,15 @@ use lib.Seq.{take-at, drop-at}
 use borrow.Author.Tests.{eqb-true, leb-true}
 use Rattle.math.specs.declared.vector2.Vector2.{Vector2}
 use Rattle.geometry.specs.EdgeSegment.{unitDirections, toStored}
-use Rattle.geometry.specs.declared.edge_segment.Directions.{Directions}
 use Rattle.geometry.specs.declared.edge_segment.EdgeSegment.{EdgeSegment}
 use Rattle.geometry.specs.declared.edge_segment.EdgeSegment.the-variants.{Line, Quadratic, Cubic}
 use Rattle.coloring.specs.Bools.{and-left, and-right, branch-true, branch-false}
 use Rattle.coloring.specs.Lists.{range, length-range, lastOf}
 use Rattle.coloring.specs.Limits.{maxContours, maxEdges, maxResultEdges}
 use Rattle.coloring.specs.Places.{rotate, byPlace, total}
-use Rattle.coloring.specs.Corners.{cornerFlags, directionsOf, flagsAfter, flagsBetween, same-flags}
-use Rattle.coloring.specs.Corners.{Cornered, searchCorners, edgesIn, flagsIn, cornerCount, firstCorner}
+use Rattle.coloring.specs.declared.directions.Ends.{Ends}
+use Rattle.coloring.specs.Corners.{cornerFlags, directionsOf, endsOf, endsIn, flagsAfter, flagsBetween, same-flags}
+use Rattle.coloring.specs.Corners.{Cornered, findCorners, edgesIn, flagsIn, cornerCount, firstCorner}
 use Rattle.coloring.specs.Layout.{thirds, splits, firstOnly, splitContour, layout, resultEdges}
 use Rattle.coloring.specs.Teardrop.{runs, teardrop}
 use Rattle.coloring.specs.Splines.{splineCount, spread, paint, paintContours}
@@ -59,18 +59,22 @@ module _ {A B : Type 0} (f : A → B) where
 -- ---- a flag for each edge
 
 module _ (threshold : Float) where
-  after-length : (prev : Vector2) (directions : List Directions) → length (flagsAfter threshold prev directions) ≡ length directions
+  after-length : (prev : Vector2) (ends : List Ends) → length (flagsAfter threshold prev ends) ≡ length ends
   unfolding flagsAfter
   after-length prev [] = refl
-  after-length prev (d ∷ directions) = ap suc (after-length (d .end) directions)
+  after-length prev (d ∷ ends) = ap suc (after-length (d .end) ends)
 
-  pub between-length : (directions : List Directions) → length (flagsBetween threshold directions) ≡ length directions
+  pub between-length : (ends : List Ends) → length (flagsBetween threshold ends) ≡ length ends
   unfolding flagsBetween
   between-length [] = refl
-  between-length (d ∷ directions) = after-length (lastOf d directions .end) (d ∷ directions)
+  between-length (d ∷ ends) = after-length (lastOf d ends .end) (d ∷ ends)
 
   pub flags-length : (edges : List EdgeSegment) → length (cornerFlags threshold edges) ≡ length edges
-  flags-length edges = ap length (same-flags threshold edges) ∙ between-length (directionsOf edges) ∙ length-map edges unitDirections
+  flags-length edges =
+      ap length (same-flags threshold edges)
+      ∙ between-length (endsIn (directionsOf edges))
+      ∙ length-map (directionsOf edges) endsOf
+      ∙ length-map edges unitDirections
 
 -- ---- the edges of the result
 
@@ -179,10 +183,16 @@ unfoldable pub Flagged : List Cornered → Type 0
 Flagged [] = Unit {0}
 Flagged (contour ∷ found) = (length (contour .corners) ≡ length (contour .edges)) × Flagged found
 
-pub search-flagged : (threshold : Float) (contours : List (List EdgeSegment)) → Flagged (map (searchCorners threshold) contours)
-unfolding Flagged searchCorners
+pub search-flagged : (threshold : Float) (contours : List (List EdgeSegment)) → Flagged (findCorners threshold contours .contours)
+unfolding Flagged findCorners
 search-flagged threshold [] = tt
 search-flagged threshold (edges ∷ contours) = (flags-length threshold edges, search-flagged threshold contours)
+
+-- and as many as there were
+pub found-sizes : (threshold : Float) (contours : List (List EdgeSegment)) → sizes (flagsIn (findCorners threshold contours .contours)) ≡ sizes contours
+unfolding findCorners
+found-sizes threshold [] = refl
+found-sizes threshold (edges ∷ contours) = rw (flags-length threshold edges, found-sizes threshold contours)
 
 pub laid-flagged : (found : List Cornered) → Flagged found → Flagged (map layout found)
 unfolding Flagged

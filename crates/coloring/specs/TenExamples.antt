@@ -1,13 +1,13 @@
 -- P1 to P10 (SCOPE, Examples) as one list, which one theorem proves. Each member is computed where its definitions
 -- stand.
 use mathlib.Core.Path.{_≡_}
-use mathlib.Core.Bool.{false}
+use mathlib.Core.Bool.{true, false}
 use mathlib.Core.List.{[], _∷_}
 use lib.IntN.{pos, negsuc}
 use lib.Ieee.{fin, binary64, ofBits}
 use Rattle.math.specs.Sqrt.{sqrtOf}
 use Rattle.math.specs.SqrtExamples.{root-examples}
-use Rattle.math.specs.Vector2.{new, lengthOf, normalize}
+use Rattle.math.specs.Vector2.{new, lengthOf, normalized, normalize}
 use Rattle.geometry.specs.EdgeSegment.{splitInThirds}
 use Rattle.geometry.specs.Examples.{n0, negative0, n1, n3, tiny, unitLines, split-exactly, split-from-negative-zero, tiny-direction}
 use Rattle.geometry.specs.declared.edge_color.EdgeColor.the-variants.{Yellow, Magenta}
@@ -44,8 +44,8 @@ pub record TenExamples : Type 0 where
   -- the line (0, 0) to (3, 0) splits at x = 1 and 2 exactly; a line from (−0, 0) to (3, 0) splits with first x +0
   pub p8 : splitInThirds (Line (new n0 n0) (new n3 n0)) ≡ unitLines
   pub p9 : splitInThirds (Line (new negative0 n0) (new n3 n0)) ≡ unitLines
-  -- the direction (2 ^ −600, 0) has length 0, so it becomes (0, 1)
-  pub p10 : (lengthOf (new tiny n0) ≡ n0) × (normalize (new tiny n0) false ≡ new n0 n1)
+  -- the direction (2 ^ −600, 0) has length 0, so it becomes (0, 1), a stand-in
+  pub p10 : (lengthOf (new tiny n0) ≡ n0) × (normalize (new tiny n0) false ≡ normalized (new n0 n1) true)
 
 pub ten-examples : TenExamples
 ten-examples = record {

@@ -1,14 +1,16 @@
 // Corners and length estimates, after `is_corner`, `estimate_edge_length` and `identify_corners` of coloring/mod.rs.
-use crate::directions::directions_at;
+use crate::directions::count_marks;
+use crate::directions::ends_at;
 use crate::directions::unit_directions;
 use crate::limits::FEW_DIRECTION_PLACES;
+use crate::limits::FEW_STAND_INS;
 use crate::limits::MAX_DIRECTION_PLACES;
+use crate::limits::MAX_STAND_INS;
 use geometry::edge_segment::EdgeSegment;
 use math::vector2::Vector2;
 use math::vector2::cross;
 use math::vector2::dot;
 ghost use mathlib.Core.Path.{_≡_};
-ghost use mathlib.Core.List.{map};
 ghost use Prim.Native.Nat.{_≤_, _-_, _*_};
 ghost use lib.Ieee.{lt};
 ghost use lib.ListN.{length, take, drop};
@@ -16,9 +18,9 @@ ghost use Rattle.math.specs.Vector2.{lengthOf};
 ghost use Rattle.coloring.specs.Limits.{maxEdges};
 ghost use Rattle.coloring.specs.Lists.{overFrom};
 ghost use Rattle.coloring.specs.Places.{total};
-ghost use Rattle.coloring.specs.Corners.{abs, isCorner, estimateEdgeLength, flagsBetween, searchCorners, cornered, cornerCount, firstCorner};
-ghost use Rattle.coloring.specs.Directions.{decodeDirections, allFlags};
-ghost use Rattle.coloring.specs.Outline.{edgesOf, contours, outline, Cut};
+ghost use Rattle.coloring.specs.Corners.{abs, isCorner, estimateEdgeLength, flagsBetween, foundIn, findCorners, cornered, cornerCount, firstCorner};
+ghost use Rattle.coloring.specs.Directions.{decodeEnds, allFlags};
+ghost use Rattle.coloring.specs.Outline.{edgesOf, contours, given, Cut};
 
 // Whether the magnitude of x is above the threshold.
 fn exceeds(x: f64, threshold: f64) -> bool
@@ -72,16 +74,16 @@ pub(crate) fn estimate_edge_length(e: EdgeSegment) -> f64
 // the last.
 fn identify_corners(directions: &[f64], threshold: f64, flags: &mut [bool])
     requires { ⌜ (length (now directions) ≡ 4 * length (now flags)) × (length (now flags) ≤ maxEdges) ⌝ }
-    ensures { λ _. ⌜ now (flags .exit) ≡ flagsBetween threshold (decodeDirections (length (now (flags .entry))) (now (directions .entry))) ⌝ }
+    ensures { λ _. ⌜ now (flags .exit) ≡ flagsBetween threshold (decodeEnds (length (now (flags .entry))) (now (directions .entry))) ⌝ }
 {
     let m = flags.len();
     if m == 0 {
         return;
     }
-    let mut prev = directions_at(directions, m - 1).end;
+    let mut prev = ends_at(directions, m - 1).end;
     let mut i = 0;
     while i < m {
-        let d = directions_at(directions, i);
+        let d = ends_at(directions, i);
         flags[i] = is_corner(prev, d.start, threshold);
         prev = d.end;
         i += 1;
@@ -92,7 +94,7 @@ fn identify_corners(directions: &[f64], threshold: f64, flags: &mut [bool])
 fn identify_part(directions: &[f64], at: usize, end: usize, threshold: f64, flags: &mut [bool])
     requires { ⌜ (length (now directions) ≡ 4 * length (now flags)) × (length (now flags) ≤ maxEdges) × (at ≤ end) × (end ≤ length (now flags)) ⌝ }
     ensures { λ _. ⌜ now (flags .exit) ≡ overFrom at (flagsBetween threshold (take (end - at)
-        (drop at (decodeDirections (length (now (flags .entry))) (now (directions .entry)))))) (now (flags .entry)) ⌝ }
+        (drop at (decodeEnds (length (now (flags .entry))) (now (directions .entry)))))) (now (flags .entry)) ⌝ }
 {
     let from = 4 * at;
     let to = 4 * end;
@@ -103,7 +105,7 @@ fn identify_part(directions: &[f64], at: usize, end: usize, threshold: f64, flag
 fn compare_neighbors(lengths: &[u16], directions: &[f64], threshold: f64, flags: &mut [bool])
     requires { ⌜ (length (now directions) ≡ 4 * length (now flags)) × (length (now flags) ≤ maxEdges) × (total (now lengths) ≡ length (now flags)) ⌝ }
     ensures { λ _. ⌜ now (flags .exit) ≡ allFlags threshold (now (lengths .entry))
-        (decodeDirections (length (now (flags .entry))) (now (directions .entry))) ⌝ }
+        (decodeEnds (length (now (flags .entry))) (now (directions .entry))) ⌝ }
 {
     let mut at: usize = 0;
     let mut i = 0;
@@ -115,57 +117,64 @@ fn compare_neighbors(lengths: &[u16], directions: &[f64], threshold: f64, flags:
     }
 }
 
-// The directions of all edges, then the corners of all contours.
+// The directions of all edges, then the corners of all contours. The answer is how many directions are stand-ins.
 fn search_corners(
     lengths: &[u16],
     kinds: &[u8],
     points: &[f64],
     threshold: f64,
     directions: &mut [f64],
+    marks: &mut [u8],
     flags: &mut [bool],
-)
-    requires { ⌜ Cut (now lengths) (now kinds) (now points) (now flags) × (length (now directions) ≡ 4 * length (now kinds)) ⌝ }
-    ensures { λ _. ⌜ cornered (now (lengths .entry)) (edgesOf (now (kinds .entry)) (now (points .entry))) (now (flags .exit)) ≡
-        map (searchCorners threshold) (contours (outline (now (lengths .entry)) (now (kinds .entry)) (now (points .entry)))) ⌝ }
+) -> usize
+    requires { ⌜ Cut (now lengths) (now kinds) (now points) (now flags) ⌝ }
+    requires { ⌜ (length (now directions) ≡ 4 * length (now kinds)) × (length (now marks) ≡ 2 * length (now kinds)) ⌝ }
+    ensures { λ r. ⌜ foundIn (cornered (now (lengths .entry)) (edgesOf (now (kinds .entry)) (now (points .entry))) (now (flags .exit))) r
+        ≡ findCorners threshold (contours (given lengths kinds points)) ⌝ }
 {
-    unit_directions(lengths, kinds, points, directions);
+    unit_directions(lengths, kinds, points, directions, marks);
     compare_neighbors(lengths, directions, threshold, flags);
+    count_marks(marks)
 }
 
-// The same, with a buffer of its own: a small one for the outlines of most glyphs, since all of it is cleared.
+// The same, with buffers of its own: small ones for the outlines of most glyphs, since they are cleared whole.
 pub(crate) fn find_corners(
     lengths: &[u16],
     kinds: &[u8],
     points: &[f64],
     threshold: f64,
     flags: &mut [bool],
-)
+) -> usize
     requires { ⌜ Cut (now lengths) (now kinds) (now points) (now flags) ⌝ }
-    ensures { λ _. ⌜ cornered (now (lengths .entry)) (edgesOf (now (kinds .entry)) (now (points .entry))) (now (flags .exit)) ≡
-        map (searchCorners threshold) (contours (outline (now (lengths .entry)) (now (kinds .entry)) (now (points .entry)))) ⌝ }
+    ensures { λ r. ⌜ foundIn (cornered (now (lengths .entry)) (edgesOf (now (kinds .entry)) (now (points .entry))) (now (flags .exit))) r
+        ≡ findCorners threshold (contours (given lengths kinds points)) ⌝ }
 {
     let places = 4 * kinds.len();
+    let ends = 2 * kinds.len();
     if places <= FEW_DIRECTION_PLACES {
         let mut directions = [0.0; FEW_DIRECTION_PLACES];
-        search_corners(
+        let mut marks = [0; FEW_STAND_INS];
+        return search_corners(
             lengths,
             kinds,
             points,
             threshold,
             &mut directions[..places],
+            &mut marks[..ends],
             flags,
         );
-        return;
     }
     let mut directions = [0.0; MAX_DIRECTION_PLACES];
+    let mut marks = [0; MAX_STAND_INS];
     search_corners(
         lengths,
         kinds,
         points,
         threshold,
         &mut directions[..places],
+        &mut marks[..ends],
         flags,
-    );
+    )
 }
 
 // ---- what the flags of a contour say

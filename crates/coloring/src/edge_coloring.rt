@@ -15,7 +15,8 @@ ghost use mathlib.Core.Path.{_≡_};
 ghost use Rattle.coloring.specs.Outline.{given, atEntry, atExit, coloredAnswer, outcome};
 ghost use Rattle.coloring.specs.EdgeColoring.{edgeColoring, edgeColoringSimple, edgeColoringInkTrap};
 
-// The checks; the corners, once; then the values of the splines, the edges of the result and the byte of each.
+// The checks; the corners and the stand-ins, once; then the values of the splines, the edges of the result and the byte
+// of each.
 pub(crate) fn edge_coloring(
     settings: Settings,
     lengths: &[u16],
@@ -39,13 +40,14 @@ pub(crate) fn edge_coloring(
     }
     let n = kinds.len();
     let mut flags = [false; MAX_EDGES];
-    find_corners(lengths, kinds, points, settings.threshold, &mut flags[..n]);
+    let stand_ins = find_corners(lengths, kinds, points, settings.threshold, &mut flags[..n]);
     color_shape(
         settings,
         lengths,
         kinds,
         points,
         &flags[..n],
+        stand_ins,
         distances,
         out_lengths,
         out_kinds,

@@ -9,6 +9,11 @@ pub(crate) const MAX_DIRECTION_PLACES: usize = 1024;
 
 pub(crate) const FEW_DIRECTION_PLACES: usize = 256;
 
+// The marks of stand-ins, two an edge, of as many.
+pub(crate) const MAX_STAND_INS: usize = 512;
+
+pub(crate) const FEW_STAND_INS: usize = 128;
+
 // Edges of a result.
 pub const MAX_RESULT_EDGES: usize = 508;
 

@@ -19,11 +19,13 @@ ghost use Rattle.coloring.specs.Outline.{anyEdge, edgesOf, kindStored, p
 ghost use Rattle.coloring.specs.Limits.{maxContours};
 ghost use Rattle.coloring.specs.Places.{total};
 
-// What a colouring wrote: how many contours and edges, and how many splines they have.
+// What a colouring wrote, how many contours and edges, and how many splines they have; and how many of the directions
+// of the outline's edges, two an edge, had no length, so that (0, 1) stands in for them.
 pub struct Counts {
     pub contours: usize,
     pub edges: usize,
     pub splines: usize,
+    pub stand_ins: usize,
 }
 
 // The answer of a colouring: what was written, or the refusal.

@@ -20,15 +20,15 @@ ghost use lib.Dec.{leb};
 ghost use lib.ListN.{length};
 ghost use Rattle.coloring.specs.Limits.{maxContours, maxEdges, maxResultEdges};
 ghost use Rattle.coloring.specs.Places.{total};
-ghost use Rattle.coloring.specs.Corners.{cornered};
+ghost use Rattle.coloring.specs.Corners.{foundIn, cornered};
 ghost use Rattle.coloring.specs.Layout.{layout};
 ghost use Rattle.coloring.specs.Outline.{edgesOf, atEntry, atExit, coloredAnswer, outcome, Cut};
 ghost use Rattle.coloring.specs.Shape.{deliverValues, deliverFound, Counted};
 
-// How many contours and edges the result has, and how many splines.
-fn count_shape(lengths: &[u16], flags: &[bool]) -> Counts
+// How many contours and edges the result has, and how many splines; and the stand-ins of the outline.
+fn count_shape(lengths: &[u16], flags: &[bool], stand_ins: usize) -> Counts
     requires { ⌜ (total (now lengths) ≡ length (now flags)) × (length (now flags) ≤ maxEdges) × (length (now lengths) ≤ maxContours) ⌝ }
-    ensures { λ r. ⌜ Counted (now (lengths .entry)) (now (flags .entry)) r ⌝ }
+    ensures { λ r. ⌜ Counted (now (lengths .entry)) (now (flags .entry)) r × (r .«stand_ins» ≡ «stand_ins») ⌝ }
 {
     let mut edges: usize = 0;
     let mut splines: usize = 0;
@@ -45,6 +45,7 @@ fn count_shape(lengths: &[u16], flags: &[bool]) -> Counts
         contours: lengths.len(),
         edges,
         splines,
+        stand_ins,
     }
 }
 
@@ -85,6 +86,7 @@ fn paint_shape(
     ensures { λ r. ⌜ outcome (coloredAnswer r) (atExit «out_lengths» «out_kinds» «out_points» «out_colors»)
         ≡ deliverValues [] (settings .marking) (now (values .entry))
         (map layout (cornered (now (lengths .entry)) (edgesOf (now (kinds .entry)) (now (points .entry))) (now (flags .entry))))
+        (counts .«stand_ins»)
         (atEntry «out_lengths» «out_kinds» «out_points» «out_colors») ⌝ }
 {
     let room = has_room(
@@ -121,13 +123,15 @@ fn paint_shape(
     Colored::Edges(counts)
 }
 
-// Contours with their corners: a value for each spline, or the refusal; then the result.
+// Contours with their corners, and the stand-ins of the outline: a value for each spline, or the refusal; then the
+// result.
 pub(crate) fn color_shape(
     settings: Settings,
     lengths: &[u16],
     kinds: &[u8],
     points: &[f64],
     flags: &[bool],
+    stand_ins: usize,
     distances: &[f64],
     out_lengths: &mut [u16],
     out_kinds: &mut [u8],
@@ -137,10 +141,10 @@ pub(crate) fn color_shape(
     requires { ⌜ Cut (now lengths) (now kinds) (now points) (now flags) ⌝ }
     ensures { λ r. ⌜ outcome (coloredAnswer r) (atExit «out_lengths» «out_kinds» «out_points» «out_colors»)
         ≡ deliverFound [] (settings .marking) (now (distances .entry))
-        (cornered (now (lengths .entry)) (edgesOf (now (kinds .entry)) (now (points .entry))) (now (flags .entry)))
+        (foundIn (cornered (now (lengths .entry)) (edgesOf (now (kinds .entry)) (now (points .entry))) (now (flags .entry))) «stand_ins»)
         (atEntry «out_lengths» «out_kinds» «out_points» «out_colors») ⌝ }
 {
-    let counts = count_shape(lengths, flags);
+    let counts = count_shape(lengths, flags, stand_ins);
     let splines = counts.splines;
     let marking = settings.marking;
     let mut values = [0u8; MAX_SHAPE_SPLINES];

@@ -77,7 +77,7 @@ quadraticTangent p0 p1 p2 t = vmix (sub p1 p0) (sub p2 p1) t
 unfoldable pub cubicTangent : Vector2 → Vector2 → Vector2 → Vector2 → Float → Vector2
 cubicTangent p0 p1 p2 p3 t = vmix (quadraticTangent p0 p1 p2 t) (quadraticTangent p1 p2 p3 t) t
 
--- the direction at t: the tangent, and what stands in for it where both its components are zeros
+-- the direction at t: the tangent or, where both its components are zeros, the way past the next control point
 unfoldable pub quadraticDirection : Vector2 → Vector2 → Vector2 → Float → Vector2
 quadraticDirection p0 p1 p2 t =
     let tangent = quadraticTangent p0 p1 p2 t in
@@ -96,12 +96,13 @@ direction (Line p0 p1) t = sub p1 p0
 direction (Quadratic p0 p1 p2) t = quadraticDirection p0 p1 p2 t
 direction (Cubic p0 p1 p2 p3) t = cubicDirection p0 p1 p2 p3 t
 
--- the unit directions in which an edge starts and ends: normalize(direction(0)) and normalize(direction(1))
+-- the unit directions in which an edge starts and ends, normalize(direction(0)) and normalize(direction(1)), each with
+-- whether its length was 0
 unfoldable pub unitDirections : EdgeSegment → Directions
 unfolding direction
 unitDirections e = record { start = normalize (direction e f0) false; end = normalize (direction e f1) false }
 
--- a line has one, p1 - p0 both times
+-- a line has one, p1 - p0 both times: a stand-in twice or not at all
 pub line-has-one : (e : EdgeSegment) → order e ≡ 1 → unitDirections e .end ≡ unitDirections e .start
 unfolding unitDirections direction
 line-has-one (Line p0 p1) h = refl

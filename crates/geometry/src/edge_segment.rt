@@ -1,4 +1,5 @@
 // Edge segments of geometry/edge_segment.rs: a line, a quadratic or a cubic Bezier curve.
+use math::vector2::Normalized;
 use math::vector2::Vector2;
 use math::vector2::cross;
 use math::vector2::scale;
@@ -16,10 +17,10 @@ pub enum EdgeSegment {
     Cubic(Vector2, Vector2, Vector2, Vector2),
 }
 
-// The unit directions in which an edge starts and ends.
+// The unit directions in which an edge starts and ends, each with whether it is a stand-in.
 pub struct Directions {
-    pub start: Vector2,
-    pub end: Vector2,
+    pub start: Normalized,
+    pub end: Normalized,
 }
 
 // The three edges of a split.

@@ -12,7 +12,7 @@ use Rattle.coloring.specs.declared.outline.Counts.{Counts}
 use Rattle.coloring.specs.declared.settings.Strategy.the-variants.{Simple, InkTrap}
 use Rattle.coloring.specs.declared.settings.Marking.{Marking}
 use Rattle.coloring.specs.declared.settings.Marking.the-variants.{Colors, Distances}
-use Rattle.coloring.specs.Corners.{Cornered, searchCorners, edgesIn, flagsIn}
+use Rattle.coloring.specs.Corners.{Cornered, Found, findCorners, edgesIn, flagsIn}
 use Rattle.coloring.specs.Layout.{layout}
 use Rattle.coloring.specs.Splines.{splineTotal, paintContours}
 use Rattle.coloring.specs.Values.{splineValues, middleValue, checkMarking}
@@ -40,10 +40,18 @@ abbrev pub markingOf : Job → Marking
 markingOf job =
     byStrategy (job .header .strategy) (Colors Simple (job .header .seed)) (Colors InkTrap (job .header .seed)) (Distances (job .header .seed))
 
+-- the corners and the stand-ins of its contours
+abbrev pub cornersIn : Job → Found
+cornersIn job = findCorners (thresholdOf (job .header)) (job .contours)
+
 -- its contours with their corners, laid out
 unfoldable pub laidIn : Job → List Cornered
-unfolding searchCorners layout
-laidIn job = map layout (map (searchCorners (thresholdOf (job .header))) (job .contours))
+unfolding findCorners layout
+laidIn job = map layout (cornersIn job .contours)
+
+-- what they come to
+abbrev pub jobCounts : Job → Counts
+jobCounts job = countsOf (laidIn job) (cornersIn job .standIns)
 
 -- what is left to check of a job that was read, for strategy 3 only: splines 4, then the distances
 unfoldable pub checkJob : Job → List Check
@@ -67,8 +75,8 @@ colored job = encode (coloredEdges job) (edgeColors job)
 
 -- answer and buffers: the first refusal, 11 last; or the coloured shape
 unfoldable pub colorJob : Job → Result → Outcome
-unfolding laidIn checkJob colored countsOf deliver
-colorJob job old = deliver (checkJob job) (countsOf (laidIn job)) (colored job) old
+unfolding findCorners laidIn checkJob colored countsOf deliver
+colorJob job old = deliver (checkJob job) (jobCounts job) (colored job) old
 
 -- ---- a file
 
@@ -83,8 +91,8 @@ colorFile file = colorReading (readJob file)
 
 -- the answer where every result has room: what the result comes to, or the first refusal
 unfoldable pub checkReading : Reading → Answer Counts
-unfolding inOrder laidIn checkJob countsOf
-checkReading (gives job) = inOrder (checkJob job) refusal (gives (countsOf (laidIn job)))
+unfolding inOrder findCorners laidIn checkJob countsOf
+checkReading (gives job) = inOrder (checkJob job) refusal (gives (jobCounts job))
 checkReading (refusal number) = refusal number
 
 unfoldable pub checkFile : List ℕ → Answer Counts

@@ -11,7 +11,7 @@ use Rattle.math.specs.Sqrt.{sqrtOf}
 use Rattle.math.specs.Vector2.{new, sub, divScalar, dot, cross, squaredLength, lengthOf, normalize}
 use Rattle.geometry.specs.EdgeSegment.{direction, toStored}
 use Rattle.geometry.specs.declared.edge_segment.EdgeSegment.the-variants.{Line}
-use Rattle.coloring.specs.Corners.{searchCorners, cornerCount, firstCorner}
+use Rattle.coloring.specs.Corners.{findCorners, cornerCount, firstCorner}
 use Rattle.coloring.specs.Outline.{Result, result, outcome}
 use Rattle.coloring.specs.Answers.{gives, refusal}
 use Rattle.coloring.specs.Fill.{fillOutcome}
@@ -21,7 +21,9 @@ use Rattle.job.specs.declared.records.Header.{Header}
 use Rattle.job.specs.Job.{Job, readJob, fileOf}
 use Rattle.job.specs.Part.{contourPart}
 use Rattle.job.specs.Color.{colorFile, checkFile, acceptJob, accepted}
-use Rattle.job.specs.Listing.{decimal, listing, refusalLine, fileText, listFile}
+use Rattle.coloring.specs.PairOrder.{validDistance}
+use Rattle.coloring.specs.SplineColors.{offerSplines}
+use Rattle.job.specs.Listing.{decimal, wordLine, listing, refusalLine, fileText, listFile}
 
 -- ---- files in bytes
 
@@ -247,7 +249,7 @@ abbrev squareAlone : List ℕ
 squareAlone = opening 3 (squareContour (DS (0 ∷ 0 ∷ EN [])))
 
 pub miscounted-before-short : (colorFile squareAlone noPlaces ≡ outcome (refusal 8) noPlaces) × (accepted squareAlone ≡ false)
-unfolding colorFile acceptJob ofBits searchCorners cornerCount firstCorner direction sub dot cross divScalar squaredLength lengthOf normalize sqrtOf
+unfolding colorFile acceptJob ofBits findCorners cornerCount firstCorner direction sub dot cross divScalar squaredLength lengthOf normalize sqrtOf
     Ieee.add Ieee.sub Ieee.mul Ieee.div Ieee.ne Ieee.le Ieee.lt
 miscounted-before-short = (refl, refl)
 
@@ -265,7 +267,7 @@ unfolding acceptJob ofBits
 reading-before-splines = refl
 
 pub splines-before-miscounted : acceptJob manySplines ≡ refusal 4
-unfolding acceptJob ofBits searchCorners cornerCount firstCorner direction sub dot cross divScalar squaredLength lengthOf normalize sqrtOf Ieee.add Ieee.sub
+unfolding acceptJob ofBits findCorners cornerCount firstCorner direction sub dot cross divScalar squaredLength lengthOf normalize sqrtOf Ieee.add Ieee.sub
     Ieee.mul Ieee.div Ieee.ne Ieee.le Ieee.lt
 splines-before-miscounted = refl
 
@@ -274,8 +276,8 @@ pub short : (colorFile squareFile noPlaces ≡ outcome (refusal 11) noPlaces) ×
 unfolding colorFile acceptJob ofBits
 short = (refl, refl)
 
-pub square-checked : checkFile squareFile ≡ gives (record { contours = 1; edges = 4; splines = 4 })
-unfolding checkFile ofBits searchCorners cornerCount firstCorner direction sub dot cross divScalar squaredLength lengthOf normalize sqrtOf
+pub square-checked : checkFile squareFile ≡ gives (record { contours = 1; edges = 4; splines = 4; «stand_ins» = 0 })
+unfolding checkFile ofBits findCorners cornerCount firstCorner direction sub dot cross divScalar squaredLength lengthOf normalize sqrtOf
     Ieee.add Ieee.sub Ieee.mul Ieee.div Ieee.ne Ieee.le Ieee.lt
 square-checked = refl
 
@@ -287,26 +289,49 @@ squareText =
     ∷ 0x30 ∷ 0x20 ∷ 0x31 ∷ 0x20 ∷ 0x4C ∷ 0x20 ∷ 0x33 ∷ 0x0A
     ∷ 0x30 ∷ 0x20 ∷ 0x32 ∷ 0x20 ∷ 0x4C ∷ 0x20 ∷ 0x36 ∷ 0x0A
     ∷ 0x30 ∷ 0x20 ∷ 0x33 ∷ 0x20 ∷ 0x4C ∷ 0x20 ∷ 0x33 ∷ 0x0A
-    ∷ 0x65 ∷ 0x64 ∷ 0x67 ∷ 0x65 ∷ 0x73 ∷ 0x20 ∷ 0x34 ∷ 0x0A ∷ []
+    ∷ 0x65 ∷ 0x64 ∷ 0x67 ∷ 0x65 ∷ 0x73 ∷ 0x20 ∷ 0x34 ∷ 0x0A
+    ∷ 0x73 ∷ 0x74 ∷ 0x61 ∷ 0x6E ∷ 0x64 ∷ 0x69 ∷ 0x6E ∷ 0x73 ∷ 0x20 ∷ 0x30 ∷ 0x0A ∷ []
 
 -- from bytes to bytes: the square's file is printed as docs/FORMAT.md has it
 pub square-printed : fileText squareFile ≡ squareText
-unfolding fileText ofBits toStored searchCorners cornerCount firstCorner direction sub dot cross divScalar squaredLength lengthOf normalize sqrtOf Ieee.add
+unfolding fileText ofBits toStored findCorners cornerCount firstCorner direction sub dot cross divScalar squaredLength lengthOf normalize sqrtOf Ieee.add
     Ieee.sub Ieee.mul Ieee.div Ieee.ne Ieee.le Ieee.lt
 square-printed = refl
 
 -- a job without contours and with strategy 1
-pub no-contours-printed : fileText (opening 1 (EN [])) ≡ (0x65 ∷ 0x64 ∷ 0x67 ∷ 0x65 ∷ 0x73 ∷ 0x20 ∷ 0x30 ∷ 0x0A ∷ [])
+pub no-contours-printed : fileText (opening 1 (EN []))
+    ≡ (0x65 ∷ 0x64 ∷ 0x67 ∷ 0x65 ∷ 0x73 ∷ 0x20 ∷ 0x30 ∷ 0x0A
+    ∷ 0x73 ∷ 0x74 ∷ 0x61 ∷ 0x6E ∷ 0x64 ∷ 0x69 ∷ 0x6E ∷ 0x73 ∷ 0x20 ∷ 0x30 ∷ 0x0A ∷ [])
 unfolding fileText ofBits
 no-contours-printed = refl
 
+-- a line from (0, 0) to (0, 0), by every strategy
+abbrev dotFile : ℕ → List ℕ → List ℕ
+dotFile strategy rest = opening strategy (CT (lineRecord zeros zeros zeros zeros rest))
+
+abbrev dotText : ℕ → List ℕ
+dotText color =
+    0x30 ∷ 0x20 ∷ 0x30 ∷ 0x20 ∷ 0x4C ∷ 0x20 ∷ color ∷ 0x0A
+    ∷ 0x65 ∷ 0x64 ∷ 0x67 ∷ 0x65 ∷ 0x73 ∷ 0x20 ∷ 0x31 ∷ 0x0A
+    ∷ 0x73 ∷ 0x74 ∷ 0x61 ∷ 0x6E ∷ 0x64 ∷ 0x69 ∷ 0x6E ∷ 0x73 ∷ 0x20 ∷ 0x32 ∷ 0x0A ∷ []
+
+-- refutes one that prints 0 always, or 1 for a line's one direction
+pub dot-printed :
+    (fileText (dotFile 1 (EN [])) ≡ dotText 0x35)
+    × (fileText (dotFile 2 (EN [])) ≡ dotText 0x35)
+    × (fileText (dotFile 3 (DS (0 ∷ 0 ∷ EN []))) ≡ dotText 0x33)
+unfolding fileText ofBits toStored findCorners cornerCount firstCorner offerSplines validDistance direction sub dot cross divScalar squaredLength lengthOf
+    normalize sqrtOf Ieee.add Ieee.sub Ieee.mul Ieee.div Ieee.ne Ieee.le Ieee.lt
+dot-printed = (refl, refl, refl)
+
 -- three contours, the second empty: its number is passed over, and places begin anew
 pub contours-printed :
-    listing ((1 ∷ []) ∷ [] ∷ (2 ∷ 3 ∷ []) ∷ []) ((5 ∷ []) ∷ [] ∷ (3 ∷ 6 ∷ []) ∷ [])
+    listing ((1 ∷ []) ∷ [] ∷ (2 ∷ 3 ∷ []) ∷ []) ((5 ∷ []) ∷ [] ∷ (3 ∷ 6 ∷ []) ∷ []) 6
     ≡ (0x30 ∷ 0x20 ∷ 0x30 ∷ 0x20 ∷ 0x4C ∷ 0x20 ∷ 0x35 ∷ 0x0A
     ∷ 0x32 ∷ 0x20 ∷ 0x30 ∷ 0x20 ∷ 0x51 ∷ 0x20 ∷ 0x33 ∷ 0x0A
     ∷ 0x32 ∷ 0x20 ∷ 0x31 ∷ 0x20 ∷ 0x43 ∷ 0x20 ∷ 0x36 ∷ 0x0A
-    ∷ 0x65 ∷ 0x64 ∷ 0x67 ∷ 0x65 ∷ 0x73 ∷ 0x20 ∷ 0x33 ∷ 0x0A ∷ [])
+    ∷ 0x65 ∷ 0x64 ∷ 0x67 ∷ 0x65 ∷ 0x73 ∷ 0x20 ∷ 0x33 ∷ 0x0A
+    ∷ 0x73 ∷ 0x74 ∷ 0x61 ∷ 0x6E ∷ 0x64 ∷ 0x69 ∷ 0x6E ∷ 0x73 ∷ 0x20 ∷ 0x36 ∷ 0x0A ∷ [])
 unfolding listing
 contours-printed = refl
 
@@ -331,5 +356,5 @@ unfolding decimal
 decimals = (refl, refl)
 
 pub refused-11 : refusalLine 11 ≡ (0x72 ∷ 0x65 ∷ 0x66 ∷ 0x75 ∷ 0x73 ∷ 0x65 ∷ 0x64 ∷ 0x20 ∷ 0x31 ∷ 0x31 ∷ 0x0A ∷ [])
-unfolding refusalLine
+unfolding wordLine
 refused-11 = refl

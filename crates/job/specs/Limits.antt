@@ -16,6 +16,6 @@ maxFile = 33177
 abbrev pub decidingBytes : ℕ
 decidingBytes = 34000
 
--- bytes of a text: 508 lines of 11, and the last one of 10
+-- bytes of a text: 508 lines of 11, one of 10 and the last one of 13
 abbrev pub maxText : ℕ
-maxText = 5598
+maxText = 5611

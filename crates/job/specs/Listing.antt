@@ -1,5 +1,5 @@
--- The text of an answer (docs/FORMAT.md): a line for each edge of the result, last `edges` and their count; or one line
--- with the refusal's number.
+-- The text of an answer (docs/FORMAT.md): a line for each edge of the result, then `edges` and their count, last
+-- `standins` and how many stand-ins the outline has; or one line with the refusal's number.
 use Prim.Native.Nat.{ℕ, zero, suc, _+_, _/_, _%_, _≤_}
 use mathlib.Core.Path.{_≡_}
 use mathlib.Core.Bool.{true, false}
@@ -8,13 +8,14 @@ use lib.ListN.{length}
 use lib.Dec.{ltb}
 use Rattle.coloring.specs.Refusal.{refusalNumber}
 use Rattle.coloring.specs.Lists.{over, overFrom}
+use Rattle.coloring.specs.Corners.{findCorners}
 use Rattle.coloring.specs.Outline.{kindStored}
 use Rattle.coloring.specs.Answers.{Answer, gives, refusal, inOrder}
 use Rattle.coloring.specs.Fill.{FillOutcome, fill}
 use Rattle.job.specs.declared.listing.Listed.{Listed}
 use Rattle.job.specs.declared.listing.Listed.the-variants.{Bytes, Refused}
 use Rattle.job.specs.Job.{Job, Reading, readJob}
-use Rattle.job.specs.Color.{checkJob, coloredEdges, edgeColors}
+use Rattle.job.specs.Color.{cornersIn, checkJob, coloredEdges, edgeColors}
 
 -- ---- numbers and letters
 
@@ -44,9 +45,12 @@ space = 0x20
 abbrev pub newline : ℕ
 newline = 0x0A
 
--- "edges " and "refused "
+-- "edges ", "standins " and "refused "
 abbrev pub edgesWord : List ℕ
 edgesWord = 0x65 ∷ 0x64 ∷ 0x67 ∷ 0x65 ∷ 0x73 ∷ space ∷ []
+
+abbrev pub standInsWord : List ℕ
+standInsWord = 0x73 ∷ 0x74 ∷ 0x61 ∷ 0x6E ∷ 0x64 ∷ 0x69 ∷ 0x6E ∷ 0x73 ∷ space ∷ []
 
 abbrev pub refusedWord : List ℕ
 refusedWord = 0x72 ∷ 0x65 ∷ 0x66 ∷ 0x75 ∷ 0x73 ∷ 0x65 ∷ 0x64 ∷ space ∷ []
@@ -72,28 +76,28 @@ shapeLines contour [] colors = []
 shapeLines contour (kinds ∷ shape) [] = []
 shapeLines contour (kinds ∷ shape) (here ∷ colors) = contourLines contour 0 kinds here ++ shapeLines (suc contour) shape colors
 
-unfoldable pub countLine : ℕ → List ℕ
+-- a word and a number
+unfoldable pub wordLine : List ℕ → ℕ → List ℕ
 unfolding decimal
-countLine edges = edgesWord ++ (decimal edges ++ (newline ∷ []))
+wordLine word n = word ++ (decimal n ++ (newline ∷ []))
 
--- a coloured shape: the kinds of its edges, contour by contour, and their colours
-unfoldable pub listing : List (List ℕ) → List (List ℕ) → List ℕ
-unfolding flatten shapeLines countLine
-listing kinds colors = shapeLines 0 kinds colors ++ countLine (length (flatten kinds))
+-- a coloured shape: the kinds of its edges, contour by contour, and their colours; and the stand-ins of its outline
+unfoldable pub listing : List (List ℕ) → List (List ℕ) → ℕ → List ℕ
+unfolding flatten shapeLines wordLine
+listing kinds colors standIns = shapeLines 0 kinds colors ++ (wordLine edgesWord (length (flatten kinds)) ++ wordLine standInsWord standIns)
 
-unfoldable pub refusalLine : ℕ → List ℕ
-unfolding decimal
-refusalLine number = refusedWord ++ (decimal number ++ (newline ∷ []))
+abbrev pub refusalLine : ℕ → List ℕ
+refusalLine number = wordLine refusedWord number
 
 -- ---- a file
 
 -- the coloured shape of a job
 abbrev pub jobText : Job → List ℕ
-jobText job = listing (map (map kindStored) (coloredEdges job)) (edgeColors job)
+jobText job = listing (map (map kindStored) (coloredEdges job)) (edgeColors job) (cornersIn job .standIns)
 
 -- its listing where the checks pass, else the refusal
 unfoldable pub readingText : Reading → List ℕ
-unfolding inOrder checkJob coloredEdges edgeColors listing refusalLine
+unfolding inOrder findCorners checkJob coloredEdges edgeColors listing wordLine
 readingText (gives job) = inOrder (checkJob job) refusalLine (jobText job)
 readingText (refusal number) = refusalLine number
 
@@ -103,7 +107,7 @@ unfolding readJob readingText
 fileText file = readingText (readJob file)
 
 -- the text over what stood there, and its length; 11 where it would not fit
-unfoldable pub listFile : List ℕ → List ℕ → FillOutcome ℕ
+unfoldable pub listFile : List ℕ → List ℕ → FillOutcome (List ℕ)
 unfolding fileText fill
 listFile file old =
     let text = fileText file in

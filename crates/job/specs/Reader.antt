@@ -2,8 +2,7 @@
 use Prim.Native.Nat.{ℕ}
 use denote.Ref.{now}
 use mathlib.Core.Path.{_≡_}
-use mathlib.Core.Bool.{Bool, true, false, cond}
-use mathlib.Core.List.{List}
+use mathlib.Core.Bool.{true, cond}
 use lib.Ieee.{Float}
 use Rattle.coloring.specs.Answers.{Answer, gives, refusal}
 use Rattle.job.specs.declared.progress.Numbers.{Numbers}

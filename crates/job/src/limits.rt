@@ -10,4 +10,4 @@ pub(crate) const MAX_RESULT_PLACES: usize = 4064;
 pub const DECIDING_BYTES: usize = 34000;
 
 // Bytes of a text.
-pub const MAX_TEXT: usize = 5598;
+pub const MAX_TEXT: usize = 5611;

@@ -15,9 +15,9 @@ ghost use Rattle.coloring.specs.Places.{total};
 ghost use Rattle.coloring.specs.Outline.{cut, result};
 ghost use Rattle.job.specs.Limits.{maxText};
 ghost use Rattle.job.specs.Color.{HoldsResults};
-ghost use Rattle.job.specs.Listing.{digit, decimal, letter, field, edgeLine, contourLines, shapeLines, listing, refusalLine, fileText, listFile};
+ghost use Rattle.job.specs.Listing.{digit, decimal, letter, field, edgeLine, contourLines, shapeLines, wordLine, listing, refusalLine};
 ghost use Rattle.coloring.specs.Fill.{fillOutcome};
-ghost use Rattle.job.specs.Listing.{listedAnswer, Pasted, Printed};
+ghost use Rattle.job.specs.Listing.{fileText, listFile, listedAnswer, Pasted, Printed};
 
 // The answer of a listing: how many bytes were written, or 11.
 pub enum Listed {
@@ -138,18 +138,33 @@ fn put_word(out: &mut [u8], at: usize, word: &[u8]) -> usize
     next
 }
 
-// The text of a coloured shape, from the start of the buffer; how many bytes.
-fn write_listing(lengths: &[u16], kinds: &[u8], colors: &[u8], out: &mut [u8]) -> usize
-    requires { ⌜ (length (now lengths) < 1000) × (length (now kinds) < 1000)
+// A word and a number.
+fn put_word_line(out: &mut [u8], at: usize, word: &[u8], n: usize) -> usize
+    requires { ⌜ (n < 1000) × (at + length (wordLine (now word) n) ≤ length (now out)) ⌝ }
+    ensures { λ r. ⌜ Pasted (wordLine (now (word .entry)) n) at (now (out .entry)) r (now (out .exit)) ⌝ }
+{
+    let next = put_word(out, at, word);
+    put_field(out, next, n, b'\n')
+}
+
+// The text of a coloured shape and of the stand-ins of its outline, from the start of the buffer; how many bytes.
+fn write_listing(
+    lengths: &[u16],
+    kinds: &[u8],
+    colors: &[u8],
+    stand_ins: usize,
+    out: &mut [u8],
+) -> usize
+    requires { ⌜ (length (now lengths) < 1000) × (length (now kinds) < 1000) × («stand_ins» < 1000)
         × (total (now lengths) ≡ length (now kinds)) × (length (now colors) ≡ length (now kinds)) ⌝ }
-    requires { ⌜ length (listing (cut (now lengths) (now kinds)) (cut (now lengths) (now colors))) ≤ length (now out) ⌝ }
+    requires { ⌜ length (listing (cut (now lengths) (now kinds)) (cut (now lengths) (now colors)) «stand_ins») ≤ length (now out) ⌝ }
     ensures { λ r. ⌜ Pasted
-        (listing (cut (now (lengths .entry)) (now (kinds .entry))) (cut (now (lengths .entry)) (now (colors .entry))))
+        (listing (cut (now (lengths .entry)) (now (kinds .entry))) (cut (now (lengths .entry)) (now (colors .entry))) «stand_ins»)
         0 (now (out .entry)) r (now (out .exit)) ⌝ }
 {
     let lines = put_shape(out, 0, lengths, kinds, colors);
-    let word = put_word(out, lines, b"edges ");
-    put_field(out, word, kinds.len(), b'\n')
+    let counted = put_word_line(out, lines, b"edges ", kinds.len());
+    put_word_line(out, counted, b"standins ", stand_ins)
 }
 
 // The text of a refusal, from the start of the buffer; how many bytes.
@@ -157,8 +172,7 @@ fn write_refusal(refusal: Refusal, out: &mut [u8]) -> usize
     requires { ⌜ length (refusalLine (refusalNumber refusal)) ≤ length (now out) ⌝ }
     ensures { λ r. ⌜ Pasted (refusalLine (refusalNumber refusal)) 0 (now (out .entry)) r (now (out .exit)) ⌝ }
 {
-    let word = put_word(out, 0, b"refused ");
-    put_field(out, word, refusal.number() as usize, b'\n')
+    put_word_line(out, 0, b"refused ", refusal.number() as usize)
 }
 
 // The text of a file's answer, with places for its coloured shape.
@@ -182,6 +196,7 @@ fn write_answer(
                 &lengths[..contours],
                 &kinds[..edges],
                 &colors[..edges],
+                counts.stand_ins,
                 text,
             )
         }
@@ -209,7 +224,7 @@ pub fn text(file: &[u8], out: &mut [u8; MAX_TEXT]) -> usize
 
 // Reads a file, colours its job and lists it: how many bytes of text, which stand at the buffer's start; or 11 where
 // they do not fit, and the buffer is as it came. A file that is refused has a text too, one line. No text is longer
-// than 5,598 bytes.
+// than 5,611 bytes.
 pub fn listing(file: &[u8], out: &mut [u8]) -> Listed
     ensures { λ r. ⌜ fillOutcome (listedAnswer r) (now (out .exit)) ≡ listFile (now (file .entry)) (now (out .entry)) ⌝ }
 {

@@ -1,9 +1,10 @@
 -- What the functions of math/vector2.rs give, in IEEE 754's binary64, each operation rounded once and in the source's
 -- order. Each definition has its function's name; the source's operators have plain ones.
-use mathlib.Core.Bool.{Bool, cond, _&&_, _||_}
+use mathlib.Core.Bool.{Bool, true, false, cond, _&&_, _||_}
 use lib.Ieee as Ieee
 use lib.Ieee.{Float, binary64}
 use Rattle.math.specs.declared.vector2.Vector2.{Vector2}
+use Rattle.math.specs.declared.vector2.Normalized.{Normalized}
 use Rattle.math.specs.Scalar.{f0, f1}
 use Rattle.math.specs.Sqrt.{sqrtOf}
 
@@ -70,11 +71,14 @@ lengthOf v = sqrtOf (squaredLength v)
 
 -- ---- directions
 
--- v by its length. Of length 0 it is (0, 0) or, where that is not allowed, (0, 1)
-unfoldable pub normalize : Vector2 → Bool → Vector2
+abbrev pub normalized : Vector2 → Bool → Normalized
+normalized v zeroLength = record { vector = v; «zero_length» = zeroLength }
+
+-- v by its length. Of length 0 it is (0, 0) or, where that is not allowed, (0, 1): a stand-in
+unfoldable pub normalize : Vector2 → Bool → Normalized
 normalize v allowZero =
     let len = lengthOf v in
-    cond (Ieee.ne len f0) (divScalar v len) (new f0 (cond allowZero f0 f1))
+    cond (Ieee.ne len f0) (normalized (divScalar v len) false) (normalized (new f0 (cond allowZero f0 f1)) true)
 
 unfoldable pub orthogonal : Vector2 → Bool → Vector2
 orthogonal v polarity = cond polarity (new (Ieee.neg (v .y)) (v .x)) (new (v .y) (Ieee.neg (v .x)))

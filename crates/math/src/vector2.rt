@@ -11,6 +11,12 @@ pub struct Vector2 {
     pub y: f64,
 }
 
+// A vector by its length, and whether that was 0, so that another stands in for it.
+pub struct Normalized {
+    pub vector: Vector2,
+    pub zero_length: bool,
+}
+
 impl Vector2 {
     // The source's constant ZERO.
     pub fn zero() -> Vector2
@@ -45,21 +51,25 @@ impl Vector2 {
         sqrt_near(self.squared_length(), self.x + self.y)
     }
 
-    // The vector divided by its length. Of length 0 it is (0, 0) where `allow_zero` is true, else (0, 1).
-    pub fn normalize(self, allow_zero: bool) -> Vector2
+    // The vector divided by its length. Of length 0 it is (0, 0) where `allow_zero` is true, else (0, 1), and the
+    // answer says so.
+    pub fn normalize(self, allow_zero: bool) -> Normalized
         ensures { λ r. ⌜ r ≡ normalize self «allow_zero» ⌝ }
     {
         let len = self.length();
         if len != 0.0 {
-            return Vector2 {
-                x: self.x / len,
-                y: self.y / len,
+            return Normalized {
+                vector: Vector2 {
+                    x: self.x / len,
+                    y: self.y / len,
+                },
+                zero_length: false,
             };
         }
-        if allow_zero {
-            Vector2 { x: 0.0, y: 0.0 }
-        } else {
-            Vector2 { x: 0.0, y: 1.0 }
+        let y = if allow_zero { 0.0 } else { 1.0 };
+        Normalized {
+            vector: Vector2 { x: 0.0, y },
+            zero_length: true,
         }
     }
 

@@ -8,6 +8,7 @@ use geometry::edge_color::EdgeColor;
 use geometry::edge_segment::Decoded;
 use geometry::edge_segment::EdgeSegment;
 use geometry::edge_segment::Thirds;
+use math::vector2::Normalized;
 use math::vector2::Vector2;
 
 // The inputs of the record at the start of s.
@@ -42,6 +43,11 @@ fn is_vector(s: &[u8], v: Vector2) -> bool {
     same(v.x, word(s, 96)) && same(v.y, word(s, 104))
 }
 
+// The number is 1 where the length was 0.
+fn is_direction(s: &[u8], d: Normalized) -> bool {
+    is_flag(s, d.zero_length) && is_vector(s, d.vector)
+}
+
 fn are_places(s: &[u8], p: [f64; 8]) -> bool {
     let first = same(p[0], word(s, 96)) && same(p[1], word(s, 104));
     let second = same(p[2], word(s, 112)) && same(p[3], word(s, 120));
@@ -72,7 +78,7 @@ fn edges(s: &[u8], f: u64, e: EdgeSegment) -> bool {
     let t = number(s, 80);
     match f {
         32 => is_third(s, e.split_in_thirds()),
-        33 => is_vector(s, e.direction(t).normalize(false)),
+        33 => is_direction(s, e.direction(t).normalize(false)),
         34 => is_vector(s, e.direction(t)),
         35 => is_vector(s, e.point(t)),
         39 => is_number(s, e.order() as u64),

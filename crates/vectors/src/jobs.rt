@@ -55,8 +55,8 @@ fn are_parts(file: &[u8], s: &[u8]) -> bool {
 
 // Whether the listing of a file is s, and what stood beyond it is still there.
 fn is_listing(file: &[u8], s: &[u8]) -> bool {
-    let mut text = [BYTE; 5606];
-    let mut expected = [BYTE; 5606];
+    let mut text = [BYTE; 5619];
+    let mut expected = [BYTE; 5619];
     load(s, &mut expected);
     if merelsplum_job_listing(file, &mut text) != s.len() as u64 {
         return false;
@@ -66,7 +66,7 @@ fn is_listing(file: &[u8], s: &[u8]) -> bool {
 
 pub(crate) fn is_right(s: &[u8]) -> bool {
     let n = size(s, 16, 65536);
-    let m = size(s, 24, 5598);
+    let m = size(s, 24, 5611);
     let contours = size(s, 32, 300);
     let from = 48 + 16 * contours;
     let file = part(s, from, n);

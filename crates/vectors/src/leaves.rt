@@ -66,10 +66,11 @@ fn vectors_of_one(s: &[u8], f: u64) -> bool {
         10 => is_vector(s, Vector2::splat(number(s, 8))),
         11 => is_number(s, v.squared_length()),
         12 => is_number(s, v.length()),
-        13 => is_vector(s, v.normalize(flag(s, 24))),
+        13 => is_vector(s, v.normalize(flag(s, 24)).vector),
         14 => is_vector(s, v.orthogonal(flag(s, 24))),
         15 => is_vector(s, v.orthonormal(flag(s, 24), flag(s, 32))),
-        _ => is_flag(s, v.is_nonzero()),
+        16 => is_flag(s, v.is_nonzero()),
+        _ => is_flag(s, v.normalize(flag(s, 24)).zero_length),
     }
 }
 
@@ -96,8 +97,8 @@ pub(crate) fn is_right(s: &[u8], f: u64) -> bool {
     if f < 8 {
         return roots_and_scalars(s, f);
     }
-    if f < 17 {
-        return vectors_of_one(s, f);
+    match f {
+        8 | 9 | 10 | 11 | 12 | 13 | 14 | 15 | 16 | 28 => vectors_of_one(s, f),
+        _ => operators(s, f),
     }
-    operators(s, f)
 }

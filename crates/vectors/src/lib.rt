@@ -1,5 +1,5 @@
 // Recorded calls of the library, and whether it answers as recorded. A record begins with the number of a function:
-// 0 to 27 are those of math, 32 to 46 those of geometry, 64 a run of offers to a spline table, 65 to 68 the colourings,
+// 0 to 28 are those of math, 32 to 46 those of geometry, 64 a run of offers to a spline table, 65 to 68 the colourings,
 // 69 a job file that is checked, listed and parted, 70 one that is read, 71 one that is coloured, 72 the directions of
 // an outline. Numbers are words of eight bytes, the lowest byte first. The program `replay` reads records; the
 // comparison with the Rust makes them one by one.
@@ -43,7 +43,7 @@ pub fn record_bytes(s: &[u8]) -> u64
 fn is_known(f: u64) -> bool
     ensures { λ r. ⌜ r ≡ known f ⌝ }
 {
-    (f < 28) | ((32 <= f) & (f < 47)) | ((64 <= f) & (f < 73))
+    (f < 29) | ((32 <= f) & (f < 47)) | ((64 <= f) & (f < 73))
 }
 
 // Whether s is a record, and nothing else.

@@ -3,7 +3,8 @@
 // and of colours the result buffers have, the answer, where the result begins); what goes in: lengths, kinds, point
 // places, distances; and the result: lengths, kinds, colours, point places. A length is a word. Of the colouring of a
 // job file (71) the threshold's word has the bytes of the file, and what goes in is the file. The directions of an
-// outline (72) go to the buffer of point places, four an edge, and are the whole result.
+// outline (72) go to the buffer of point places, four an edge, and the marks of stand-ins to that of colours, two an
+// edge; they are the whole result.
 use crate::words::load;
 use crate::words::number;
 use crate::words::part;
@@ -131,7 +132,7 @@ fn call(
         );
     }
     if f == 72 {
-        return merelsplum_edge_directions(lengths, kinds, points, out_points);
+        return merelsplum_edge_directions(lengths, kinds, points, out_points, out_colors);
     }
     merelsplum_edge_coloring_by_distance(
         lengths,
@@ -307,19 +308,20 @@ pub(crate) fn is_bytes(s: &[u8], bytes: &[u8]) -> bool {
     check::same(bytes, &expected)
 }
 
-// Whether four buffers hold the result of l contours, n edges and p point places at the place at of s.
+// Whether four buffers hold the result of l contours, n kinds, m colours and p point places at the place at of s.
 fn is_result(
     s: &[u8],
     at: usize,
     l: usize,
     n: usize,
+    m: usize,
     p: usize,
     lengths: &[u16],
     kinds: &[u8],
     points: &[f64],
     colors: &[u8],
 ) -> bool
-    requires { ⌜ (at ≤ 300000) × (l ≤ 80) × (n ≤ 540) × (p ≤ 4320) ⌝ }
+    requires { ⌜ (at ≤ 300000) × (l ≤ 80) × (n ≤ 540) × (m ≤ 1080) × (p ≤ 4320) ⌝ }
     requires { ⌜ (length (now lengths) ≤ 4100) × (length (now points) ≤ 4100) ⌝ }
 {
     let from = at + 8 * l;
@@ -329,18 +331,22 @@ fn is_result(
     if !is_bytes(part(s, from, n), kinds) {
         return false;
     }
-    if !is_bytes(part(s, from + n, n), colors) {
+    if !is_bytes(part(s, from + n, m), colors) {
         return false;
     }
-    is_points(part(s, from + 2 * n, 8 * p), points)
+    is_points(part(s, from + n + m, 8 * p), points)
 }
 
-// The contours, the edges and the point places of the result that the record at the start of s has: none where the call
-// is refused. Directions alone are point places, four an edge.
+fn is_refusal(answer: u64) -> bool {
+    answer / 4294967296 == 1
+}
+
+// The contours, the kinds, the colours and the point places of the result that the record at the start of s has: none
+// where the call is refused. Directions have colours, two an edge, and point places, four an edge.
 fn contours(s: &[u8]) -> usize
     ensures { λ r. ⌜ r ≤ 80 ⌝ }
 {
-    if 4294967296 <= word(s, 88) {
+    if is_refusal(word(s, 88)) {
         return 0;
     }
     if word(s, 0) == 72 {
@@ -352,7 +358,7 @@ fn contours(s: &[u8]) -> usize
 fn answered(s: &[u8]) -> usize
     ensures { λ r. ⌜ r ≤ 540 ⌝ }
 {
-    if 4294967296 <= word(s, 88) {
+    if is_refusal(word(s, 88)) {
         return 0;
     }
     within((word(s, 88) % 65536) as usize, 540)
@@ -363,6 +369,15 @@ fn edges(s: &[u8]) -> usize
 {
     if word(s, 0) == 72 {
         return 0;
+    }
+    answered(s)
+}
+
+fn marks(s: &[u8]) -> usize
+    ensures { λ r. ⌜ r ≤ 1080 ⌝ }
+{
+    if word(s, 0) == 72 {
+        return 2 * answered(s);
     }
     answered(s)
 }
@@ -390,6 +405,7 @@ pub(crate) fn is_right(s: &[u8]) -> bool {
         size(s, 96, 300000),
         contours(s),
         edges(s),
+        marks(s),
         places(s),
         &lengths,
         &kinds,

@@ -114,7 +114,7 @@ module _ (lengths : List ℕ) (xs : List EdgeSegment) (flags : List Bool) (count
   counted-sized middle values =
       rw (cornered-length lengths xs flags, edges-counted, ← counted .contours-are) at (painted-sized found found-flagged middle values)
 
-  pub counts-laid : counts ≡ countsOf laid
+  pub counts-laid : counts ≡ countsOf laid (counts .«stand_ins»)
   unfolding countsOf painted encode
   counts-laid =
       let s = counted-sized 0 [] in
@@ -159,10 +159,10 @@ module _ (lengths : List ℕ) (xs : List EdgeSegment) (flags : List Bool) (count
         → middle' ≡ middle → bytes ≡ flatten (paintContours middle' values (cut (take (counts .contours) outLengths) (take (counts .edges) outFlags)))
         → colors ≡ bytes ++ drop (counts .edges) colors₀
         → outcome (gives counts) (result outLengths outKinds outPoints colors)
-        ≡ deliver [] (countsOf laid) (painted middle values laid) (result lengths₀ kinds₀ points₀ colors₀)
+        ≡ deliver [] (countsOf laid (counts .«stand_ins»)) (painted middle values laid) (result lengths₀ kinds₀ points₀ colors₀)
     unfolding delivered painted encode over
     painted-delivered middle values colors₀ fit middle-is bytes-are colors-are =
         let bytes = paintContours middle values (flagsIn laid) in
         let long : length (flatten bytes) ≡ counts .edges = counted-sized middle values .colors-long in
-        rw (deliver-fits (countsOf laid) (painted middle values laid) (result lengths₀ kinds₀ points₀ colors₀) fit)
+        rw (deliver-fits (countsOf laid (counts .«stand_ins»)) (painted middle values laid) (result lengths₀ kinds₀ points₀ colors₀) fit)
         (rw (colors-are, bytes-are, middle-is, front-contours, out .lengths-are, out .kinds-are, out .points-are, long, ← counts-laid))

@@ -27,8 +27,8 @@ use Rattle.job.specs.Job.{thresholdOf, Job, Reading, readJob}
 use Rattle.job.specs.Progress.{numbersOf, answerOf}
 use Rattle.job.specs.Buffers.{Buffers, storedJob}
 use Rattle.job.specs.Reader.{readInto}
-use Rattle.job.specs.Color.{byStrategy, laidIn, checkJob, checkReading, checkFile, acceptReading}
-use Rattle.job.specs.Color.{acceptJob, accepted, paired, outlineOf, AsksDistances, HoldsJobs, HoldsResults}
+use Rattle.job.specs.Color.{byStrategy, laidIn, jobCounts, checkJob, checkReading, checkFile, acceptReading}
+use Rattle.job.specs.Color.{acceptJob, accepted, paired, outlineOf, HoldsJobs, HoldsResults}
 use Rattle.job.proofs.progress.ProgressLaws.{job-sound, contours-few, edges-few}
 use Rattle.job.proofs.reader.DeliverLaws.{As-job}
 use Rattle.job.proofs.color.ColorLaws.{Holding, held-outline, held-is-outline, collected, job-room}
@@ -51,7 +51,7 @@ pairs-checked splines ds counts written old e few valid room = go (leb splines m
     go false h = rw h
 
 checked-by-distance : (file : List ℕ) (job : Job) → readJob file ≡ gives job → job .header .strategy ≡ ByDistance
-    → checkFile file ≡ inOrder (checkSplines (splineTotal (laidIn job)) (job .distances)) refusal (gives (countsOf (laidIn job)))
+    → checkFile file ≡ inOrder (checkSplines (splineTotal (laidIn job)) (job .distances)) refusal (gives (jobCounts job))
 unfolding checkFile checkReading checkJob
 checked-by-distance file job e by = rw (e, by)
 
@@ -82,7 +82,7 @@ accept-edges (gives job) n counts told e = go (firstRefusal (checkJob job)) refl
   where
     go : (found : Answer Unit) → firstRefusal (checkJob job) ≡ found → gives n ≡ answerOf (inOrder (checkJob job) refusal (gives job))
     go (gives u) passed = rw (all-passed (checkJob job) refusal (gives job) passed) told
-    go (refusal number) failed = let no = e ∙ one-failed (checkJob job) refusal (gives (countsOf (laidIn job))) failed in cc
+    go (refusal number) failed = let no = e ∙ one-failed (checkJob job) refusal (gives (jobCounts job)) failed in cc
 
 pub accept-refused : (reading : Reading) (number : ℕ) → refusal number ≡ checkReading reading → refusal number ≡ answerOf (acceptReading reading)
 unfolding acceptReading checkReading
@@ -90,9 +90,9 @@ accept-refused (refusal other) number e = cc
 accept-refused (gives job) number e = go (firstRefusal (checkJob job)) refl
   where
     go : (found : Answer Unit) → firstRefusal (checkJob job) ≡ found → refusal number ≡ answerOf (inOrder (checkJob job) refusal (gives job))
-    go (gives u) passed = let no = e ∙ all-passed (checkJob job) refusal (gives (countsOf (laidIn job))) passed in cc
+    go (gives u) passed = let no = e ∙ all-passed (checkJob job) refusal (gives (jobCounts job)) passed in cc
     go (refusal other) failed =
-        let same = e ∙ one-failed (checkJob job) refusal (gives (countsOf (laidIn job))) failed in
+        let same = e ∙ one-failed (checkJob job) refusal (gives (jobCounts job)) failed in
         rw (one-failed (checkJob job) refusal (gives job) failed) (cc)
 
 -- a job without distances has nothing left to check

@@ -1,31 +1,28 @@
 -- A job that was read passes the checks of an outline, and its buffers hold its contours: so colouring the buffers is
 -- colouring the job.
 use mathlib.Core.Path.{_≡_, refl, sym, ap, _∙_}
-use mathlib.Core.Bool.{Bool, true, false, cond, _&&_}
+use mathlib.Core.Bool.{Bool, true, false, _&&_}
 use mathlib.Core.List.{List, [], _∷_, map, map-append, flatten}
-use Prim.Native.Nat.{ℕ, _-_, _*_, _/_, _≤_}
+use Prim.Native.Nat.{ℕ, _-_, _*_, _≤_}
 use native.Mathlib.Omega.{arith}
 use lib.Dec.{leb}
 use lib.Ieee.{Float}
 use lib.ListN.{length, take, drop, length-append, length-map}
-use lib.Seq.{take-at, drop-at}
+use lib.Seq.{take-at}
 use borrow.Author.Tests.{le-leb, eq-eqb}
 use Rattle.geometry.specs.EdgeSegment.{toStored, fromStored}
 use Rattle.geometry.specs.declared.edge_segment.EdgeSegment.{EdgeSegment}
 use Rattle.geometry.specs.declared.edge_segment.EdgeSegment.the-variants as segment
-use Rattle.coloring.specs.PairOrder.{distancesValid}
 use Rattle.coloring.specs.Limits.{maxContours, maxEdges, maxSplines, maxDistances}
 use Rattle.coloring.specs.Lists.{all, over}
-use Rattle.coloring.specs.declared.outline.Counts.{Counts}
 use Rattle.coloring.specs.declared.settings.Strategy.the-variants.{Simple, InkTrap}
 use Rattle.coloring.specs.declared.settings.Marking.{Marking}
 use Rattle.coloring.specs.declared.settings.Marking.the-variants.{Colors, Numbers, Distances}
-use Rattle.coloring.specs.Corners.{searchCorners}
-use Rattle.coloring.specs.Values.{splineValues, middleValue, checkMarking}
+use Rattle.coloring.specs.Values.{splineValues, middleValue}
 use Rattle.coloring.specs.Splines.{splineTotal}
 use Rattle.coloring.specs.Outline as outline
 use Rattle.coloring.specs.Outline.{Outline, Result, Outcome, outcome, edgeStored, contours, knownKind, coordinatesFit, check, deliver}
-use Rattle.coloring.specs.Shape.{painted, countsOf, deliverFound}
+use Rattle.coloring.specs.Shape.{painted, deliverFound}
 use Rattle.coloring.specs.Sizes.{sizes, cut-again, flatten-length, points-length}
 use Rattle.coloring.specs.EdgeColoring.{edgeColoring, collectSplines}
 use Rattle.coloring.specs.DeliverLaws.{found-passed}
@@ -37,7 +34,7 @@ use Rattle.job.specs.Job.{thresholdOf, Job, readJob}
 use Rattle.job.specs.Progress.{edgeCount, numbersOf, answerOf}
 use Rattle.job.specs.Buffers.{Buffers, buffers, kindsStored, pointsStored, storedJob, overEach, roomFor, hasRoom, Hold}
 use Rattle.job.specs.Reader.{Fits, filled}
-use Rattle.job.specs.Color.{byStrategy, laidIn, checkJob, coloredEdges, edgeColors, colored, colorJob}
+use Rattle.job.specs.Color.{byStrategy, cornersIn, laidIn, jobCounts, checkJob, coloredEdges, edgeColors, colored, colorJob}
 use Rattle.job.specs.Color.{colorReading, colorFile, outlineOf, colorStored, HoldsJobs}
 use Rattle.job.proofs.records.ReadingLaws.{edgeFits}
 use Rattle.job.proofs.progress.ProgressLaws.{Sound, job-sound, contours-few, edges-few}
@@ -112,7 +109,7 @@ module _ (job : Job) (so : Sound job) (contours-fit : length (job .contours) ≤
   module _ (old : Result) where
     -- by a marking, and with distances or without
     abbrev marked : Marking → List Float → Outcome
-    marked marking distances = deliverFound [] marking distances (map (searchCorners (thresholdOf (job .header))) (job .contours)) old
+    marked marking distances = deliverFound [] marking distances (cornersIn job) old
 
     abbrev colored-by : Marking → List Float → Outcome
     colored-by marking distances = edgeColoring (record { marking = marking; threshold = thresholdOf (job .header) }) (outlineOf (storedJob job)) distances old
@@ -122,14 +119,14 @@ module _ (job : Job) (so : Sound job) (contours-fit : length (job .contours) ≤
     by-marking marking distances few =
         let checks = unless 4 (leb (length distances) maxDistances) ∷ check (outlineOf (storedJob job)) (thresholdOf (job .header)) in
         let all : firstRefusal checks ≡ allPass = rw (le-leb (length distances) maxDistances few) passes in
-        rw (contours-again job) (found-passed marking distances (map (searchCorners (thresholdOf (job .header))) (job .contours)) old checks all)
+        rw (contours-again job) (found-passed marking distances (cornersIn job) old checks all)
 
     without : (marking : Marking) → colored-by marking [] ≡ marked marking []
     without marking = by-marking marking [] (omega arith)
 
     -- collecting its splines counts the edges and splines of its result
     pub collected : collectSplines (outlineOf (storedJob job)) (thresholdOf (job .header)) old
-        ≡ deliver (unless 4 (leb (splineTotal (laidIn job)) maxSplines) ∷ []) (countsOf (laidIn job)) (numbered job) old
+        ≡ deliver (unless 4 (leb (splineTotal (laidIn job)) maxSplines) ∷ []) (jobCounts job) (numbered job) old
     unfolding laidIn
     collected = without Numbers
 

@@ -16,30 +16,30 @@ use Rattle.coloring.specs.declared.settings.Marking.{Marking}
 use Rattle.coloring.specs.declared.settings.Marking.the-variants.{Colors, Numbers, Distances}
 use Rattle.coloring.specs.Places.{total}
 use Rattle.coloring.specs.Switching.{initColor}
-use Rattle.coloring.specs.Corners.{Cornered, searchCorners, edgesIn, flagsIn}
+use Rattle.coloring.specs.Corners.{Cornered, findCorners, edgesIn, flagsIn, few-in-all}
 use Rattle.coloring.specs.Layout.{layout}
 use Rattle.coloring.specs.Splines.{splineTotal, paintContours}
 use Rattle.coloring.specs.Values.{shapeColors, splineColor, splineValues, middleValue}
-use Rattle.coloring.specs.Sizes.{sizes, flatten-length, flags-length, Flagged, search-flagged, laid-sizes, edges-most, Sized, encoded-sized, painted-sizes}
+use Rattle.coloring.specs.Sizes.{sizes, flatten-length, found-sizes, Flagged, search-flagged, laid-sizes, edges-most, Sized, encoded-sized, painted-sizes}
 use Rattle.coloring.specs.PaintLaws.{contours-map}
 use Rattle.coloring.specs.Shape.{painted}
-use Rattle.coloring.specs.Limits.{maxContours, maxResultEdges}
+use Rattle.coloring.specs.Limits.{maxContours, maxResultEdges, maxStandIns}
 use Rattle.coloring.specs.Answers.{gives}
 use Rattle.job.specs.declared.records.Strategy as strategies
 use Rattle.job.specs.declared.records.Strategy.the-variants as by
 use Rattle.job.specs.Job.{thresholdOf, Job, readJob}
 use Rattle.job.specs.Progress.{edgeCount}
-use Rattle.job.specs.Color.{byStrategy, laidIn, coloredEdges, edgeColors, colored}
+use Rattle.job.specs.Color.{byStrategy, cornersIn, laidIn, coloredEdges, edgeColors, colored}
 use Rattle.job.proofs.progress.ProgressLaws.{contours-few, edges-few}
 use Rattle.job.proofs.color.ColorLaws.{numbered}
 use Rattle.job.proofs.listing.ListingLaws.{AreColors, EachColors}
 
 -- ---- edges in
 
-flags-in : (threshold : Float) (contours : List (List EdgeSegment)) → sizes (flagsIn (map (searchCorners threshold) contours)) ≡ sizes contours
-unfolding searchCorners
-flags-in threshold [] = refl
-flags-in threshold (c ∷ contours) = rw (flags-length threshold c, flags-in threshold contours)
+found-length : (threshold : Float) (contours : List (List EdgeSegment)) → length (findCorners threshold contours .contours) ≡ length contours
+unfolding findCorners
+found-length threshold [] = refl
+found-length threshold (c ∷ contours) = ap suc (found-length threshold contours)
 
 -- ---- colours
 
@@ -58,6 +58,7 @@ colors-each color (xs ∷ xss) (suc i) = colors-each color xss i
 pub record ShapeOf (job : Job) : Type 0 where
   pub contours-fit : length (coloredEdges job) ≤ maxContours
   pub edges-fit : length (flatten (coloredEdges job)) ≤ maxResultEdges
+  pub stand-ins-fit : cornersIn job .standIns ≤ maxStandIns
   pub marked : sizes (edgeColors job) ≡ sizes (coloredEdges job)
   pub are-colors : EachColors (edgeColors job)
   pub sized : Sized (colored job) (length (coloredEdges job)) (length (flatten (coloredEdges job)))
@@ -65,7 +66,7 @@ pub record ShapeOf (job : Job) : Type 0 where
 
 module _ (job : Job) where
   abbrev found : List Cornered
-  found = map (searchCorners (thresholdOf (job .header))) (job .contours)
+  found = cornersIn job .contours
 
   found-flagged : Flagged found
   found-flagged = search-flagged (thresholdOf (job .header)) (job .contours)
@@ -120,16 +121,16 @@ module _ (job : Job) where
 
   contours-kept : length (coloredEdges job) ≡ length (job .contours)
   unfolding coloredEdges laidIn
-  contours-kept = length-map (map layout found) _ ∙ length-map found layout ∙ length-map (job .contours) (searchCorners (thresholdOf (job .header)))
+  contours-kept = length-map (map layout found) _ ∙ length-map found layout ∙ found-length (thresholdOf (job .header)) (job .contours)
 
   module _ (file : List ℕ) (e : readJob file ≡ gives job) where
     out-few : length (flatten (coloredEdges job)) ≤ maxResultEdges
     unfolding coloredEdges laidIn
     out-few =
         let edges : total (sizes (flagsIn found)) ≡ edgeCount (job .contours) =
-        ap total (flags-in (thresholdOf (job .header)) (job .contours)) ∙ sym (flatten-length (job .contours)) in
+        ap total (found-sizes (thresholdOf (job .header)) (job .contours)) ∙ sym (flatten-length (job .contours)) in
         let contours : length (flagsIn found) ≡ length (job .contours) =
-        length-map found _ ∙ length-map (job .contours) (searchCorners (thresholdOf (job .header))) in
+        length-map found _ ∙ found-length (thresholdOf (job .header)) (job .contours) in
         let most = edges-most (flagsIn found) (omega (arith, contours, contours-few file job e)) (omega (arith, edges, edges-few file job e)) in
         omega (arith, flatten-length (edgesIn (map layout found)), ap total (laid-sizes found found-flagged), most)
 
@@ -138,6 +139,7 @@ module _ (job : Job) where
     shape-of = record {
       contours-fit = omega (arith, contours-kept, contours-few file job e);
       edges-fit = out-few;
+      stand-ins-fit = omega (arith, few-in-all (thresholdOf (job .header)) (job .contours), edges-few file job e);
       marked = bytes-each;
       are-colors = are-colors-all;
       sized = encoded-sized (coloredEdges job) (edgeColors job) bytes-each;

@@ -1,5 +1,5 @@
 -- The text of an answer: its numbers of up to three digits, and how long it can get.
-use mathlib.Core.Path.{_≡_, refl, ap, _∙_}
+use mathlib.Core.Path.{_≡_, refl, sym, ap, _∙_}
 use mathlib.Core.Bool.{Bool, true, false}
 use mathlib.Core.List.{List, [], _∷_, _++_, append-assoc, flatten}
 use Prim.Native.Nat.{ℕ, zero, suc, _+_, _*_, _/_, _%_, _<_, _≤_}
@@ -11,10 +11,10 @@ use lib.Dec.{leb, ltb}
 use borrow.Author.Tests.{lt-ltb, le-ltb, leb-true, leb-false}
 use Rattle.coloring.specs.Places.{total}
 use Rattle.coloring.specs.Outline.{cut}
-use Rattle.coloring.specs.Limits.{maxContours, maxResultEdges}
+use Rattle.coloring.specs.Limits.{maxContours, maxResultEdges, maxStandIns}
 use Rattle.job.specs.Limits.{maxText}
-use Rattle.job.specs.Listing.{digit, decimal, decimalWithin, letter, space, newline, edgesWord, refusedWord, field, edgeLine, contourLines}
-use Rattle.job.specs.Listing.{shapeLines, countLine, listing, refusalLine}
+use Rattle.job.specs.Listing.{digit, decimal, decimalWithin, letter, space, newline, edgesWord, standInsWord, refusedWord, field}
+use Rattle.job.specs.Listing.{edgeLine, contourLines, shapeLines, wordLine, listing, refusalLine}
 
 -- ---- decimals
 
@@ -114,22 +114,32 @@ shape-few contour (here ∷ kinds) (marked ∷ colors) h k l =
       shape-few (suc contour) kinds colors (omega arith) (omega arith) (λ i. l (suc i)),
     )
 
--- the longest text: 508 lines of 11 bytes, and the count's line of 10
-pub listing-few : (kinds colors : List (List ℕ)) → length kinds ≤ maxContours → length (flatten kinds) ≤ maxResultEdges → EachColors colors
-    → length (listing kinds colors) ≤ maxText
+pub field-length : (n byte : ℕ) → length (field n byte) ≡ length (decimal n) + 1
+field-length n byte = length-append (decimal n) (byte ∷ [])
+
+-- a word, a number and the line's end
+pub word-line-length : (word : List ℕ) (n : ℕ) → length (wordLine word n) ≡ length word + length (field n newline)
+unfolding wordLine
+word-line-length word n = length-append word (field n newline)
+
+-- the longest text: 508 lines of 11 bytes, the line of edges of 10, and that of stand-ins of 13
+pub listing-few : (kinds colors : List (List ℕ)) (standIns : ℕ) → length kinds ≤ maxContours → length (flatten kinds) ≤ maxResultEdges
+    → standIns ≤ maxStandIns → EachColors colors → length (listing kinds colors standIns) ≤ maxText
 unfolding listing
-listing-few kinds colors h k l =
+listing-few kinds colors standIns h k s l =
     let n = length (flatten kinds) in
     omega (
       arith,
-      length-append (shapeLines 0 kinds colors) (countLine n),
+      length-append (shapeLines 0 kinds colors) (wordLine edgesWord n ++ wordLine standInsWord standIns),
+      length-append (wordLine edgesWord n) (wordLine standInsWord standIns),
       shape-few 0 kinds colors (omega arith) (omega arith) l,
-      count-length n,
+      word-line-length edgesWord n,
+      field-length n newline,
       three-digits n (omega arith),
+      word-line-length standInsWord standIns,
+      field-length standIns newline,
+      three-digits standIns (omega arith),
     )
-  where
-    count-length : (n : ℕ) → length (countLine n) ≡ length (decimal n) + 7
-    count-length n = unfold countLine in length-append edgesWord (decimal n ++ (newline ∷ [])) ∙ rw (length-append (decimal n) (newline ∷ [])) (omega arith)
 
 -- no number has more than twenty digits
 digits-few : (d n : ℕ) → length (decimalWithin d n) ≤ d
@@ -143,13 +153,8 @@ digits-few (suc d) n = go (ltb n 10) (digits-few d (n / 10))
     go false h = omega (arith, length-append (decimalWithin d (n / 10)) (digit (n % 10) ∷ []))
 
 pub refusal-few : (number : ℕ) → length (refusalLine number) ≤ 29
-unfolding refusalLine decimal
-refusal-few number =
-    rw (length-append refusedWord (decimal number ++ (newline ∷ [])), length-append (decimal number) (newline ∷ []))
-    (omega (arith, digits-few 20 number))
-
-pub field-length : (n byte : ℕ) → length (field n byte) ≡ length (decimal n) + 1
-field-length n byte = length-append (decimal n) (byte ∷ [])
+unfolding decimal
+refusal-few number = omega (arith, word-line-length refusedWord number, field-length number newline, digits-few 20 number)
 
 -- a line is three fields, with the letter and a space before the last
 pub line-fields : (contour place kind color : ℕ)
@@ -186,20 +191,23 @@ concat-cut [] [] e = refl
 concat-cut [] (x ∷ xs) e = absurd (omega arith)
 concat-cut (n ∷ lengths) xs e = rw (concat-cut lengths (drop n xs) (rw length-drop (omega arith))) (take-append-drop n xs)
 
-module _ (lengths kinds colors : List ℕ) (e : total lengths ≡ length kinds) where
+module _ (lengths kinds colors : List ℕ) (standIns : ℕ) (e : total lengths ≡ length kinds) where
   abbrev lines : List ℕ
   lines = shapeLines 0 (cut lengths kinds) (cut lengths colors)
 
-  pub listing-parts : (lines ++ edgesWord) ++ field (length kinds) newline ≡ listing (cut lengths kinds) (cut lengths colors)
+  pub listing-parts : (lines ++ wordLine edgesWord (length kinds)) ++ wordLine standInsWord standIns
+      ≡ listing (cut lengths kinds) (cut lengths colors) standIns
   unfolding listing
-  listing-parts = rw (concat-cut lengths kinds e) (append-assoc lines edgesWord (field (length kinds) newline))
+  listing-parts =
+      append-assoc lines (wordLine edgesWord (length kinds)) (wordLine standInsWord standIns)
+      ∙ ap (λ (n : ℕ). lines ++ (wordLine edgesWord n ++ wordLine standInsWord standIns)) (sym (ap length (concat-cut lengths kinds e)))
 
-  pub listing-length : length (listing (cut lengths kinds) (cut lengths colors)) ≡ length lines + 6 + length (field (length kinds) newline)
-  listing-length = omega (arith, ap length listing-parts, length-append (lines ++ edgesWord) (field (length kinds) newline), length-append lines edgesWord)
-
-pub refusal-parts : (number : ℕ) → refusedWord ++ field number newline ≡ refusalLine number
-unfolding refusalLine
-refusal-parts number = refl
-
-pub refusal-length : (number : ℕ) → length (refusalLine number) ≡ 8 + length (field number newline)
-refusal-length number = omega (arith, ap length (refusal-parts number), length-append refusedWord (field number newline))
+  pub listing-length : length (listing (cut lengths kinds) (cut lengths colors) standIns)
+      ≡ length lines + length (wordLine edgesWord (length kinds)) + length (wordLine standInsWord standIns)
+  listing-length =
+      omega (
+        arith,
+        ap length listing-parts,
+        length-append (lines ++ wordLine edgesWord (length kinds)) (wordLine standInsWord standIns),
+        length-append lines (wordLine edgesWord (length kinds)),
+      )

@@ -9,7 +9,6 @@ use lib.ListN.{length, getD, take, drop, length-drop, take-append-drop}
 use lib.Seq.{length-take-le, take-all, drop-drop, drop-cons}
 use lib.Ieee.{Float}
 use borrow.Author.Tests.{leb-true, eqb-true, eqb-false}
-use Rattle.geometry.specs.EdgeSegment.{toStored}
 use Rattle.coloring.specs.Bools.{and-left, and-right}
 use Rattle.coloring.specs.Lists.{all}
 use Rattle.job.specs.declared.records.Header.{Header}

@@ -5,10 +5,10 @@ use mathlib.Core.List.{List}
 use Prim.Native.Nat.{ℕ, _+_, _-_, _≤_}
 use lib.ListN.{length, getD, take, drop, length-drop}
 use lib.Seq.{length-take-le}
-use Rattle.geometry.specs.declared.edge_segment.Directions.{Directions}
+use Rattle.coloring.specs.declared.directions.Ends.{Ends}
 use Rattle.coloring.specs.Lists.{overFrom}
 use Rattle.coloring.specs.Corners.{flagsBetween}
-use Rattle.coloring.specs.Directions.{decodeDirections, allFlags}
+use Rattle.coloring.specs.Directions.{decodeEnds, allFlags}
 use Rattle.coloring.specs.Sizes.{between-length}
 use Rattle.coloring.proofs.Writing.{over-all, over-more, over-nothing}
 use Rattle.coloring.proofs.outline.CutLaws.{ContoursPassed, none-passed, next-fits, next-passed}
@@ -19,7 +19,7 @@ use Rattle.coloring.proofs.corners.compare_neighbors.Tie as tie
 
 abbrev Inv-loop : tie.InvT-loop
 Inv-loop lengths directions threshold flags₀ at₀ i₀ flags at i =
-    let all = decodeDirections (length flags₀) directions in
+    let all = decodeEnds (length flags₀) directions in
     ContoursPassed lengths (length flags₀) at i × (length flags ≡ length flags₀)
     × (allFlags threshold lengths all ≡ overFrom at (allFlags threshold (drop i lengths) (drop at all)) flags)
 
@@ -35,8 +35,8 @@ module _ (start : tie.Start Inv-loop μ-loop) where
   abbrev edges : ℕ
   edges = length (start .args .flags .now)
 
-  abbrev all : List Directions
-  all = decodeDirections edges (start .args .directions .now)
+  abbrev all : List Ends
+  all = decodeEnds edges (start .args .directions .now)
 
   as-many : length all ≡ edges
   as-many = decode-length edges (start .args .directions .now)

@@ -7,10 +7,10 @@ use mathlib.Core.Bool.{Bool}
 use mathlib.Core.List.{List}
 use Prim.Native.Nat.{_-_, _≤_}
 use lib.ListN.{length, drop, length-set}
-use Rattle.geometry.specs.declared.edge_segment.Directions.{Directions}
+use Rattle.coloring.specs.declared.directions.Ends.{Ends}
 use Rattle.coloring.specs.Lists.{overFrom}
 use Rattle.coloring.specs.Corners.{flagsAfter, flagsBetween}
-use Rattle.coloring.specs.Directions.{decodeDirections}
+use Rattle.coloring.specs.Directions.{decodeEnds}
 use Rattle.coloring.specs.Sizes.{between-length}
 use Rattle.coloring.proofs.Lists.{length-zero}
 use Rattle.coloring.proofs.Writing.{over-all, over-next, over-nothing}
@@ -22,7 +22,7 @@ use Rattle.coloring.proofs.corners.identify_corners.Tie as tie
 abbrev Inv-loop : tie.InvT-loop
 Inv-loop directions threshold flags₀ m prev₀ i₀ flags prev i =
     (m ≡ length flags₀) × (i ≤ m) × (length flags ≡ m)
-    × (flagsBetween threshold (decodeDirections m directions) ≡ overFrom i (flagsAfter threshold prev (drop i (decodeDirections m directions))) flags)
+    × (flagsBetween threshold (decodeEnds m directions) ≡ overFrom i (flagsAfter threshold prev (drop i (decodeEnds m directions))) flags)
 
 abbrev μ-loop : tie.MeasureT-loop
 μ-loop directions threshold flags₀ m prev₀ i₀ flags prev i = m - i
@@ -34,7 +34,7 @@ begun at =
     last .before .before .before .before
 
 returns : tie.Need-returns Inv-loop μ-loop
-unfolding flagsBetween decodeDirections
+unfolding flagsBetween decodeEnds
 returns c =
     let a = c .before .before .before .args in
     rw (c .if1 .taken) (length-zero (a .flags .now) (c .if1 .taken))
@@ -44,11 +44,11 @@ loop-holds c =
     let last = c .before in
     let a = last .before .before .before .before .args in
     let m = length (a .flags .now) in
-    let found = decodeDirections m (a .directions .now) in
+    let found = decodeEnds m (a .directions .now) in
     let long : m ≡ length (flagsBetween (a .threshold) found) = sym (between-length (a .threshold) found ∙ decode-length m (a .directions .now)) in
-    let start : flagsBetween (a .threshold) found ≡ flagsAfter (a .threshold) (last .directions-at .result .end) found =
+    let start : flagsBetween (a .threshold) found ≡ flagsAfter (a .threshold) (last .ends-at .result .end) found =
     flags-start (a .threshold) m (a .directions .now) (omega arith)
-    ∙ ap (λ (d : Directions). flagsAfter (a .threshold) (d .end) found) (sym (last .directions-at .ensures)) in
+    ∙ ap (λ (d : Ends). flagsAfter (a .threshold) (d .end) found) (sym (last .ends-at .ensures)) in
     (refl, omega arith, refl, sym (over-all _ (a .flags .now) long) ∙ ap (λ (flags : List Bool). overFrom 0 flags (a .flags .now)) start)
 
 loop-again : tie.Need-loop-again Inv-loop μ-loop
@@ -65,7 +65,7 @@ loop-again c =
       at .inv .3
           ∙ rw (
             corner .is-corner .ensures,
-            read .directions-at2 .ensures,
+            read .ends-at2 .ensures,
             flags-next (a .threshold) (length (a .flags .now)) (a .directions .now) (at .prev) i (omega arith),
           )
           (over-next i _ _ (at .flags) (omega arith)),

@@ -5,7 +5,7 @@ use Prim.Native.Nat.{_-_}
 use native.Mathlib.Omega.{arith}
 use lib.ListN.{length, take, drop, length-take, length-drop}
 use Rattle.coloring.specs.Corners.{flagsBetween}
-use Rattle.coloring.specs.Directions.{decodeDirections}
+use Rattle.coloring.specs.Directions.{decodeEnds}
 use Rattle.coloring.specs.Sizes.{between-length}
 use Rattle.coloring.proofs.Writing.{over-part}
 use Rattle.coloring.proofs.directions.DirectionLaws.{decode-length, decode-part}
@@ -25,7 +25,7 @@ returns c =
     let a = start .args in
     let m = a .end - a .at in
     let n = length (a .flags .now) in
-    let part = take m (drop (a .at) (decodeDirections n (a .directions .now))) in
+    let part = take m (drop (a .at) (decodeEnds n (a .directions .now))) in
     let as-many : length (take m (drop (a .at) (a .flags .now))) ≡ m = simp (length-take, length-drop) (omega (arith, start .pre .3)) in
     let long : length (flagsBetween (a .threshold) part) ≡ m =
     between-length (a .threshold) part ∙ simp (length-take, length-drop) (omega (arith, start .pre .3, decode-length n (a .directions .now))) in

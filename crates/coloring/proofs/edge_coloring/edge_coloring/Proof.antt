@@ -2,7 +2,7 @@
 use borrow.Author.Needs.{needs}
 use mathlib.Core.Path.{_≡_, sym, ap, _∙_}
 use mathlib.Core.Bool.{Bool, false}
-use mathlib.Core.List.{List, [], _∷_, _++_, map}
+use mathlib.Core.List.{List, [], _∷_, _++_}
 use Prim.Native.Nat.{ℕ, _≤_, _<_}
 use native.Mathlib.Omega.{arith}
 use lib.Dec.{leb}
@@ -12,7 +12,7 @@ use lib.Seq.{length-take-le, take-at}
 use borrow.Author.Tests.{le-leb, lt-leb}
 use Rattle.coloring.specs.declared.settings.Settings.{Settings}
 use Rattle.coloring.specs.Answers.{allPass, refusal, Check, unless, checkedAnswer, firstRefusal}
-use Rattle.coloring.specs.Corners.{Cornered, searchCorners}
+use Rattle.coloring.specs.Corners.{Found, findCorners}
 use Rattle.coloring.specs.Outline.{Outline, outline, Result, result, outcome, contours, check, Agrees}
 use Rattle.coloring.specs.Shape.{deliverFound}
 use Rattle.coloring.specs.EdgeColoring.{edgeColoring}
@@ -34,8 +34,8 @@ module _ (settings : Settings) (o : Outline) (distances : List Float) where
   abbrev checks : List Check
   checks = unless 4 (leb (length distances) 2016) ∷ check o (settings .threshold)
 
-  abbrev found : List Cornered
-  found = map (searchCorners (settings .threshold)) (contours o)
+  abbrev found : Found
+  found = findCorners (settings .threshold) (contours o)
 
   too-many : 2016 < length distances → firstRefusal checks ≡ refusal 4
   unfolding firstRefusal
@@ -49,7 +49,7 @@ module _ (settings : Settings) (o : Outline) (distances : List Float) where
   unfolding edgeColoring
   refused old e = found-failed (settings .marking) distances found old checks e
 
-  goes-on : (old : Result) {flagged : List Cornered} → firstRefusal checks ≡ allPass → flagged ≡ found
+  goes-on : (old : Result) {flagged : Found} → firstRefusal checks ≡ allPass → flagged ≡ found
       → deliverFound [] (settings .marking) distances flagged old ≡ edgeColoring settings o distances old
   unfolding edgeColoring
   goes-on old e found-are = rw found-are (sym (found-passed (settings .marking) distances found old checks e))

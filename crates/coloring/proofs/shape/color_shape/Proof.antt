@@ -11,7 +11,7 @@ use Rattle.geometry.specs.declared.edge_segment.EdgeSegment.{EdgeSegment}
 use Rattle.coloring.specs.Answers.{checkedAnswer, firstRefusal}
 use Rattle.coloring.specs.declared.settings.Marking.{Marking}
 use Rattle.coloring.specs.Limits.{maxShapeSplines}
-use Rattle.coloring.specs.Corners.{Cornered, cornered}
+use Rattle.coloring.specs.Corners.{Cornered, Found, foundIn, cornered}
 use Rattle.coloring.specs.Layout.{layout}
 use Rattle.coloring.specs.Splines.{splineTotal}
 use Rattle.coloring.specs.Values.{checkMarking}
@@ -32,6 +32,10 @@ edges c = edgesOf (c .args .kinds .now) (c .args .points .now)
 
 abbrev found : tie.Start → List Cornered
 found c = cornered (c .args .lengths .now) (edges c) (c .args .flags .now)
+
+-- and the stand-ins
+abbrev given : tie.Start → Found
+given c = foundIn (found c) (c .args .stand-ins)
 
 abbrev old : tie.Start → Result
 old c = result (c .args .out-lengths .now) (c .args .out-kinds .now) (c .args .out-points .now) (c .args .out-colors .now)
@@ -54,7 +58,7 @@ module _ (c : tie.After-count-shape) where
   count = c .count-shape .result .splines
 
   few : count ≤ maxShapeSplines
-  few = c .count-shape .ensures .splines-few
+  few = c .count-shape .ensures .0 .splines-few
 
   long : length (take count zeros) ≡ count
   long = length-take-le count zeros few
@@ -73,7 +77,7 @@ module _ (c : tie.After-spline-values) where
   answer : checkedAnswer (c .spline-values .result) ≡ firstRefusal (checkMarking marking (splineTotal (map layout (found s))) (s .args .distances .now))
   answer =
       let total =
-      splines-counted (s .args .lengths .now) (edges s) (s .args .flags .now) (counted .count-shape .result) (flagged s) (counted .count-shape .ensures) in
+      splines-counted (s .args .lengths .now) (edges s) (s .args .flags .now) (counted .count-shape .result) (flagged s) (counted .count-shape .ensures .0) in
       c .spline-values .ensures .0 ∙ ap (λ (n : ℕ). firstRefusal (checkMarking marking n (s .args .distances .now))) (long counted ∙ sym total)
 
   abbrev values : List ℕ
@@ -101,13 +105,13 @@ slice-aggregate-spline-values : tie.Need-slice-aggregate-spline-values
 slice-aggregate-spline-values c = sym (long (c .before))
 
 spline-values-requires : tie.Need-spline-values-requires
-spline-values-requires c κs = (start (c .before) .pre, long (c .before) ∙ c .before .count-shape .ensures .splines-are)
+spline-values-requires c κs = (start (c .before) .pre, long (c .before) ∙ c .before .count-shape .ensures .0 .splines-are)
 
 returns : tie.Need-returns
 returns c =
     let valued = c .before .before .before .before in
     let s = s valued in
-    values-failed (marking valued) (s .args .distances .now) (found s) (old s) (sym (answer valued) ∙ ap checkedAnswer (c .before .checked .given .1))
+    values-failed (marking valued) (s .args .distances .now) (given s) (old s) (sym (answer valued) ∙ ap checkedAnswer (c .before .checked .given .1))
 
 array-share-prefix-values : tie.Need-array-share-prefix-values
 array-share-prefix-values c = within (c .before .before .before)
@@ -121,7 +125,7 @@ paint-shape-requires : tie.Need-paint-shape-requires
 paint-shape-requires c κs =
     let handed = c .before .before .before .before in
     let valued = handed .before .before .before .before in
-    (s valued .pre, (counted valued .count-shape .ensures, ap length (front valued) ∙ size valued))
+    (s valued .pre, (counted valued .count-shape .ensures .0, ap length (front valued) ∙ size valued))
 
 returns-2 : tie.Need-returns-2
 returns-2 c =
@@ -134,8 +138,8 @@ returns-2 c =
     let passed = told .enum-told .given .1 in
     let split =
     values-laid (marking valued) (s .args .distances .now) (found s) (cut-flagged (s .args .lengths .now) (edges s) (s .args .flags .now) (flagged s)) in
-    painted .paint-shape .ensures
-    ∙ values-passed (marking valued) (s .args .distances .now) (found s) (old s) (sym (answer valued) ∙ ap checkedAnswer passed)
+    (rw (counted valued .count-shape .ensures .1) at (painted .paint-shape .ensures))
+    ∙ values-passed (marking valued) (s .args .distances .now) (given s) (old s) (sym (answer valued) ∙ ap checkedAnswer passed)
     (front valued ∙ valued .spline-values .ensures .1 passed ∙ sym split)
 
 pub color-shape-spec : {M : Type 1} → statement M

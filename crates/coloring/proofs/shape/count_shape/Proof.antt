@@ -17,13 +17,13 @@ use Rattle.coloring.proofs.shape.count_shape.Statement.{statement}
 use Rattle.coloring.proofs.shape.count_shape.Tie as tie
 
 abbrev Inv-loop : tie.InvT-loop
-Inv-loop lengths flags edges₀ splines₀ at₀ i₀ edges splines at i =
+Inv-loop lengths flags stand-ins edges₀ splines₀ at₀ i₀ edges splines at i =
     ContoursPassed lengths (length flags) at i
     × (edges + left resultEdges lengths flags i at ≡ total (map resultEdges (cut lengths flags)))
     × (splines + left splineCount lengths flags i at ≡ total (map splineCount (cut lengths flags)))
 
 abbrev μ-loop : tie.MeasureT-loop
-μ-loop lengths flags edges₀ splines₀ at₀ i₀ edges splines at i = length lengths - i
+μ-loop lengths flags stand-ins edges₀ splines₀ at₀ i₀ edges splines at i = length lengths - i
 
 -- the next contour
 module _ (c : tie.In-loop Inv-loop μ-loop) where
@@ -111,14 +111,16 @@ returns c =
     let start = c .before .before .before .before in
     let a = start .args in
     let edges = left-end resultEdges (a .lengths .now) (a .flags .now) (s .i) (s .at) (c .loop-test .left) in
-    let splines = left-end splineCount (a .lengths .now) (a .flags .now) (s .i) (s .at) (c .loop-test .left) in
-    record {
-      contours-are = refl;
-      edges-are = omega (arith, s .inv .1);
-      splines-are = omega (arith, s .inv .2);
-      edges-few = omega (arith, s .inv .1, few-edges start);
-      splines-few = omega (arith, s .inv .2, few-splines start);
-    }
+    let splines = left-end splineCount (a .lengths .now) (a .flags .now) (s .i) (s .at) (c .loop-test .left) in (
+      record {
+        contours-are = refl;
+        edges-are = omega (arith, s .inv .1);
+        splines-are = omega (arith, s .inv .2);
+        edges-few = omega (arith, s .inv .1, few-edges start);
+        splines-few = omega (arith, s .inv .2, few-splines start);
+      },
+      refl,
+    )
 
 pub count-shape-spec : {M : Type 1} → statement M
 count-shape-spec =

@@ -49,7 +49,7 @@ module _ (c : tie.After-known-told) where
   abbrev counts : Counts
   counts = counted .counts .given .0 .0
 
-  at-front : Front (file (began coloring)) (counts .contours) (counts .edges) (new coloring)
+  at-front : Front (file (began coloring)) (counts .contours) (counts .edges) (counts .«stand_ins») (new coloring)
   at-front =
       let start = began coloring in
       front (file start) (old start) (start .pre .0) counts (new coloring)
@@ -101,7 +101,7 @@ returns c =
     let written = c .before .before in
     let counted = written .before .before .before .before .before in
     subst (λ (x : List ℕ). Pasted x 0 (began (coloring counted) .args .text .now) (written .write-listing .result)
-    (written .write-listing .last .1 .1 .1 .0)) (sym (at-front counted .text))
+    (written .write-listing .last .1 .1 .1 .1 .0)) (sym (at-front counted .text))
     (written .write-listing .ensures)
 
 returns-2 : tie.Need-returns-2

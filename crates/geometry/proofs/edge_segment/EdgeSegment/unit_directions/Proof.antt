@@ -1,13 +1,13 @@
 -- `geometry::edge_segment::EdgeSegment::unit_directions` meets its contract: a line has one direction.
 use mathlib.Core.Path.{_≡_, sym, ap₂, _∙_}
 use borrow.Author.Needs.{needs}
-use Rattle.math.specs.declared.vector2.Vector2.{Vector2}
+use Rattle.math.specs.declared.vector2.Normalized.{Normalized}
 use Rattle.geometry.specs.declared.edge_segment.Directions.{Directions}
 use Rattle.geometry.specs.EdgeSegment.{unitDirections, line-has-one}
 use Rattle.geometry.proofs.edge_segment.EdgeSegment.unit_directions.Statement.{statement}
 use Rattle.geometry.proofs.edge_segment.EdgeSegment.unit_directions.Tie as tie
 
-abbrev fromTo : Vector2 → Vector2 → Directions
+abbrev fromTo : Normalized → Normalized → Directions
 fromTo start end = record { start = start; end = end }
 
 starts : (c : tie.After-normalize) → c .normalize .result ≡ unitDirections (c .before .before .args .self) .start

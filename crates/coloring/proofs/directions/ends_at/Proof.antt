@@ -1,12 +1,12 @@
--- `directions_at` meets its contract.
+-- `ends_at` meets its contract.
 use mathlib.Core.Path.{_≡_}
 use Prim.Native.Nat.{_+_, _*_}
 use native.Mathlib.Omega.{arith}
 use lib.Ieee.{nan}
 use lib.Seq.{getD-drop}
 use borrow.Author.Needs.{needs}
-use Rattle.coloring.proofs.directions.directions_at.Statement.{statement}
-use Rattle.coloring.proofs.directions.directions_at.Tie as tie
+use Rattle.coloring.proofs.directions.ends_at.Statement.{statement}
+use Rattle.coloring.proofs.directions.ends_at.Tie as tie
 
 returns : tie.Need-returns
 returns c =
@@ -25,8 +25,8 @@ returns c =
       here,
     )
 
-pub directions-at-spec : {M : Type 1} → statement M
-directions-at-spec =
+pub ends-at-spec : {M : Type 1} → statement M
+ends-at-spec =
     tie.close
     (tie.spec (λ c. search needs) (λ c. search needs) (λ c. search needs) (λ c. search needs) (λ c. search needs)
     (λ c. search needs) (λ c κs. search needs) (λ c. search needs) (λ c. search needs) (λ c. search needs) (λ c. search needs)
