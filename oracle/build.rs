@@ -18,6 +18,7 @@ pub mod by_distance_counted;
 pub mod by_distance_given;
 pub mod by_distance_longer;
 pub mod by_distance_measured;
+pub mod noted;
 
 pub mod probe {
     use super::*;
@@ -93,6 +94,13 @@ const ENTRIES: &str = "    let above = |i: usize| &distance_matrix[i * spline_co
 }
 ";
 
+// What follows the two colourings, and what has its place in the copy that tells which directions it normalises.
+const VARIANT: &str = "// Re-export the experimental distance-based variant.\n";
+const NOTED: &str = "use crate::stand_ins::noted;
+
+pub mod by_distance_collected;
+";
+
 const MATRIX: &str = "    // Distance matrix between splines.\n";
 
 const COUNT: &str = "    let spline_count = spline_starts.len() - 1;\n";
@@ -157,6 +165,16 @@ fn collected(by_distance: &str) -> String {
     format!("{pass}    (refs, spline_starts)\n}}\n")
 }
 
+// Simple and ink-trap colouring and the corner search, with each direction that they normalise told to `noted`.
+fn noted(coloring: &str) -> String {
+    let t = replace(coloring, 2, "prev_direction.normalize(false)", "noted(prev_direction)");
+    let t = replace(&t, 2, "edge.direction(0.0).normalize(false)", "noted(edge.direction(0.0))");
+    assert!(!t.contains(".normalize("));
+    assert_eq!(t.matches(VARIANT).count(), 1);
+    let (colorings, _) = t.split_once(VARIANT).unwrap();
+    format!("{colorings}{NOTED}")
+}
+
 // By-distance colouring up to its matrix: the source's own distances of the splines, by i then j.
 fn measured(by_distance: &str) -> String {
     let t = replace(
@@ -185,8 +203,10 @@ fn main() {
     let by_distance = replace(&read("by_distance.rs"), 1, SINE, GIVEN);
 
     let copy = out.join("coloring");
-    fs::create_dir_all(&copy).unwrap();
+    fs::create_dir_all(copy.join("noted")).unwrap();
     let write = |name: &str, text: String| fs::write(Path::join(&copy, name), text).unwrap();
+    write("noted.rs", noted(&coloring));
+    write("noted/by_distance_collected.rs", collected(&by_distance));
     write("mod.rs", coloring + PROBE);
     write("by_distance_given.rs", given(&by_distance));
     write("by_distance_collected.rs", collected(&by_distance));

@@ -1,9 +1,10 @@
-//! Contours to colour: small grids, planned corners, zigzags, rings, special and degenerate points.
+//! Contours to colour: small grids, planned corners, zigzags, rings, special and degenerate points, stand-ins.
 //! A contour here is a list of the source's edges, each of the kind that is wanted, never collapsed.
 
 use crate::geometry::EdgeSegment;
 use crate::math::{Vector2, cross, dot};
 use crate::numbers::{Random, SPECIAL};
+use crate::stand_ins;
 
 pub type Edges = Vec<EdgeSegment>;
 
@@ -24,7 +25,7 @@ fn v(x: f64, y: f64) -> Vector2 {
 }
 
 /// 2^e, down to the least subnormal.
-fn two_to(e: i32) -> f64 {
+pub fn two_to(e: i32) -> f64 {
     if e >= -1022 {
         f64::from_bits(((1023 + e) as u64) << 52)
     } else {
@@ -270,13 +271,14 @@ fn ring(r: &mut Random, m: usize) -> Edges {
 
 /// A contour of m edges, m at least 1, of one of the styles.
 pub fn contour(r: &mut Random, m: usize, threshold: f64) -> Edges {
-    match r.below(12) {
+    match r.below(13) {
         0 | 1 => grid(r, m),
         2 => coincident(r, m),
         3 => special(r, m),
         4 => uniform(r, m),
         5 | 6 => zigzag(r, m),
         7 if m >= 3 => ring(r, m),
+        8 => stand_ins::contour(r, m),
         _ => some_corners(r, m, threshold),
     }
 }
@@ -312,6 +314,9 @@ pub fn widest(r: &mut Random, threshold: f64) -> Vec<Edges> {
 pub fn shape(r: &mut Random, threshold: f64) -> Vec<Edges> {
     if r.below(1024) == 0 && threshold >= 0.0 {
         return widest(r, threshold);
+    }
+    if r.below(1024) == 0 {
+        return stand_ins::everywhere(r);
     }
     let contours = match r.below(64) {
         0 => 0,

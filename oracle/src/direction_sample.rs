@@ -1,38 +1,42 @@
 //! The sample of unit directions that a program replays: calls by name, each with the source's outcome.
 
 use crate::contours::{Edges, MAX_COORDINATE, contour, coordinate, edge};
-use crate::directions::{ORDER, PLACES, answer, faults, list, ways_to_spoil};
+use crate::directions::{FLAGS, ORDER, PLACES, answer, faults, flags, list, ways_to_spoil};
 use crate::geometry::EdgeSegment;
 use crate::glyphs::{self, polygon};
 use crate::math::Vector2;
 use crate::numbers::Random;
 use crate::shape_sample::{LARGE, fits, plain, stairs, written};
-use crate::shapes::{Answer, Call, buffers, outline};
+use crate::shapes::{Call, buffers, outline};
+use crate::stand_ins::{known_edges, known_outlines};
 
 /// Thirteen words and what goes in, as a colouring's record has them, with a threshold and a seed of 0.
-/// The buffer of point places is the list's, and the result the list alone, four words an edge.
+/// The buffer of point places is the list's and that of colours the flags'; the result is the flags, two bytes
+/// an edge, and the list, four words an edge.
 fn record(call: &Call) -> Vec<u8> {
     assert!(fits(call));
     let call = plain(call);
     let (answer, after) = answer(&call);
-    let count = if let Answer::Edges(count) = answer { count } else { 0 };
-    let result = after[..PLACES * count].iter().flat_map(|bits| bits.to_le_bytes()).collect();
+    let count = answer.edges().unwrap_or(0);
+    let mut result = after.colors[..FLAGS * count].to_vec();
+    result.extend(after.points[..PLACES * count].iter().flat_map(|bits| bits.to_le_bytes()));
     written(72, &call, &[], answer.code(), result)
 }
 
 // ---- calls
 
-/// A call on contours, the list's buffer so much longer than the list. The other result buffers, which
-/// the function does not have, are not empty.
-fn longer(shape: &[Edges], more: usize) -> Call {
+/// A call on contours, the buffers of the list and of the flags so much longer than these. The other result
+/// buffers, which the function does not have, are not empty.
+fn longer(shape: &[Edges], places: usize, bytes: usize) -> Call {
     let r = &mut Random(0);
     let outline = outline(r, shape);
-    let out = buffers(r, 3, 5, PLACES * outline.edges() + more, 7);
+    let edges = outline.edges();
+    let out = buffers(r, 3, 5, PLACES * edges + places, FLAGS * edges + bytes);
     Call { outline, threshold: 0.0, seed: 0, out }
 }
 
 fn on(shape: &[Edges]) -> Call {
-    longer(shape, 0)
+    longer(shape, 0, 0)
 }
 
 fn v((x, y): (f64, f64)) -> Vector2 {
@@ -60,7 +64,7 @@ fn examples() -> Vec<Call> {
         one(&[o, (3.0, 4.0), (3.0, 4.0)], [0.6, 0.8, 0.6, 0.8]),
         one(&[o, o, (3.0, 4.0), (3.0, 0.0)], [0.6, 0.8, 0.0, -1.0]),
         one(&[o, (0.0, 2.0), (3.0, 6.0), (3.0, 6.0)], [0.0, 1.0, 0.6, 0.8]),
-        // no direction: the stand-in
+        // no direction: stand-ins
         one(&[o, o], [0.0, 1.0, 0.0, 1.0]),
         one(&[o, (0.0, -tiny)], [0.0, 1.0, 0.0, 1.0]),
         one(&[o, o, o, (3.0, -4.0)], [0.0, 1.0, 0.6, -0.8]),
@@ -71,6 +75,30 @@ fn examples() -> Vec<Call> {
         one(&[o, (-0.0, 1.0), (-1.0, 1.0)], [-0.0, 1.0, -1.0, 0.0]),
         one(&[o, (-0.0, 1.0), (1.0, 1.0)], [0.0, 1.0, 1.0, 0.0]),
     ]
+}
+
+/// Stand-ins at the start, at the end, at both and at neither, written out; as many as can be.
+fn stand_ins() -> Vec<Call> {
+    let mut calls = Vec::new();
+    for known in known_edges() {
+        let call = on(&[vec![known.edge]]);
+        assert_eq!(flags(&call.outline), known.stand_ins.map(u8::from), "{}", known.name);
+        calls.push(call);
+    }
+    let outlines = known_outlines();
+    let named = |name: &str| outlines.iter().find(|known| known.name == name).unwrap();
+    for (name, more) in [
+        ("all these edges in one contour", 3),
+        ("stand-ins in three contours", 0),
+        ("256 lines of one point", 0),
+    ] {
+        let known = named(name);
+        let call = longer(&known.contours, 0, more);
+        let sum: usize = flags(&call.outline).into_iter().map(usize::from).sum();
+        assert_eq!(sum, known.stand_ins, "{name}");
+        calls.push(call);
+    }
+    calls
 }
 
 /// Each way in which control points of an edge can be the same, as one edge of two special points or
@@ -132,11 +160,12 @@ fn contours(r: &mut Random) -> Vec<Call> {
         };
         (0..contours).map(|_| one(r)).collect::<Vec<Edges>>()
     };
-    (0..16).map(|i| longer(&shape(r), if i % 2 == 0 { 0 } else { i })).collect()
+    (0..16).map(|i| longer(&shape(r), i % 2 * i, i % 3 * i)).collect()
 }
 
-fn expect(call: Call, expected: Answer) -> Call {
-    assert_eq!(answer(&call).0, expected);
+/// A call that is answered so many edges, or refused by a number.
+fn expect(call: Call, expected: Result<usize, u8>) -> Call {
+    assert_eq!(answer(&call).0.edges(), expected);
     call
 }
 
@@ -147,23 +176,23 @@ fn limits() -> Vec<Call> {
     let mut sparse = vec![empty.clone(); 64];
     sparse[40] = triangle(0.0);
     let mut calls = vec![
-        expect(on(&[stairs(256)]), Answer::Edges(256)),
-        expect(on(&[stairs(257)]), Answer::Refused(4)),
-        expect(on(&[]), Answer::Edges(0)),
-        expect(longer(&[], 4), Answer::Edges(0)),
-        expect(on(&[empty.clone(), empty.clone()]), Answer::Edges(0)),
-        expect(on(&vec![stairs(1); 64]), Answer::Edges(64)),
-        expect(on(&sparse), Answer::Edges(3)),
+        expect(on(&[stairs(256)]), Ok(256)),
+        expect(on(&[stairs(257)]), Err(4)),
+        expect(on(&[]), Ok(0)),
+        expect(longer(&[], 4, 2), Ok(0)),
+        expect(on(&[empty.clone(), empty.clone()]), Ok(0)),
+        expect(on(&vec![stairs(1); 64]), Ok(64)),
+        expect(on(&sparse), Ok(3)),
     ];
     sparse.push(empty);
-    calls.push(expect(on(&sparse), Answer::Refused(4)));
+    calls.push(expect(on(&sparse), Err(4)));
     for (x, answer) in [
-        (MAX_COORDINATE, Answer::Edges(3)),
-        (-MAX_COORDINATE, Answer::Edges(3)),
-        (MAX_COORDINATE.next_up(), Answer::Refused(7)),
-        (-MAX_COORDINATE.next_up(), Answer::Refused(7)),
-        (f64::INFINITY, Answer::Refused(7)),
-        (f64::NAN, Answer::Refused(7)),
+        (MAX_COORDINATE, Ok(3)),
+        (-MAX_COORDINATE, Ok(3)),
+        (MAX_COORDINATE.next_up(), Err(7)),
+        (-MAX_COORDINATE.next_up(), Err(7)),
+        (f64::INFINITY, Err(7)),
+        (f64::NAN, Err(7)),
     ] {
         calls.push(expect(on(&[triangle(x)]), answer));
     }
@@ -179,7 +208,7 @@ fn refused(r: &mut Random, number: u8, count: usize) -> Vec<Call> {
             let few = 1 + r.below(3) as usize;
             let mut call = on(&[contour(r, few, 0.125), contour(r, 1, 0.125)]);
             fault(r, &mut call);
-            if fits(&call) && answer(&call).0 == Answer::Refused(number) {
+            if fits(&call) && answer(&call).0.edges() == Err(number) {
                 found.push(call);
             }
         }
@@ -187,15 +216,19 @@ fn refused(r: &mut Random, number: u8, count: usize) -> Vec<Call> {
     found
 }
 
-/// The list's buffer too short, by one place up to all of them.
+/// The list's buffer too short, by one place up to all of them; that of the flags; and both.
 fn short(r: &mut Random) -> Vec<Call> {
-    let call = on(&[contour(r, 3, 0.125), Edges::new(), contour(r, 1, 0.125)]);
-    let less = |less: usize| {
+    let call = longer(&[contour(r, 3, 0.125), Edges::new(), contour(r, 1, 0.125)], 2, 3);
+    let edges = call.outline.edges();
+    let less = |(places, bytes): (usize, usize)| {
         let mut call = call.clone();
-        call.out.points.truncate(PLACES * call.outline.edges() - less);
-        expect(call, Answer::Refused(11))
+        call.out.points.truncate((PLACES * edges).saturating_sub(places));
+        call.out.colors.truncate((FLAGS * edges).saturating_sub(bytes));
+        expect(call, Err(11))
     };
-    [1, 2, 3, 4, 5, 16].map(less).into()
+    let list = [1, 2, 3, 4, 5, 16].map(|places| less((places, 0)));
+    let flags = [1, 2, 3, 8].map(|bytes| less((0, bytes)));
+    list.into_iter().chain(flags).chain([(1, 1), (16, 8)].map(less)).collect()
 }
 
 /// For each two refusals a call of which both hold.
@@ -204,9 +237,8 @@ fn in_order(r: &mut Random) -> Vec<Call> {
     let mut found = Vec::new();
     for later in 1..ORDER.len() {
         for first in 0..later {
-            let both = |call: &Call| {
-                answer(call).0 == Answer::Refused(ORDER[first]) && faults(call)[later]
-            };
+            let both =
+                |call: &Call| answer(call).0.edges() == Err(ORDER[first]) && faults(call)[later];
             found.push(loop {
                 let mut call = on(&[contour(r, 3, 0.125)]);
                 for _ in 0..2 {
@@ -224,14 +256,16 @@ fn in_order(r: &mut Random) -> Vec<Call> {
     found
 }
 
-/// Two edges whose directions all differ, and a call that is refused.
+/// Two edges whose directions all differ, two with stand-ins at either end, and a call that is refused.
 pub fn small_records() -> Vec<Vec<u8>> {
-    let bow = edge(&[v((1.0, 2.0)), v((3.0, 1.0)), v((4.0, 7.0))]);
-    let line = EdgeSegment::Line([v((4.0, 7.0)), v((1.0, 2.0))]);
-    let call = on(&[vec![bow, line]]);
+    let (p, q) = (v((1.0, 2.0)), v((4.0, 7.0)));
+    let bow = edge(&[p, v((3.0, 1.0)), q]);
+    let call = on(&[vec![bow, EdgeSegment::Line([q, p])]]);
+    let stand_ins = on(&[vec![edge(&[p, p, p, q]), edge(&[p, q, q, q])]]);
+    assert_eq!(flags(&stand_ins.outline), [1, 0, 0, 1]);
     let mut short = call.clone();
     short.out.points.pop();
-    [call, expect(short, Answer::Refused(11))].iter().map(record).collect()
+    [call, stand_ins, expect(short, Err(11))].iter().map(record).collect()
 }
 
 /// The records of each part, by name.
@@ -239,6 +273,7 @@ pub fn sample() -> Vec<(String, Vec<Vec<u8>>)> {
     let r = &mut Random(510);
     let mut parts: Vec<(&str, Vec<Call>)> = vec![
         ("directions", examples()),
+        ("dir stand-ins", stand_ins()),
         ("dir same points", same_points(r)),
         ("dir zeros", zeros(r)),
         ("dir short edges", short_edges(r)),

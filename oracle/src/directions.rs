@@ -1,17 +1,20 @@
-//! The unit directions in which the edges of an outline start and end: SCOPE's refusals, the source's
-//! directions, the corners that follow from such a list, and what can be wrong with a call.
+//! The unit directions in which the edges of an outline start and end, and which of them are stand-ins: SCOPE's
+//! refusals, the source's directions, the corners that follow from such a list, and what can be wrong with a call.
 //!
-//! A call here is that of a colouring. The list goes to `out.points`; the threshold is for corners
-//! alone, and nothing else of the call is looked at.
+//! A call here is that of a colouring. The list goes to `out.points`, and a flag a direction, 1 where it is a
+//! stand-in, to `out.colors`; the threshold is for corners alone, and nothing else of the call is looked at.
 
-use crate::contours::{self, Edges, coordinate, edge};
+use crate::contours::{self, Edges, edge};
 use crate::geometry::EdgeSegment;
 use crate::math::{Vector2, cross, dot};
 use crate::numbers::Random;
 use crate::shapes::{self, Answer, Buffers, Call, Fault, Outline, decode, noise, outline, shorter};
+use crate::stand_ins;
 
 /// How many places of the list an edge takes.
 pub const PLACES: usize = 4;
+/// And how many flags.
+pub const FLAGS: usize = 2;
 
 // ---- refusals
 
@@ -21,7 +24,8 @@ pub const ORDER: [u8; 5] = [4, 8, 5, 7, 11];
 /// Which of them hold of a call, each by itself.
 pub fn faults(call: &Call) -> [bool; 5] {
     let [too_many, lengths, kind, coordinate, _threshold] = shapes::faults(call);
-    let short = call.out.points.len() < PLACES * call.outline.edges();
+    let (edges, out) = (call.outline.edges(), &call.out);
+    let short = out.points.len() < PLACES * edges || out.colors.len() < FLAGS * edges;
     [too_many, lengths, kind, coordinate, short]
 }
 
@@ -39,14 +43,21 @@ pub fn list(o: &Outline) -> Vec<u64> {
     vectors.flat_map(|v| [v.x.to_bits(), v.y.to_bits()]).collect()
 }
 
-/// What a call is answered, and the list's buffer after it.
-pub fn answer(call: &Call) -> (Answer, Vec<u64>) {
-    let mut out = call.out.points.clone();
+/// Its flags.
+pub fn flags(o: &Outline) -> Vec<u8> {
+    let edges = decode(o).into_iter().flatten();
+    edges.flat_map(|e| stand_ins::of_edge(&e)).map(u8::from).collect()
+}
+
+/// What a call is answered, and the result buffers after it.
+pub fn answer(call: &Call) -> (Answer, Buffers) {
+    let mut out = call.out.clone();
     if let Some(first) = faults(call).iter().position(|&fault| fault) {
         return (Answer::Refused(ORDER[first]), out);
     }
-    let list = list(&call.outline);
-    out[..list.len()].copy_from_slice(&list);
+    let (list, flags) = (list(&call.outline), flags(&call.outline));
+    out.points[..list.len()].copy_from_slice(&list);
+    out.colors[..flags.len()].copy_from_slice(&flags);
     (Answer::Edges(call.outline.edges()), out)
 }
 
@@ -70,46 +81,33 @@ pub fn corners(lengths: &[u16], list: &[u64], threshold: f64) -> Vec<Vec<usize>>
 
 // ---- calls to try
 
-/// Control points that are often the same one, of special coordinates or of ordinary ones.
-fn degenerate(r: &mut Random) -> EdgeSegment {
-    let ordinary = r.coin();
-    let number = |r: &mut Random| if ordinary { r.below(5) as f64 - 2.0 } else { coordinate(r) };
-    let some: Vec<Vector2> = (0..3).map(|_| Vector2::new(number(r), number(r))).collect();
-    let n = 2 + r.below(3);
-    edge(&(0..n).map(|_| r.pick(&some)).collect::<Vec<_>>())
-}
-
-/// Points so near to 0 that the squares of their distances are subnormal, or 0.
-fn tiny(r: &mut Random) -> EdgeSegment {
-    let unit = f64::from_bits((1023 - 545 + r.below(32)) << 52);
-    let number = |r: &mut Random| unit * if r.coin() { r.unit() } else { r.below(5) as f64 - 2.0 };
-    let n = 2 + r.below(3);
-    edge(&(0..n).map(|_| Vector2::new(number(r), number(r))).collect::<Vec<_>>())
-}
-
-/// Few contours of such edges.
-fn odd(r: &mut Random) -> Vec<Edges> {
-    let one = r.pick(&[degenerate, tiny]);
+/// Few contours of edges with stand-ins.
+fn with_stand_ins(r: &mut Random) -> Vec<Edges> {
     let contours = 1 + r.below(3);
-    (0..contours).map(|_| (0..r.below(9)).map(|_| one(r)).collect()).collect()
+    let contour = |_| {
+        let m = r.below(9) as usize;
+        stand_ins::contour(r, m)
+    };
+    (0..contours).map(contour).collect()
 }
 
-/// A buffer for a list of so many places: exactly as long, or longer.
-pub fn room(r: &mut Random, places: usize) -> Vec<u64> {
-    let places = if r.coin() { places } else { places + 1 + r.below(24) as usize };
-    (0..places).map(|_| noise(r)).collect()
+/// Buffers for the directions of so many edges: each exactly as long, or longer.
+fn room(r: &mut Random, edges: usize) -> Buffers {
+    let more = |r: &mut Random, n: usize| if r.coin() { n } else { n + 1 + r.below(24) as usize };
+    let (places, flags) = (more(r, PLACES * edges), more(r, FLAGS * edges));
+    shapes::buffers(r, 0, 0, places, flags)
 }
 
-/// A call on an outline, with a buffer that holds the list.
+/// A call on an outline, with buffers that hold the list and its flags.
 pub fn on(r: &mut Random, outline: Outline, threshold: f64) -> Call {
-    let points = room(r, PLACES * outline.edges());
-    Call { outline, threshold, seed: 0, out: Buffers { points, ..Buffers::default() } }
+    let out = room(r, outline.edges());
+    Call { outline, threshold, seed: 0, out }
 }
 
 /// A call that is not refused.
 pub fn call(r: &mut Random) -> Call {
     let mut threshold = contours::threshold(r);
-    let shape = if r.below(4) == 0 { odd(r) } else { contours::shape(r, threshold) };
+    let shape = if r.below(4) == 0 { with_stand_ins(r) } else { contours::shape(r, threshold) };
     if r.below(6) == 0 {
         threshold = contours::tie(r, &shape).unwrap_or(threshold);
     }
@@ -133,13 +131,20 @@ pub fn every_edge(values: [f64; 4]) -> Vec<Vec<Edges>> {
 // ---- faults
 
 /// The list's buffer too short: by one, by more, or empty.
-fn short(r: &mut Random, call: &mut Call) {
+fn list_short(r: &mut Random, call: &mut Call) {
     let places = PLACES * call.outline.edges().min(256);
     call.out.points = (0..shorter(r, places)).map(|_| noise(r)).collect();
+}
+
+/// The same of the flags.
+fn flags_short(r: &mut Random, call: &mut Call) {
+    let flags = FLAGS * call.outline.edges().min(256);
+    call.out.colors = (0..shorter(r, flags)).map(|_| noise(r) as u8).collect();
 }
 
 /// What can be wrong with a call, each with the number that it alone gives, or 0 where it is no fault.
 pub fn ways_to_spoil() -> Vec<(&'static str, u8, Fault)> {
     let of_outlines = shapes::FAULTS.iter().filter(|(_, number, _)| ![6, 11].contains(number));
-    of_outlines.copied().chain([("list short", 11, short as Fault)]).collect()
+    let of_buffers = [("list short", 11, list_short as Fault), ("flags short", 11, flags_short)];
+    of_outlines.copied().chain(of_buffers).collect()
 }

@@ -7,6 +7,7 @@ use crate::given::by_distance_given::edge_coloring_by_distance_given;
 use crate::numbers::Random;
 use crate::shapes::{self, Answer, Buffers, Call, FAULTS};
 use crate::shapes::{decode, deliver, encode, noise, outline, roomy, some, source_shape};
+use crate::stand_ins;
 
 /// A call of by-distance colouring, each distance by its bits; the collecting pass takes neither the
 /// seed nor the distances.
@@ -116,15 +117,14 @@ pub fn color(c: &DistanceCall) -> Outcome {
         return Outcome { answer, after: c.call.out.clone(), refusal, declined: 0 };
     }
     let (result, declined) = colored(c);
-    let (answer, after) = deliver(&result, c.call.out.clone());
+    let (answer, after) = deliver(&result, c.call.outline.stand_ins(), c.call.out.clone());
     let refusal = (answer == Answer::Refused(11)).then_some(8);
     Outcome { answer, after, refusal, declined }
 }
 
-/// What the collecting pass is answered, by the number that C gets: the edges and 2^16 times the
-/// splines, or 2^32 and the refusal; and the result buffers after it.
-pub fn collect(call: &Call) -> (u64, Buffers) {
-    let refused = |number: u8| (Answer::Refused(number).code(), call.out.clone());
+/// What the collecting pass is answered, and the result buffers after it.
+pub fn collect(call: &Call) -> (Answer, Buffers) {
+    let refused = |number: u8| (Answer::Refused(number), call.out.clone());
     if let Some(number) = shapes::refusal(call) {
         return refused(number);
     }
@@ -132,11 +132,12 @@ pub fn collect(call: &Call) -> (u64, Buffers) {
     if splines > MOST_SPLINES {
         return refused(4);
     }
-    let (answer, out) = deliver(&result, call.out.clone());
-    match answer {
-        Answer::Edges(count) => (((splines as u64) << 16) + count as u64, out),
-        Answer::Refused(_) => (answer.code(), out),
-    }
+    let (answer, out) = deliver(&result, call.outline.stand_ins(), call.out.clone());
+    let collected = match answer {
+        Answer::Colored { edges, stand_ins } => Answer::Collected { edges, splines, stand_ins },
+        other => other,
+    };
+    (collected, out)
 }
 
 // ---- calls to try
@@ -268,7 +269,10 @@ pub type DistanceFault = fn(&mut Random, &mut DistanceCall);
 fn splines_above(r: &mut Random, c: &mut DistanceCall) {
     let threshold = 0.125;
     let more = r.pick(&[0, 0, 1, 60]);
-    let shape = with_splines(r, 65 + more, threshold);
+    let mut shape = with_splines(r, 65 + more, threshold);
+    if r.coin() {
+        shape.push(stand_ins::contour(r, 2));
+    }
     if shape.len() <= 64 {
         c.call.outline = outline(r, &shape);
         c.call.threshold = threshold;

@@ -5,6 +5,7 @@ use crate::geometry::{EdgeColor, EdgeSegment};
 use crate::leaves::one_nan;
 use crate::math::Vector2;
 use crate::numbers::{Random, SPECIAL};
+use crate::stand_ins::{is_stand_in, known_edges};
 use std::ops::Range;
 
 /// A kind number (or a color, as a byte), eight places and a parameter: t as a double's bits, or a
@@ -38,7 +39,7 @@ impl Inputs {
     }
 
     /// The edge of the kind that is given: nothing collapses.
-    fn edge(&self) -> EdgeSegment {
+    pub fn edge(&self) -> EdgeSegment {
         let p = |i| self.point(i);
         match self.kind {
             1 => EdgeSegment::Line([p(0), p(1)]),
@@ -93,6 +94,8 @@ pub enum Given {
 pub enum Answer {
     Number,
     Vector,
+    /// A flag and a vector.
+    Unit,
     /// A kind and eight places.
     Edge,
 }
@@ -103,6 +106,7 @@ impl Answer {
         match self {
             Answer::Number => 11..12,
             Answer::Vector => 12..14,
+            Answer::Unit => 11..14,
             Answer::Edge => 11..20,
         }
     }
@@ -139,8 +143,10 @@ pub const FUNCTIONS: [Function; 15] = [
     function!("split_in_thirds", Third, Edge, 300, |i| {
         of_edge(i.edge().split_in_thirds()[i.parameter as usize])
     }),
-    function!("unit_direction", Edge, Vector, 160, |i| {
-        of_vector(i.edge().direction(i.t()).normalize(false))
+    function!("unit_direction", Edge, Unit, 240, |i| {
+        let direction = i.edge().direction(i.t());
+        let unit = direction.normalize(false);
+        of_places(is_stand_in(direction) as u64, &[unit.x, unit.y])
     }),
     function!("direction", Edge, Vector, 200, |i| of_vector(i.edge().direction(i.t()))),
     function!("point", Edge, Vector, 200, |i| of_vector(i.edge().point(i.t()))),
@@ -196,6 +202,8 @@ fn subnormal(r: &mut Random) -> f64 {
 }
 
 const TWO_TO_MINUS_600: f64 = f64::from_bits(0x1A70_0000_0000_0000);
+/// A number below it can have a square that is 0.
+const TWO_TO_MINUS_536: f64 = f64::from_bits(0x1E70_0000_0000_0000);
 
 fn any(r: &mut Random) -> Points {
     points(|| r.double())
@@ -218,10 +226,10 @@ fn at_the_bounds(r: &mut Random) -> Points {
 }
 
 fn tiny(r: &mut Random) -> Points {
-    if r.coin() {
-        points(|| whole(r, 3) * TWO_TO_MINUS_600)
-    } else {
-        points(|| subnormal(r))
+    match r.below(3) {
+        0 => points(|| whole(r, 3) * TWO_TO_MINUS_600),
+        1 => points(|| r.unit() * TWO_TO_MINUS_536),
+        _ => points(|| subnormal(r)),
     }
 }
 
@@ -367,7 +375,13 @@ impl Function {
     }
 }
 
-/// P8 and P9, the splits of two lines to (3, 0), and P10, the direction (2^-600, 0).
+/// An edge as the inputs have it, its unused places 0.
+fn inputs_of(e: &EdgeSegment, t: f64) -> Inputs {
+    let Outputs { number, places } = of_edge(*e);
+    Inputs { kind: number, places, parameter: t.to_bits() }
+}
+
+/// P8 and P9, the splits of two lines to (3, 0); P10, the direction (2^-600, 0), and the other stand-ins.
 fn examples(name: &str) -> Vec<Inputs> {
     let line = |from: f64, to: f64, parameter: u64| {
         let points = [from, 0.0, to, 0.0, 0.0, 0.0, 0.0, 0.0];
@@ -377,7 +391,13 @@ fn examples(name: &str) -> Vec<Inputs> {
         "split_in_thirds" => {
             [0.0, -0.0].iter().flat_map(|&from| (0..3).map(move |k| line(from, 3.0, k))).collect()
         }
-        "unit_direction" => vec![line(0.0, TWO_TO_MINUS_600, 0)],
+        "unit_direction" => {
+            let mut all = vec![line(0.0, TWO_TO_MINUS_600, 0)];
+            for known in known_edges() {
+                all.extend([0.0, 1.0].map(|t| inputs_of(&known.edge, t)));
+            }
+            all
+        }
         _ => Vec::new(),
     }
 }

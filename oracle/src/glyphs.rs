@@ -56,6 +56,23 @@ pub fn teardrop() -> Edges {
     )
 }
 
+/// A flag and a pennant that have a point twice each; the flag has an edge straight up, and a cubic whose control
+/// points are both at its start.
+pub fn doubled() -> Vec<Edges> {
+    let flag = path(
+        (100.0, 0.0),
+        &[
+            &[(100.0, 700.0)],
+            &[(100.0, 700.0)],
+            &[(400.0, 700.0), (400.0, 400.0)],
+            &[(400.0, 400.0), (400.0, 400.0), (200.0, 100.0)],
+            &[(100.0, 0.0)],
+        ],
+    );
+    let pennant = polygon(&[(500.0, 0.0), (600.0, 0.0), (600.0, 0.0), (550.0, 80.0)]);
+    vec![flag, pennant]
+}
+
 /// The sign of a registered trade mark: a ring of cubics, and an R of lines and quadratics.
 pub fn registered() -> Vec<Edges> {
     let letter = path(

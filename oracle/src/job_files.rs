@@ -87,13 +87,22 @@ pub fn longest() -> Job {
     ones((0..64).map(|i| circle(i as f64, 0.0, 1.0 + i as f64)).collect(), MOST_DISTANCES)
 }
 
-/// 508 edges out of 256, the longest text: 63 contours of two edges with one corner, and one of 130 edges.
+/// 508 edges out of 256: 63 contours of two edges with one corner, and one of 130 edges.
 pub fn widest(strategy: u8) -> Job {
     let (p, q, s) = (Vector2::new(0.0, 0.0), Vector2::new(1.0, 0.0), Vector2::new(2.0, 0.0));
     let two = vec![edge(&[p, q]), edge(&[q, s, Vector2::new(0.0, 1.0)])];
     let mut contours = vec![two; 63];
     contours.push(lines(130));
     Job { strategy, seed: 1234567, threshold: 0.125, contours, distances: Vec::new() }
+}
+
+/// The same with 449 stand-ins, three in each contour of two edges and two an edge in the last: the longest text.
+pub fn widest_of_stand_ins(strategy: u8) -> Job {
+    let (p, down) = (Vector2::new(2.0, 3.0), Vector2::new(2.0, -3.0));
+    let point = edge(&[p, p]);
+    let mut contours = vec![vec![point, edge(&[p, p, p, down])]; 63];
+    contours.push(vec![point; 130]);
+    Job { contours, ..widest(strategy) }
 }
 
 /// Each place of an edge of each kind, in turn, with a coordinate there. By the threshold each edge has a
@@ -159,6 +168,8 @@ pub fn known() -> Vec<Known> {
     add("65,535 distances", write(&ones(vec![saw(64)], 65535)), Err(4));
     add("508 edges out", write(&widest(1)), Ok(508));
     add("508 edges out", write(&widest(2)), Ok(508));
+    add("508 edges out, 449 stand-ins", write(&widest_of_stand_ins(1)), Ok(508));
+    add("508 edges out, 449 stand-ins", write(&widest_of_stand_ins(2)), Ok(508));
     add("the longest accepted file", write(&longest()), Ok(256));
     let due = [header(3, 0, 0.125), b"EN".to_vec()].concat();
     add("no contours, EN while DS is due", due, Err(3));

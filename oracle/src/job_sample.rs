@@ -1,13 +1,16 @@
 //! The sample of job files that a program replays: each with its check, its listing and the part of each contour,
 //! and what reading and colouring it leave in buffers.
 
+use crate::contours::edge;
 use crate::glyphs::{polygon, registered, teardrop};
 use crate::job_faults::{BOTH, DAMAGES, damage, planted};
 use crate::job_files::{by, known, long, small, square_job};
 use crate::jobs::{FAULTS, Job, JobBuffers, outcome, records, stop, stored, write};
+use crate::math::Vector2;
 use crate::numbers::Random;
 use crate::shape_sample::NOISE;
 use crate::shapes::{Answer, Buffers, encode};
+use crate::stand_ins::known_outlines;
 
 fn bytes(words: &[u64]) -> Vec<u8> {
     words.iter().flat_map(|w| w.to_le_bytes()).collect()
@@ -36,12 +39,8 @@ fn answers(file: &[u8]) -> Vec<u8> {
     let outcome = outcome(file);
     let text = outcome.text();
     let contours = outcome.reading.as_ref().map_or(1, |reading| reading.job.contours.len());
-    let checked = match &outcome.colored {
-        Ok(shape) => Answer::Edges(encode(shape).kinds.len()),
-        Err(fault) => Answer::Refused(fault.number()),
-    };
     let sizes = [file.len() as u64, text.len() as u64, contours as u64 + 1];
-    let mut words = [&[69, 0][..], &sizes, &[checked.code()]].concat();
+    let mut words = [&[69, 0][..], &sizes, &[outcome.check().code()]].concat();
     for part in (0..=contours).map(|contour| outcome.part(contour as u64)) {
         words.extend([part.start as u64, part.len() as u64]);
     }
@@ -84,14 +83,15 @@ fn reading(file: &[u8], room: [usize; 4]) -> Vec<u8> {
 /// result, 0, 0, how many places the buffers for lengths, kinds, points and colours have, the answer, and where
 /// the result begins; the file, filled up to whole words; and the result: lengths, kinds, colours, point places.
 fn coloring(file: &[u8], room: [usize; 4]) -> Vec<u8> {
-    let colored = match &outcome(file).colored {
+    let outcome = outcome(file);
+    let colored = match &outcome.colored {
         Err(fault) => Err(fault.number()),
         Ok(shape) => Ok(encode(shape))
             .and_then(|result| if short(result.sizes(), room) { Err(11) } else { Ok(result) }),
     };
     let answer = match &colored {
         Err(number) => Answer::Refused(*number),
-        Ok(result) => Answer::Edges(result.kinds.len()),
+        Ok(_) => outcome.check(),
     };
     let result = colored.unwrap_or_default();
     let file_bytes = whole(file);
@@ -132,14 +132,12 @@ fn colorings(file: &[u8]) -> Vec<Vec<u8>> {
 
 /// A record of each kind, small ones, with accepted files.
 pub fn small_records() -> Vec<Vec<u8>> {
-    let two = |strategy: u8| {
-        let distances = vec![0.5; (strategy == 3) as usize];
-        let contours = vec![polygon(&[(0.0, 0.0), (1.0, 2.0)])];
-        write(&Job { contours, distances, ..square_job(strategy) })
-    };
-    let read = reading(&two(3), [1, 2, 16, 1]);
-    let colored = (1..4).map(|strategy| coloring(&two(strategy), [1, 2, 16, 2]));
-    [answers(&write(&square_job(1))), read].into_iter().chain(colored).collect()
+    let contours = vec![polygon(&[(0.0, 0.0), (1.0, 2.0)])];
+    let two = Job { contours, distances: vec![0.5], ..square_job(3) };
+    let read = reading(&write(&two), [1, 2, 16, 1]);
+    let file = |strategy: u8| write(&stand_in_job(strategy));
+    let colored = (1..4).map(|strategy| coloring(&file(strategy), [1, 2, 16, 2]));
+    [answers(&file(1)), read].into_iter().chain(colored).collect()
 }
 
 /// SCOPE's limits; a few of the files that differ by a place alone, and the long ones by strategies 1 and 3.
@@ -197,6 +195,37 @@ fn glyphs(r: &mut Random) -> Vec<Vec<u8>> {
     jobs.iter().map(write).collect()
 }
 
+/// Stand-ins of each kind by a strategy; 512 of them; by each strategy few of them, none but in the result, and
+/// with a threshold of 2, refused.
+fn stand_ins(r: &mut Random) -> Vec<Vec<u8>> {
+    let mut files = Vec::new();
+    for (i, known) in known_outlines().into_iter().enumerate() {
+        let strategy = 1 + (i % 3) as u8;
+        let file = write(&by(r, strategy, known.contours, 0.125));
+        let outcome = outcome(&file);
+        assert_eq!(outcome.stand_ins(), known.stand_ins, "{}", known.name);
+        // of those with 256 edges one is enough
+        if file.len() < 4000 || known.name == "256 lines of one point" {
+            files.push(file);
+        }
+    }
+    for strategy in 1..4 {
+        files.push(write(&stand_in_job(strategy)));
+        files.push(write(&Job { threshold: 2.0, ..stand_in_job(strategy) }));
+        // by the threshold it is split, at doubles that are its ends
+        let short = edge(&[Vector2::new(1.0, 1.0), Vector2::new(1.0f64.next_up(), 1.0)]);
+        files.push(write(&by(r, strategy, vec![vec![short]], -1.0)));
+    }
+    files
+}
+
+/// A line of one point, and a cubic straight up with both its control points at its start.
+fn stand_in_job(strategy: u8) -> Job {
+    let (p, q) = (Vector2::new(1.0, 2.0), Vector2::new(1.0, 7.0));
+    let contours = vec![vec![edge(&[p, p]), edge(&[p, p, p, q])]];
+    Job { contours, distances: Vec::new(), ..square_job(strategy) }
+}
+
 /// The records of each part, by name.
 pub fn sample() -> Vec<(String, Vec<Vec<u8>>)> {
     let r = &mut Random(710);
@@ -215,6 +244,11 @@ pub fn sample() -> Vec<(String, Vec<Vec<u8>>)> {
         let records: Vec<_> = files.iter().map(|file| answers(file)).collect();
         sample.push((format!("job {name}"), records));
     }
+    let with_stand_ins = stand_ins(r);
+    let records = with_stand_ins.iter().map(|file| answers(file)).collect();
+    sample.push(("job stand-ins".to_string(), records));
+    let jobs = (1..4).map(|strategy| write(&stand_in_job(strategy)));
+    sample.push(("color stand-ins".to_string(), jobs.flat_map(|file| colorings(&file)).collect()));
     // of a small file the buffers too
     for (name, files) in &parts {
         let small = || files.iter().filter(|file| file.len() < 1500);

@@ -8,7 +8,8 @@ use crate::given::by_distance_collected::collect_splines;
 use crate::given::by_distance_given::edge_coloring_by_distance_given;
 use crate::given::{edge_coloring_ink_trap, edge_coloring_simple};
 use crate::math::Vector2;
-use crate::shapes::{encode, source_shape};
+use crate::shapes::{Answer, Buffers, deliver, encode, source_shape};
+use crate::stand_ins;
 use std::fmt::Write;
 use std::ops::Range;
 
@@ -358,16 +359,41 @@ impl Outcome {
         self.accepted().map_or(0..0, |reading| reading.part(contour))
     }
 
+    /// How many of the unit directions of the job are stand-ins, none for a refused file.
+    pub fn stand_ins(&self) -> usize {
+        self.accepted().map_or(0, |reading| stand_ins::count(&reading.job.contours))
+    }
+
+    /// What colouring answers, and the result buffers after it.
+    pub fn color(&self, out: Buffers) -> (Answer, Buffers) {
+        match &self.colored {
+            Ok(shape) => deliver(&encode(shape), self.stand_ins(), out),
+            Err(fault) => (Answer::Refused(fault.number()), out),
+        }
+    }
+
+    /// What checking answers: the same, as if every result fitted.
+    pub fn check(&self) -> Answer {
+        match &self.colored {
+            Ok(shape) => {
+                let edges = shape.contours.iter().map(|c| c.segments.len()).sum();
+                Answer::Colored { edges, stand_ins: self.stand_ins() }
+            }
+            Err(fault) => Answer::Refused(fault.number()),
+        }
+    }
+
     /// What the program prints.
     pub fn text(&self) -> String {
         match &self.colored {
-            Ok(shape) => listing(shape),
+            Ok(shape) => listing(shape, self.stand_ins()),
             Err(fault) => format!("refused {}\n", fault.number()),
         }
     }
 }
 
-pub fn listing(shape: &Shape) -> String {
+/// The lines of a coloured shape, and the last two: its edges, and the stand-ins of its outline.
+pub fn listing(shape: &Shape, stand_ins: usize) -> String {
     let mut text = String::new();
     let mut edges = 0;
     for (contour, c) in shape.contours.iter().enumerate() {
@@ -377,7 +403,7 @@ pub fn listing(shape: &Shape) -> String {
             edges += 1;
         }
     }
-    writeln!(text, "edges {edges}").unwrap();
+    writeln!(text, "edges {edges}\nstandins {stand_ins}").unwrap();
     text
 }
 

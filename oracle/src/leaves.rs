@@ -1,10 +1,12 @@
 //! The functions of math/ as functions on words, so that one loop makes vectors of them all and one
 //! compares them all.
 
+use crate::contours::two_to;
 use crate::math::scalar;
 use crate::math::{Vector2, cross, dot};
 use crate::numbers::Random;
 use crate::roots;
+use crate::stand_ins::{NO_SQUARE, is_stand_in};
 use std::hint::black_box;
 use std::ops::Range;
 
@@ -146,7 +148,7 @@ macro_rules! leaf {
 }
 
 /// In this order they have their numbers in the vectors.
-pub const LEAVES: [Leaf; 28] = [
+pub const LEAVES: [Leaf; 29] = [
     leaf!("sqrt_bits", &[P], &[P], |i| [root_of_pattern(i[0]), 0]),
     leaf!("sqrt", &[F], &[F], |i| of_f(f(i, 0).sqrt())),
     leaf!("median", FFF, &[F], |i| of_f(scalar::median(f(i, 0), f(i, 1), f(i, 2))), two_zeros),
@@ -175,7 +177,53 @@ pub const LEAVES: [Leaf; 28] = [
     leaf!("mul_scalar", FFF, FF, |i| of_v(v(i, 0) * f(i, 2))),
     leaf!("div_scalar", FFF, FF, |i| of_v(v(i, 0) / f(i, 2))),
     leaf!("scale", FFF, FF, |i| of_v(f(i, 2) * v(i, 0))),
+    leaf!("stand_in", &[F, F, B], &[B], |i| of_b(is_stand_in(v(i, 0)))),
 ];
+
+/// The places of the two answers of normalising: the vector, and whether it is a stand-in.
+pub const NORMALIZE: usize = 13;
+pub const STAND_IN: usize = 28;
+
+/// A vector so short that it has hardly a length or none, and whether zero is allowed.
+pub fn short_vector(r: &mut Random) -> Inputs {
+    let unit = two_to(r.below(16) as i32 - 545);
+    let number = |r: &mut Random| match r.below(5) {
+        0 => r.pick(&[0.0, -0.0, 5e-324, two_to(-600)]),
+        1 => NO_SQUARE,
+        2 => NO_SQUARE.next_up(),
+        3 => unit * (r.below(5) as f64 - 2.0),
+        _ => unit * r.unit(),
+    };
+    let (x, y) = (number(r), number(r));
+    let sign = r.below(2) << 63;
+    [x.to_bits() ^ sign, y.to_bits(), r.below(2), 0, 0]
+}
+
+/// P10, what is a stand-in beside it and what is none, each by both flags; short vectors.
+fn stand_in_examples(r: &mut Random) -> Vec<Inputs> {
+    let tiny = two_to(-600);
+    let vectors = [
+        (tiny, 0.0),
+        (0.0, 1.0),
+        (0.0, 0.0),
+        (-0.0, 0.0),
+        (0.0, -0.0),
+        (0.0, -tiny),
+        (0.0, 5e-324),
+        (NO_SQUARE, -NO_SQUARE),
+        (0.0, NO_SQUARE.next_up()),
+        (0.0, two_to(-537)),
+        (-0.0, 1.0),
+        (0.0, -1.0),
+        (1.0, 0.0),
+        (0.0, f64::MAX),
+        (f64::INFINITY, 0.0),
+        (f64::NAN, 0.0),
+    ];
+    let each = |(x, y): (f64, f64)| [0, 1].map(|flag| [x.to_bits(), y.to_bits(), flag, 0, 0]);
+    let short = (0..32).map(|_| short_vector(r));
+    vectors.into_iter().flat_map(each).chain(short).collect()
+}
 
 /// A record of eight words: the function's number, the inputs, the outputs.
 pub fn record(number: usize, inputs: &Inputs, outputs: &Outputs) -> [u64; 8] {
@@ -188,6 +236,9 @@ pub fn sample(number: usize) -> Vec<(Inputs, Outputs)> {
     let leaf = &LEAVES[number];
     let r = &mut Random(number as u64);
     let mut inputs: Vec<Inputs> = Vec::new();
+    if number == STAND_IN {
+        inputs = stand_in_examples(r);
+    }
     if leaf.inputs.is_empty() {
         inputs.push([0; 5]);
     } else if number == 0 {

@@ -33,4 +33,5 @@ pub mod roots;
 pub mod shape_sample;
 pub mod shapes;
 pub mod spoilt;
+pub mod stand_ins;
 pub mod tables;

@@ -2,12 +2,13 @@
 //! the program reads them.
 
 use crate::contours::{self, Edges, MAX_COORDINATE, contour, coordinate, corners, edge, planned};
-use crate::distances::{self, DistanceCall, collect, collected, pairs, with_splines};
+use crate::distances::{self, DistanceCall, Outcome, collect, collected, pairs, with_splines};
 use crate::glyphs::{self, polygon};
 use crate::math::Vector2;
 use crate::numbers::Random;
-use crate::shapes::{Answer, Buffers, Call, FAULTS, Fault, STRATEGIES, Strategy};
-use crate::shapes::{call, color, faults, outline, refusal, result, used};
+use crate::shapes::{Answer, Buffers, Call, FAULTS, Fault, Outline, STRATEGIES, Strategy};
+use crate::shapes::{buffers, call, color, faults, outline, refusal, result, used};
+use crate::stand_ins::{KnownOutline, known_outlines};
 
 // What the program's buffers hold at most, and what it puts into the places that no record fills.
 const MOST: [usize; 7] = [80, 264, 2120, 90, 540, 4100, 540];
@@ -83,22 +84,15 @@ pub fn written(
     record
 }
 
-/// The result of a call of so many edges, none where it is refused: lengths, kinds, colours, point
+/// The result of a call that is answered so, none where it is refused: lengths, kinds, colours, point
 /// places.
-fn colored(call: &Call, edges: Option<usize>, after: &Buffers) -> Vec<u8> {
-    let Some(count) = edges else { return Vec::new() };
+fn colored(call: &Call, answer: Answer, after: &Buffers) -> Vec<u8> {
+    let Ok(count) = answer.edges() else { return Vec::new() };
     let mut result = words(&after.lengths[..call.outline.lengths.len()]);
     result.extend(&after.kinds[..count]);
     result.extend(&after.colors[..count]);
     result.extend(after.points[..8 * count].iter().flat_map(|bits| bits.to_le_bytes()));
     result
-}
-
-fn edges(answer: &Answer) -> Option<usize> {
-    match *answer {
-        Answer::Edges(count) => Some(count),
-        Answer::Refused(_) => None,
-    }
 }
 
 pub fn record(strategy: Strategy, call: &Call) -> Vec<u8> {
@@ -109,19 +103,17 @@ pub fn record(strategy: Strategy, call: &Call) -> Vec<u8> {
         Strategy::Simple => 65,
         Strategy::InkTrap => 66,
     };
-    written(number, &call, &[], answer.code(), colored(&call, edges(&answer), &after))
+    written(number, &call, &[], answer.code(), colored(&call, answer, &after))
 }
 
 /// The collecting pass and the colouring by distance of one call.
 fn distance_records(c: &DistanceCall) -> [Vec<u8>; 2] {
     assert!(fits(&c.call));
     let c = DistanceCall { call: plain(&c.call), distances: c.distances.clone() };
-    let (code, numbered) = collect(&c.call);
-    let count = (code < 1 << 32).then_some((code % 65536) as usize);
-    let collecting = written(67, &c.call, &[], code, colored(&c.call, count, &numbered));
-    let outcome = distances::color(&c);
-    let answer = outcome.answer;
-    let result = colored(&c.call, edges(&answer), &outcome.after);
+    let (answer, numbered) = collect(&c.call);
+    let collecting = written(67, &c.call, &[], answer.code(), colored(&c.call, answer, &numbered));
+    let Outcome { answer, after, .. } = distances::color(&c);
+    let result = colored(&c.call, answer, &after);
     let coloring = written(68, &c.call, &c.distances, answer.code(), result);
     [collecting, coloring]
 }
@@ -160,8 +152,9 @@ pub fn stairs(m: usize) -> Edges {
     polygon(&(0..m).map(point).collect::<Vec<_>>())
 }
 
-fn expect(call: &Call, answer: Answer) -> Call {
-    assert_eq!(color(Strategy::Simple, call).0, answer);
+/// A call that is answered so many edges, or refused by a number.
+fn expect(call: &Call, answer: Result<usize, u8>) -> Call {
+    assert_eq!(color(Strategy::Simple, call).0.edges(), answer);
     call.clone()
 }
 
@@ -170,32 +163,32 @@ fn limits() -> Vec<Call> {
     let triangle = polygon(&[(0.0, 0.0), (1.0, 0.0), (0.0, 1.0)]);
     let empty = Edges::new();
     let mut calls = vec![
-        expect(&on(&[stairs(256)], 0.125, 5), Answer::Edges(256)),
-        expect(&on(&[stairs(257)], 0.125, 5), Answer::Refused(4)),
-        expect(&on(&[], 0.125, 0), Answer::Edges(0)),
-        expect(&on(&[empty.clone(), empty.clone()], 0.125, 0), Answer::Edges(0)),
-        expect(&on(&vec![stairs(1); 64], 0.125, u64::MAX), Answer::Edges(64)),
+        expect(&on(&[stairs(256)], 0.125, 5), Ok(256)),
+        expect(&on(&[stairs(257)], 0.125, 5), Err(4)),
+        expect(&on(&[], 0.125, 0), Ok(0)),
+        expect(&on(&[empty.clone(), empty.clone()], 0.125, 0), Ok(0)),
+        expect(&on(&vec![stairs(1); 64], 0.125, u64::MAX), Ok(64)),
     ];
     let mut sparse = vec![empty.clone(); 64];
     sparse[40] = triangle.clone();
-    calls.push(expect(&on(&sparse, 0.125, 3), Answer::Edges(3)));
+    calls.push(expect(&on(&sparse, 0.125, 3), Ok(3)));
     sparse.push(empty);
-    calls.push(expect(&on(&sparse, 0.125, 3), Answer::Refused(4)));
+    calls.push(expect(&on(&sparse, 0.125, 3), Err(4)));
     for (x, answer) in [
-        (MAX_COORDINATE, Answer::Edges(3)),
-        (-MAX_COORDINATE, Answer::Edges(3)),
-        (MAX_COORDINATE.next_up(), Answer::Refused(7)),
-        (-MAX_COORDINATE.next_up(), Answer::Refused(7)),
+        (MAX_COORDINATE, Ok(3)),
+        (-MAX_COORDINATE, Ok(3)),
+        (MAX_COORDINATE.next_up(), Err(7)),
+        (-MAX_COORDINATE.next_up(), Err(7)),
     ] {
         let call = on(&[polygon(&[(0.0, 0.0), (1.0, x), (0.0, 1.0)])], 0.5, 1);
         calls.push(expect(&call, answer));
     }
     for (threshold, answer) in [
-        (1.0, Answer::Edges(3)),
-        (-1.0, Answer::Edges(3)),
-        (1.0f64.next_up(), Answer::Refused(6)),
-        (-1.0f64.next_up(), Answer::Refused(6)),
-        (f64::NAN, Answer::Refused(6)),
+        (1.0, Ok(3)),
+        (-1.0, Ok(3)),
+        (1.0f64.next_up(), Err(6)),
+        (-1.0f64.next_up(), Err(6)),
+        (f64::NAN, Err(6)),
     ] {
         calls.push(expect(&on(&[triangle.clone()], threshold, 1), answer));
     }
@@ -208,7 +201,7 @@ fn widest() -> Call {
     let bow = edge(&[v(1.0, 0.0), v(2.0, 0.0), v(0.0, 1.0)]);
     let mut shape = vec![vec![line, bow]; 63];
     shape.push(stairs(130));
-    expect(&on(&shape, 0.125, 1234567), Answer::Edges(508))
+    expect(&on(&shape, 0.125, 1234567), Ok(508))
 }
 
 /// The first `count` random calls of few edges of which `wanted` holds.
@@ -298,7 +291,7 @@ fn refused(r: &mut Random, number: u8, count: usize) -> Vec<Call> {
             let mut call = on(&shape, 0.125, contours::seed(r));
             fault(r, &mut call);
             let call = plain(&call);
-            if fits(&call) && color(Strategy::Simple, &call).0 == Answer::Refused(number) {
+            if fits(&call) && color(Strategy::Simple, &call).0.edges() == Err(number) {
                 found.push(call);
             }
         }
@@ -384,12 +377,74 @@ fn spoiled(r: &mut Random) -> Vec<DistanceCall> {
     found
 }
 
-/// A small record of each function, accepted: two lines.
+/// By distance, with distances that are all 1.
+fn with_ones(call: &Call) -> DistanceCall {
+    let splines = if refusal(call).is_none() { collected(call).splines } else { 0 };
+    DistanceCall { call: call.clone(), distances: vec![1.0f64.to_bits(); pairs(splines)] }
+}
+
+/// The records of a call by all four functions.
+fn by_all(call: &Call) -> Vec<Vec<u8>> {
+    let simple_and_ink_trap = STRATEGIES.map(|strategy| record(strategy, call));
+    simple_and_ink_trap.into_iter().chain(distance_records(&with_ones(call))).collect()
+}
+
+/// Stand-ins of each kind, counted as written out: edges one by one, and outlines of several; with a result
+/// that has more of them; and refused.
+fn stand_ins() -> Vec<Vec<u8>> {
+    let mut records = Vec::new();
+    for KnownOutline { name, contours, stand_ins } in known_outlines() {
+        let call = on(&contours, 0.125, 5);
+        let edges = result(Strategy::Simple, &call).kinds.len();
+        let found = color(Strategy::Simple, &call).0;
+        assert_eq!(found, Answer::Colored { edges, stand_ins }, "{name}");
+        match call.outline.edges() {
+            1 => {
+                let [collecting, _] = distance_records(&with_ones(&call));
+                records.extend([record(Strategy::Simple, &call), collecting]);
+            }
+            0..40 if contours.len() < 8 => records.extend(by_all(&call)),
+            256 if contours.len() == 1 => records.push(record(Strategy::Simple, &call)),
+            _ => {}
+        }
+    }
+    let point = edge(&[v(2.0, 3.0), v(2.0, 3.0)]);
+    let many = on(&vec![vec![point; 12]; 11], 0.125, 0);
+    assert_eq!(many.outline.stand_ins(), 264);
+    records.extend(distance_records(&with_ones(&many)));
+    records.extend(split_stand_ins().iter().flat_map(by_all));
+    records.extend(refused_stand_ins().iter().flat_map(by_all));
+    records
+}
+
+/// A line without stand-ins whose thirds have them, since some begin and end at one double; and a line of one point.
+fn split_stand_ins() -> [Call; 2] {
+    let line = edge(&[v(1.0, 1.0), v(1.0f64.next_up(), 1.0)]);
+    let point = edge(&[v(2.0, 3.0), v(2.0, 3.0)]);
+    [(line, 0), (point, 2)].map(|(edge, stand_ins)| {
+        let call = on(&[vec![edge]], -1.0, 0);
+        let Buffers { lengths, kinds, points, .. } = result(Strategy::Simple, &call);
+        assert_eq!(call.outline.stand_ins(), stand_ins);
+        assert!(Outline { lengths, kinds, points }.stand_ins() > stand_ins);
+        call
+    })
+}
+
+/// Refused by its threshold, and by a buffer.
+fn refused_stand_ins() -> [Call; 2] {
+    let steep = on(&[vec![edge(&[v(2.0, 3.0), v(2.0, 3.0)])]], 1.5, 0);
+    let mut short = Call { threshold: 1.0, ..steep.clone() };
+    short.out = buffers(&mut Random(0), 1, 1, 8, 0);
+    [expect(&steep, Err(6)), expect(&short, Err(11))]
+}
+
+/// A small record of each function, accepted: a line of one point, and a cubic straight up with both its control
+/// points at its start.
 pub fn small_records() -> Vec<Vec<u8>> {
-    let call = on(&[polygon(&[(0.0, 0.0), (1.0, 2.0)])], 0.125, 0);
-    let by_distance = by_distance(call.clone(), vec![0.5f64.to_bits()]);
-    let simple_and_ink_trap = STRATEGIES.map(|strategy| record(strategy, &call));
-    simple_and_ink_trap.into_iter().chain(distance_records(&by_distance)).collect()
+    let (p, q) = (v(1.0, 2.0), v(1.0, 7.0));
+    let call = on(&[vec![edge(&[p, p]), edge(&[p, p, p, q])]], 0.125, 0);
+    assert_eq!(color(Strategy::Simple, &call).0, Answer::Colored { edges: 2, stand_ins: 3 });
+    by_all(&call)
 }
 
 /// The records of each part, by name.
@@ -424,6 +479,7 @@ pub fn sample() -> Vec<(String, Vec<Vec<u8>>)> {
         parts.into_iter().map(|(name, calls)| (name.to_string(), records(calls))).collect();
     let widest = record(Strategy::InkTrap, &widest());
     sample.push(("508 edges".to_string(), vec![widest]));
+    sample.push(("stand-ins".to_string(), stand_ins()));
     for (name, calls) in [
         ("P7 whole", square_by_distance()),
         ("few splines", ways(r, &[0, 1, 2, 3, 5, 9])),

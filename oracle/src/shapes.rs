@@ -6,6 +6,7 @@ use crate::geometry::{Contour, EdgeSegment, Shape};
 use crate::given;
 use crate::math::Vector2;
 use crate::numbers::Random;
+use crate::stand_ins;
 
 #[derive(Clone, Copy, Debug, PartialEq)]
 pub enum Strategy {
@@ -48,16 +49,41 @@ pub struct Call {
 
 #[derive(Clone, Copy, Debug, PartialEq)]
 pub enum Answer {
+    /// The edges of a list of directions.
     Edges(usize),
+    /// The edges of a result, and how many of the unit directions of the outline are stand-ins.
+    Colored {
+        edges: usize,
+        stand_ins: usize,
+    },
+    /// The same of the collecting pass, with the splines.
+    Collected {
+        edges: usize,
+        splines: usize,
+        stand_ins: usize,
+    },
     Refused(u8),
 }
 
 impl Answer {
     /// The number by which C gets it.
     pub fn code(self) -> u64 {
+        let (edges, splines, stand_ins) = match self {
+            Answer::Edges(edges) => (edges, 0, 0),
+            Answer::Colored { edges, stand_ins } => (edges, 0, stand_ins),
+            Answer::Collected { edges, splines, stand_ins } => (edges, splines, stand_ins),
+            Answer::Refused(number) => return (1 << 32) + number as u64,
+        };
+        edges as u64 + ((splines as u64) << 16) + ((stand_ins as u64) << 48)
+    }
+
+    /// The edges, or the number of the refusal.
+    pub fn edges(self) -> Result<usize, u8> {
         match self {
-            Answer::Edges(count) => count as u64,
-            Answer::Refused(number) => (1 << 32) + number as u64,
+            Answer::Edges(edges)
+            | Answer::Colored { edges, .. }
+            | Answer::Collected { edges, .. } => Ok(edges),
+            Answer::Refused(number) => Err(number),
         }
     }
 }
@@ -65,6 +91,11 @@ impl Answer {
 impl Outline {
     pub fn edges(&self) -> usize {
         self.lengths.iter().map(|&n| n as usize).sum()
+    }
+
+    /// How many of its unit directions are stand-ins, where it is not refused.
+    pub fn stand_ins(&self) -> usize {
+        stand_ins::count(&decode(self))
     }
 }
 
@@ -224,11 +255,11 @@ pub fn color(strategy: Strategy, call: &Call) -> (Answer, Buffers) {
     if let Some(number) = refusal(call) {
         return (Answer::Refused(number), out);
     }
-    deliver(&result(strategy, call), out)
+    deliver(&result(strategy, call), call.outline.stand_ins(), out)
 }
 
-/// A result, written to buffers where it fits.
-pub fn deliver(result: &Buffers, mut out: Buffers) -> (Answer, Buffers) {
+/// A result of an outline with so many stand-ins, written to buffers where it fits.
+pub fn deliver(result: &Buffers, stand_ins: usize, mut out: Buffers) -> (Answer, Buffers) {
     if too_long(result, &out) {
         return (Answer::Refused(11), out);
     }
@@ -236,7 +267,7 @@ pub fn deliver(result: &Buffers, mut out: Buffers) -> (Answer, Buffers) {
     write(&result.kinds, &mut out.kinds);
     write(&result.points, &mut out.points);
     write(&result.colors, &mut out.colors);
-    (Answer::Edges(result.kinds.len()), out)
+    (Answer::Colored { edges: result.kinds.len(), stand_ins }, out)
 }
 
 // ---- calls to try

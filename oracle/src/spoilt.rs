@@ -1,7 +1,7 @@
 //! Records whose answer is not the source's, by one bit: a program that does not look at some of an answer takes
 //! one of them for right.
 
-use crate::directions::PLACES;
+use crate::directions::{FLAGS, PLACES};
 use crate::edges::FUNCTIONS;
 use crate::leaves::LEAVES;
 use std::ops::Range;
@@ -33,6 +33,12 @@ impl Places {
         self.bytes.extend(from..from + count);
         from + count
     }
+
+    /// A word with the answer of a colouring, and its byte from which on the stand-ins are counted.
+    fn colored(&mut self, word: usize) {
+        self.words(word..word + 1);
+        self.bytes.push(8 * word + 6);
+    }
 }
 
 /// Where the answer of a record stands, by its number.
@@ -51,7 +57,8 @@ fn answer(record: &[u8]) -> Places {
         69 => {
             let (file, text, parts) = (size(2), size(3), size(4));
             places.words(3..4);
-            places.words(5..6 + 2 * parts);
+            places.colored(5);
+            places.words(6..6 + 2 * parts);
             places.bytes_from(48 + 16 * parts + file.next_multiple_of(8), text);
         }
         70 => {
@@ -65,10 +72,11 @@ fn answer(record: &[u8]) -> Places {
         72 => {
             places.words(11..12);
             let edges = if size(11) >> 32 == 0 { size(11) } else { 0 };
-            places.words_from(size(12), PLACES * edges);
+            let list = places.bytes_from(size(12), FLAGS * edges);
+            places.words_from(list, PLACES * edges);
         }
         _ => {
-            places.words(11..12);
+            places.colored(11);
             let edges = size(11) % 65536;
             let kinds = places.words_from(size(12), size(4));
             let points = places.bytes_from(kinds, 2 * edges);

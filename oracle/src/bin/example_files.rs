@@ -4,10 +4,11 @@
 use oracle::geometry::Shape;
 use oracle::given::by_distance_measured::spline_distances;
 use oracle::given::edge_coloring_by_distance;
-use oracle::glyphs::{registered, teardrop};
+use oracle::glyphs::{doubled, registered, teardrop};
 use oracle::job_files::{no_contours, square_job};
 use oracle::jobs::{Job, listing, outcome, write};
 use oracle::shapes::source_shape;
+use oracle::stand_ins::count;
 use std::path::Path;
 
 const SEED: u64 = 2024;
@@ -22,7 +23,7 @@ fn sign(strategy: u8) -> Job {
         let measured = spline_distances(&mut shape.clone(), threshold);
         job.distances = measured.iter().map(|d| (d * 1024.0).round() / 1024.0).collect();
         edge_coloring_by_distance(&mut shape, threshold, SEED);
-        assert_eq!(outcome(&write(&job)).text(), listing(&shape));
+        assert_eq!(outcome(&write(&job)).text(), listing(&shape, count(&job.contours)));
     }
     job
 }
@@ -33,6 +34,7 @@ fn main() {
         std::process::exit(2);
     };
     let drop = Job { contours: vec![teardrop()], ..square_job(1) };
+    let stand_ins = Job { contours: doubled(), ..square_job(1) };
     let steep = Job { threshold: 2.0, ..square_job(1) };
     for (name, file) in [
         ("square", write(&square_job(1))),
@@ -42,6 +44,7 @@ fn main() {
         ("registered", write(&sign(1))),
         ("registered-ink-trap", write(&sign(2))),
         ("registered-by-distance", write(&sign(3))),
+        ("stand-ins", write(&stand_ins)),
         ("no-contours", write(&no_contours(1))),
         ("cut", write(&square_job(1))[..100].to_vec()),
         ("bad-threshold", write(&steep)),

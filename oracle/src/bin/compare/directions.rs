@@ -1,14 +1,17 @@
-//! The unit directions of the edges of an outline: lists, the corners that follow from them, refusals.
+//! The unit directions of the edges of an outline and which of them are stand-ins: lists, the corners that follow
+//! from them, refusals.
 
 use crate::Tally;
-use crate::shapes::{Classes, Guarded, WORD, corners};
+use crate::shapes::{BYTE, Classes, Guarded, WORD, corners};
+use crate::stand_ins;
 use oracle::directions::{
-    self, ORDER, PLACES, answer, call, every_edge, of_edge, on, ways_to_spoil,
+    self, FLAGS, ORDER, PLACES, answer, call, every_edge, of_edge, on, ways_to_spoil,
 };
 use oracle::geometry::EdgeSegment;
 use oracle::math::{Vector2, cross, dot};
 use oracle::numbers::Random;
 use oracle::shapes::{Answer, Call, decode, outline, used};
+use oracle::stand_ins::{known_edges, known_outlines};
 
 #[link(name = "capi", kind = "static")]
 unsafe extern "C" {
@@ -21,14 +24,17 @@ unsafe extern "C" {
         points_len: usize,
         out_directions: *mut u64,
         out_directions_len: usize,
+        out_stand_ins: *mut u8,
+        out_stand_ins_len: usize,
     ) -> u64;
 }
 
 /// Lists the directions by the proved code and by the source, and compares the answer and every bit of
-/// the four buffers. The answer is the source's; the buffer is what the proved code made of it.
+/// the five buffers. The answer is the source's; the list is what the proved code made of it.
 fn compare_call(part: &mut Tally, call: &Call) -> (Answer, Vec<u64>) {
-    let (o, mut room) = (call.outline.clone(), Guarded::new(&call.out.points, WORD));
-    let out = room.part();
+    let (o, mut list) = (call.outline.clone(), Guarded::new(&call.out.points, WORD));
+    let mut flags = Guarded::new(&call.out.colors, BYTE);
+    let (places, bytes) = (list.part(), flags.part());
     let code = unsafe {
         merelsplum_edge_directions(
             o.lengths.as_ptr(),
@@ -37,22 +43,31 @@ fn compare_call(part: &mut Tally, call: &Call) -> (Answer, Vec<u64>) {
             o.kinds.len(),
             o.points.as_ptr(),
             o.points.len(),
-            out.as_mut_ptr(),
-            out.len(),
+            places.as_mut_ptr(),
+            places.len(),
+            bytes.as_mut_ptr(),
+            bytes.len(),
         )
     };
     let (answer, after) = answer(call);
-    let agree = code == answer.code() && room.is(&after) && o == call.outline;
-    let found = room.part().to_vec();
+    let agree = code == answer.code()
+        && list.is(&after.points)
+        && flags.is(&after.colors)
+        && o == call.outline;
+    let found = list.part().to_vec();
     part.note(agree, || {
         let (l, k, p) = (&call.outline.lengths, &call.outline.kinds, &call.outline.points);
         let what = format!("{l:?} {k:?} {p:016X?}");
         let what: String = what.chars().take(2000).collect();
-        let at = found.iter().zip(&after).position(|(a, b)| a != b);
+        let at = found.iter().zip(&after.points).position(|(a, b)| a != b);
         let place = at.map_or("the places are the same".to_string(), |at| {
-            format!("place {at} is {:016X} for {:016X}", found[at], after[at])
+            format!("place {at} is {:016X} for {:016X}", found[at], after.points[at])
         });
-        format!("{what}: {answer:?}, proved {code:#x}, {place}")
+        let at = flags.part().iter().zip(&after.colors).position(|(a, b)| a != b);
+        let flag = at.map_or("the flags are the same".to_string(), |at| {
+            format!("flag {at} is {} for {}", flags.part()[at], after.colors[at])
+        });
+        format!("{what}: {answer:?}, proved {code:#x}, {place}, {flag}")
     });
     (answer, found)
 }
@@ -92,28 +107,7 @@ fn edge_classes(classes: &mut Classes, e: &EdgeSegment) {
     classes.note("start and end differ", !same(start, end));
     classes.note("a curve whose start and end are the same", curve && same(start, end));
 
-    // the two control points at an end are the same, and the next one is not
-    let by_next = |end: usize, near: usize, next: usize| p[end] == p[near] && p[end] != p[next];
-    let at_start = curve && by_next(0, 1, 2);
-    let at_end = curve && by_next(order, order - 1, order - 2);
-    classes.note("quadratic, start by the next control point", order == 2 && at_start);
-    classes.note("quadratic, end by the control point before", order == 2 && at_end);
-    classes.note("cubic, start by the next control point", order == 3 && at_start);
-    classes.note("cubic, end by the control point before", order == 3 && at_end);
-    classes.note("cubic, both so", order == 3 && at_start && at_end);
-
     let (d0, d1) = (e.direction(0.0), e.direction(1.0));
-    let (none0, none1) = (d0.length() == 0.0, d1.length() == 0.0);
-    classes.note("a stand-in at the start", none0);
-    classes.note("a stand-in at the end", none1);
-    classes.note("a stand-in at the start alone", none0 && !none1);
-    classes.note("a stand-in at the end alone", !none0 && none1);
-    classes.note("a line's stand-in", order == 1 && none0);
-    classes.note("a quadratic's stand-in", order == 2 && (none0 || none1));
-    classes.note("a cubic's stand-in", order == 3 && (none0 || none1));
-    classes.note("a stand-in for no direction", none0 && !d0.is_nonzero());
-    classes.note("a stand-in for a direction of length 0", none0 && d0.is_nonzero());
-
     classes.note("a start with a component -0", either(start, is_minus_zero));
     classes.note("an end with a component -0", either(end, is_minus_zero));
     // at t = 0 and 1 a zero has its sign from more control points than two
@@ -141,7 +135,6 @@ fn edge_classes(classes: &mut Classes, e: &EdgeSegment) {
     {
         classes.note(name, p.iter().any(|&v| either(v, |x| x == most)));
     }
-    classes.note("all points the same", p.iter().all(|&v| v == p[0]));
 }
 
 fn corner_classes(classes: &mut Classes, call: &Call, list: &[u64]) {
@@ -165,7 +158,7 @@ fn corner_classes(classes: &mut Classes, call: &Call, list: &[u64]) {
 }
 
 fn call_classes(classes: &mut Classes, call: &Call) {
-    let (o, room) = (&call.outline, call.out.points.len());
+    let (o, room, flags) = (&call.outline, call.out.points.len(), call.out.colors.len());
     let (n, edges) = (o.lengths.len(), o.edges());
     let empty = |i: usize| o.lengths[i] == 0;
     classes.note("shapes without contours", n == 0);
@@ -175,9 +168,13 @@ fn call_classes(classes: &mut Classes, call: &Call) {
     classes.note("first contour empty", edges > 0 && empty(0));
     classes.note("last contour empty", edges > 0 && empty(n - 1));
     classes.note("a contour between others empty", (1..n.max(1) - 1).any(empty));
-    classes.note("a buffer exactly as long as the list", edges > 0 && room == PLACES * edges);
-    classes.note("a longer buffer", edges > 0 && room > PLACES * edges);
-    classes.note("no edge, no buffer", edges == 0 && room == 0);
+    let (exact, exact_flags) = (room == PLACES * edges, flags == FLAGS * edges);
+    let some = edges > 0;
+    classes.note("buffers exactly as long as the list and the flags", some && exact && exact_flags);
+    classes.note("a longer buffer for the list", some && !exact && exact_flags);
+    classes.note("a longer buffer for the flags", some && exact && !exact_flags);
+    classes.note("longer buffers for both", some && !exact && !exact_flags);
+    classes.note("no edge, no buffers", edges == 0 && room == 0 && flags == 0);
     let unused = o.kinds.iter().zip(o.points.chunks(8)).any(|(&kind, places)| {
         places[used(kind)..].iter().any(|&bits| !f64::from_bits(bits).is_finite())
     });
@@ -186,14 +183,53 @@ fn call_classes(classes: &mut Classes, call: &Call) {
 
 // ---- comparisons
 
-/// A list that is not refused, and its corners.
-fn compare_list(parts: &mut [Tally; 2], classes: &mut Classes, call: &Call) {
-    let (answer, found) = compare_call(&mut parts[0], call);
-    assert!(answer == Answer::Edges(call.outline.edges()), "refused: {answer:?}");
-    compare_corners(&mut parts[1], call, &found);
-    call_classes(classes, call);
-    corner_classes(classes, call, &directions::list(&call.outline));
-    decode(&call.outline).iter().flatten().for_each(|e| edge_classes(classes, e));
+/// What lists are compared, and which kinds there were.
+#[derive(Default)]
+struct Lists {
+    directions: Tally,
+    corners: Tally,
+    classes: Classes,
+    stand_ins: Classes,
+}
+
+impl Lists {
+    /// A list that is not refused, and its corners.
+    fn compare(&mut self, call: &Call) {
+        let (answer, found) = compare_call(&mut self.directions, call);
+        assert!(answer == Answer::Edges(call.outline.edges()), "refused: {answer:?}");
+        compare_corners(&mut self.corners, call, &found);
+        call_classes(&mut self.classes, call);
+        corner_classes(&mut self.classes, call, &directions::list(&call.outline));
+        let shape = decode(&call.outline);
+        shape.iter().flatten().for_each(|e| edge_classes(&mut self.classes, e));
+        stand_ins::classes(&mut self.stand_ins, &shape);
+    }
+
+    fn close(self, all: &mut Tally) {
+        self.classes.close(all);
+        self.stand_ins.close(all);
+        all.close("unit directions", self.directions);
+        all.close("corners by the directions, and the source's", self.corners);
+    }
+}
+
+/// Edges and outlines with their stand-ins written out.
+fn known(lists: &mut Lists, all: &mut Tally) {
+    let mut part = Tally::default();
+    let r = &mut Random(502);
+    for known in known_edges() {
+        let outline = outline(r, &[vec![known.edge]]);
+        let flags = directions::flags(&outline);
+        part.note(flags == known.stand_ins.map(u8::from), || format!("{}: {flags:?}", known.name));
+    }
+    for known in known_outlines() {
+        let outline = outline(r, &known.contours);
+        let call = on(r, outline, 0.125);
+        lists.compare(&call);
+        let sum = call.outline.stand_ins();
+        part.note(sum == known.stand_ins, || format!("{}: {sum} stand-ins", known.name));
+    }
+    all.close("stand-ins as written out", part);
 }
 
 const SHAPES: u64 = 250_000;
@@ -203,24 +239,38 @@ const FEW: [[f64; 4]; 2] =
     [[0.0, -0.0, 1.0, -1.0], [0.0, 5e-324, 2.409_919_865_102_884e-181, -1_048_576.0]];
 
 fn lists(all: &mut Tally) {
-    let mut parts = [Tally::default(), Tally::default()];
-    let mut classes = Classes::default();
+    let mut lists = Lists::default();
     let r = &mut Random(500);
     for values in FEW {
         for shape in every_edge(values) {
             let outline = outline(r, &shape);
-            let call = on(r, outline, 0.125);
-            compare_list(&mut parts, &mut classes, &call);
+            lists.compare(&on(r, outline, 0.125));
         }
     }
     for _ in 0..SHAPES {
-        let call = call(r);
-        compare_list(&mut parts, &mut classes, &call);
+        lists.compare(&call(r));
     }
-    classes.close(all);
-    let [lists, corners] = parts;
-    all.close("unit directions", lists);
-    all.close("corners by the directions, and the source's", corners);
+    known(&mut lists, all);
+    lists.close(all);
+}
+
+/// Of a call that is refused by its buffers.
+fn short_classes(classes: &mut Classes, call: &Call) {
+    let edges = call.outline.edges();
+    let (places, flags) = (call.out.points.len(), call.out.colors.len());
+    let (list, exact) = (PLACES * edges, FLAGS * edges);
+    classes.note("11, the list one short, the flags exactly right", {
+        places + 1 == list && flags == exact
+    });
+    classes.note("11, the flags one short, the list exactly right", {
+        flags + 1 == exact && places == list
+    });
+    classes.note("11, the list shorter, the flags longer", places + 1 < list && flags > exact);
+    classes.note("11, the flags shorter, the list longer", flags + 1 < exact && places > list);
+    classes.note("11, no list", places == 0 && flags >= exact);
+    classes.note("11, no flags", flags == 0 && places >= list);
+    classes.note("11, both short", places < list && flags < exact);
+    classes.note("11, stand-ins", call.outline.stand_ins() > 0);
 }
 
 /// Calls with up to three faults: what is refused, by which number, and no byte changed.
@@ -230,7 +280,7 @@ fn refusals(all: &mut Tally) {
     let mut alone = vec![[0u64; 1 + ORDER.len()]; ways.len()];
     // by the refusal that decides, and another that holds besides
     let mut besides = [[0u64; ORDER.len()]; ORDER.len()];
-    let (mut one_short, mut empty) = (0, 0);
+    let mut short = Classes::default();
     let r = &mut Random(501);
     for _ in 0..200_000 {
         let mut call = call(r);
@@ -241,16 +291,15 @@ fn refusals(all: &mut Tally) {
             ways[way].2(r, &mut call);
         }
         let (answer, _) = compare_call(&mut part, &call);
-        let which = match answer {
-            Answer::Edges(_) => 0,
-            Answer::Refused(number) => 1 + ORDER.iter().position(|&n| n == number).unwrap(),
+        let which = match answer.edges() {
+            Ok(_) => 0,
+            Err(number) => 1 + ORDER.iter().position(|&n| n == number).unwrap(),
         };
         if count == 1 {
             alone[way][which] += 1;
         }
         if answer == Answer::Refused(11) {
-            one_short += (call.out.points.len() + 1 == PLACES * call.outline.edges()) as u64;
-            empty += call.out.points.is_empty() as u64;
+            short_classes(&mut short, &call);
         }
         if which > 0 {
             for (other, holds) in directions::faults(&call).into_iter().enumerate() {
@@ -275,10 +324,7 @@ fn refusals(all: &mut Tally) {
             all.met(besides[first][other], || format!("directions, {a} before {b}"));
         }
     }
-    for (name, count) in [("list short by 1", one_short), ("no buffer for the list", empty)] {
-        println!("{name:24}{count:>10}");
-        all.met(count, || name.to_string());
-    }
+    short.close(all);
     all.close("refusals of directions", part);
 }
 

@@ -2,12 +2,14 @@
 
 use crate::Tally;
 use crate::shapes::{Classes, Room, corners};
+use crate::stand_ins;
 use oracle::contours;
-use oracle::distances::{self, DISTANCE_FAULTS, DistanceCall, MOST_SPLINES, ORDER, Outcome, WAYS};
-use oracle::distances::{call, collect, color, pairs, spoil};
+use oracle::distances::{self, DISTANCE_FAULTS, DistanceCall, ORDER, Outcome, WAYS};
+use oracle::distances::{MOST_DISTANCES, MOST_SPLINES, call, collect, color, pairs, spoil};
 use oracle::numbers::Random;
 use oracle::shapes::{Answer, Buffers, Call, FAULTS};
-use oracle::shapes::{buffers, decode, outline};
+use oracle::shapes::{buffers, decode, outline, refusal};
+use oracle::stand_ins::known_outlines;
 
 #[link(name = "capi", kind = "static")]
 unsafe extern "C" {
@@ -119,13 +121,13 @@ fn shown(c: &DistanceCall) -> String {
 }
 
 /// Collects by the proved code and by the source, and compares answer and buffers.
-fn compare_collect(part: &mut Tally, c: &DistanceCall) -> u64 {
+fn compare_collect(part: &mut Tally, c: &DistanceCall) -> Answer {
     let (given, mut room) = (c.call.clone(), Room::new(&c.call.out));
     let code = proved_collect(&given, &mut room);
-    let (expected, after) = collect(&c.call);
-    let agree = code == expected && room.is(&after) && given.outline == c.call.outline;
-    part.note(agree, || format!("collecting {}: {expected:#x}, proved {code:#x}", shown(c)));
-    expected
+    let (answer, after) = collect(&c.call);
+    let agree = code == answer.code() && room.is(&after) && given.outline == c.call.outline;
+    part.note(agree, || format!("collecting {}: {answer:?}, proved {code:#x}", shown(c)));
+    answer
 }
 
 /// The same of a colouring. The outcome is the source's.
@@ -170,7 +172,7 @@ fn contour_classes(classes: &mut Classes, call: &Call) {
 
 fn shapes(all: &mut Tally) {
     let mut parts = [Tally::default(), Tally::default()];
-    let mut classes = Classes::default();
+    let (mut classes, mut stand_in_classes) = (Classes::default(), Classes::default());
     let (mut sizes, mut ways) = ([0u64; MOST_SPLINES + 1], [0u64; WAYS.len()]);
     let mut colors = [0u64; 8];
     let r = &mut Random(600);
@@ -178,11 +180,14 @@ fn shapes(all: &mut Tally) {
         let (c, way, splines) = call(r);
         compare_collect(&mut parts[0], &c);
         let Outcome { answer, after, declined, .. } = compare_color(&mut parts[1], &c);
-        let Answer::Edges(count) = answer else { panic!("refused: {answer:?}") };
+        let Answer::Colored { edges: count, .. } = answer else { panic!("refused: {answer:?}") };
         sizes[splines] += 1;
         ways[way] += (splines > 2) as u64;
         after.colors[..count].iter().for_each(|&color| colors[color as usize] += 1);
         contour_classes(&mut classes, &c.call);
+        let shape = decode(&c.call.outline);
+        stand_ins::classes(&mut stand_in_classes, &shape);
+        stand_ins::check_source(3, &shape, c.call.threshold);
         let exact = c.call.out.lengths.len() == c.call.outline.lengths.len()
             && c.call.out.kinds.len() == count
             && c.call.out.points.len() == 8 * count
@@ -194,6 +199,7 @@ fn shapes(all: &mut Tally) {
         classes.note("64 splines, half the pairs declined", splines == 64 && declined > 1008);
     }
     classes.close(all);
+    stand_in_classes.close(all);
     for (n, count) in sizes.iter().enumerate() {
         all.met(*count, || format!("{n} splines"));
     }
@@ -214,6 +220,7 @@ fn refusals(all: &mut Tally) {
     let mut parts = [Tally::default(), Tally::default()];
     let mut alone = vec![[0u64; 10]; FAULTS.len() + DISTANCE_FAULTS.len()];
     let mut besides = [[0u64; 9]; 9];
+    let mut classes = Classes::default();
     let r = &mut Random(601);
     for _ in 0..100_000 {
         let (mut c, _, _) = call(r);
@@ -228,6 +235,11 @@ fn refusals(all: &mut Tally) {
             alone[fault][which.map_or(0, |i| i + 1)] += 1;
         }
         if let Some(first) = which {
+            let stand_ins = refusal(&c.call).is_none() && c.call.outline.stand_ins() > 0;
+            classes.note("4 by splines, stand-ins", first == 5 && stand_ins);
+            classes.note("8 by distances, stand-ins", first == 6 && stand_ins);
+            classes.note("9, stand-ins", first == 7 && stand_ins);
+            classes.note("11, stand-ins", first == 8 && stand_ins);
             let held = distances::faults(&c);
             let short = c.call.out.kinds.len() < c.call.outline.kinds.len();
             let held = held.into_iter().chain([short]).enumerate();
@@ -254,6 +266,7 @@ fn refusals(all: &mut Tally) {
             all.met(count, || format!("{a:?} before {b:?}"));
         }
     }
+    classes.close(all);
     let [collecting, coloring] = parts;
     all.close("refusals of the collecting pass", collecting);
     all.close("refusals of by-distance colouring", coloring);
@@ -276,8 +289,35 @@ fn p7(all: &mut Tally) {
     all.close("P7", part);
 }
 
+/// Outlines with their stand-ins written out, with distances of 1, by thresholds that split some and not.
+fn known_stand_ins(all: &mut Tally) {
+    let mut part = Tally::default();
+    let r = &mut Random(604);
+    for known in known_outlines() {
+        for threshold in [0.125, -1.0] {
+            let (outline, out) = (outline(r, &known.contours), buffers(r, 64, 508, 4064, 508));
+            let call = Call { outline, threshold, seed: 1, out };
+            let splines = distances::collected(&call).splines;
+            let most = pairs(splines).min(MOST_DISTANCES);
+            let c = DistanceCall { call, distances: vec![1.0f64.to_bits(); most] };
+            let (collected, colored) =
+                (compare_collect(&mut part, &c), compare_color(&mut part, &c).answer);
+            let sums = (splines <= MOST_SPLINES).then_some((known.stand_ins, known.stand_ins));
+            let found = match (collected, colored) {
+                (Answer::Collected { stand_ins: a, .. }, Answer::Colored { stand_ins: b, .. }) => {
+                    Some((a, b))
+                }
+                _ => None,
+            };
+            part.note(found == sums, || format!("{}: {found:?} stand-ins", known.name));
+        }
+    }
+    all.close("stand-ins as written out, by distance", part);
+}
+
 pub fn compare(all: &mut Tally) {
     p7(all);
+    known_stand_ins(all);
     shapes(all);
     refusals(all);
 }

@@ -2,6 +2,7 @@
 
 use crate::Tally;
 use crate::records::fault;
+use crate::shapes::Classes;
 use oracle::edges::{Answer, FUNCTIONS, Given, Inputs, Outputs, record};
 use oracle::numbers::Random;
 
@@ -30,11 +31,30 @@ fn kinds(part: &mut Tally) {
     }
 }
 
+/// Which unit directions were compared, with a stand-in and without.
+fn unit_classes(classes: &mut Classes, i: &Inputs, unit: &Outputs) {
+    let t = f64::from_bits(i.parameter);
+    let (none, up) = (unit.number == 1, unit.places[..2] == [0, 1.0f64.to_bits()]);
+    classes.note("stand-ins, line", none && i.kind == 1);
+    classes.note("stand-ins, quadratic", none && i.kind == 2);
+    classes.note("stand-ins, cubic", none && i.kind == 3);
+    classes.note("stand-ins at 0", none && t == 0.0);
+    classes.note("stand-ins at 1", none && t == 1.0);
+    classes.note("stand-ins between", none && t > 0.0 && t < 1.0);
+    classes.note("stand-ins outside", none && !(0.0..=1.0).contains(&t));
+    let direction = i.edge().direction(t);
+    classes.note("stand-ins for a direction that is not zero", none && direction.is_nonzero());
+    classes.note("(0, 1) and no stand-in", up && !none);
+}
+
 pub fn compare(all: &mut Tally) {
     for (number, function) in FUNCTIONS.iter().enumerate() {
-        let mut part = Tally::default();
+        let (mut part, mut classes) = (Tally::default(), Classes::default());
         let mut one = |i: Inputs| {
             let expected = function.answer(&i);
+            if let Answer::Unit = function.answers {
+                unit_classes(&mut classes, &i, &expected);
+            }
             let fault = fault(&record(number, &i, &expected), function.answers.words());
             part.note(fault.is_none(), || {
                 let Inputs { kind, places, parameter } = i;
@@ -51,6 +71,7 @@ pub fn compare(all: &mut Tally) {
             }
             given => colors(given, &mut one),
         }
+        classes.close(all);
         all.close(function.name, part);
     }
     let mut part = Tally::default();

@@ -2,13 +2,15 @@
 
 use crate::Tally;
 use crate::shapes::{BYTE, Classes, Guarded, Room, SHORT, WORD};
+use crate::stand_ins;
 use oracle::job_faults::{BOTH, DAMAGES, can_follow, damage, planted, planted_before};
-use oracle::job_files::{Known, LONG, PROGRAM_BYTES};
-use oracle::job_files::{job, known, long, longest, no_contours, small, square_job, widest};
+use oracle::job_files::{Known, LONG, PROGRAM_BYTES, by, job, known, long, longest};
+use oracle::job_files::{no_contours, small, square_job, widest_of_stand_ins};
 use oracle::jobs::{FAULTS, Fault, Job, JobBuffers, Outcome, Stop};
 use oracle::jobs::{outcome, records, splines, stop, stored, write};
 use oracle::numbers::Random;
-use oracle::shapes::{Answer, Buffers, buffers, deliver, encode, noise, some};
+use oracle::shapes::{Answer, Buffers, buffers, encode, noise, some};
+use oracle::stand_ins::{count, known_outlines};
 use std::io::Write;
 use std::process::{Command, Stdio};
 
@@ -87,6 +89,7 @@ struct Comparison {
     listing: Tally,
     part: Tally,
     classes: Classes,
+    stand_ins: Classes,
     /// By the fault that decides: with no other in its record, and with each other.
     alone: [u64; 14],
     besides: [[u64; 14]; 14],
@@ -199,32 +202,25 @@ impl Comparison {
     }
 
     /// Colours into buffers of these sizes by the proved code and by the source.
-    fn color(
-        &mut self,
-        r: &mut Random,
-        file: &[u8],
-        result: Result<&Buffers, Fault>,
-        n: [usize; 4],
-    ) {
+    fn color(&mut self, r: &mut Random, file: &[u8], outcome: &Outcome, n: [usize; 4]) {
         let out = buffers(r, n[0], n[1], n[2], n[3]);
         let mut room = Room::new(&out);
         let (l, k, p, c) = room.parts();
         let code = proved_color(file, l, k, p, c);
-        let (answer, after) = match result {
-            Ok(result) => deliver(result, out),
-            Err(fault) => (Answer::Refused(fault.number()), out),
-        };
+        let (answer, after) = outcome.color(out);
         let agree = code == answer.code() && room.is(&after);
         let what = || format!("colouring {} into {n:?}: {answer:?}, proved {code:#x}", shown(file));
         self.color.note(agree, what);
-        match result {
-            Ok(result) => size_classes(&mut self.classes, &COLORING, result.sizes(), n),
+        match &outcome.colored {
+            Ok(shape) => size_classes(&mut self.classes, &COLORING, encode(shape).sizes(), n),
             Err(fault) => {
                 let empty = n == [0; 4];
-                self.classes.note("4 by splines before 11", fault == Fault::Splines && empty);
-                self.classes.note("8 before 11", fault == Fault::DistanceCount && empty);
+                self.classes.note("4 by splines before 11", *fault == Fault::Splines && empty);
+                self.classes.note("8 before 11", *fault == Fault::DistanceCount && empty);
             }
         }
+        let stand_ins = answer == Answer::Refused(11) && outcome.stand_ins() > 0;
+        self.stand_ins.note("11, stand-ins", stand_ins);
     }
 
     /// Lists into so many bytes.
@@ -258,26 +254,25 @@ impl Comparison {
         let outcome = outcome(file);
         let job = outcome.accepted().map(|reading| stored(&reading.job));
         let job = job.as_ref().map_err(|fault| *fault);
-        let result = outcome.colored.as_ref().map(encode);
-        let result = result.as_ref().map_err(|fault| **fault);
         let costly = job.is_ok_and(|job| job.kinds.len() > 64 || job.distances.len() > 300);
 
         let needed = job.map_or([some(r, 9); 4], JobBuffers::sizes);
         for n in tries(r, needed, costly) {
             self.read(r, file, job, n);
         }
-        let needed = result.map_or([some(r, 9); 4], Buffers::sizes);
+        let result = outcome.colored.as_ref().map(|shape| encode(shape).sizes());
+        let needed = result.unwrap_or([some(r, 9); 4]);
         for n in tries(r, needed, costly) {
-            self.color(r, file, result, n);
+            self.color(r, file, &outcome, n);
         }
         let text = outcome.text().into_bytes();
         for [n] in tries(r, [text.len()], costly) {
             self.list(r, file, &text, n);
         }
         let code = unsafe { merelsplum_job_check(file.as_ptr(), file.len()) };
-        let expected = result.map_or_else(|f| refused(f.number()), |b| b.kinds.len() as u64);
-        let what = || format!("checking {}: {expected:#x}, proved {code:#x}", shown(file));
-        self.check.note(code == expected, what);
+        let answer = outcome.check();
+        let what = || format!("checking {}: {answer:?}, proved {code:#x}", shown(file));
+        self.check.note(code == answer.code(), what);
 
         let contours = outcome.reading.as_ref().map_or(0, |r| r.job.contours.len() as u64);
         let any = r.next();
@@ -313,6 +308,7 @@ impl Comparison {
         self.classes.note("files above 34,000 bytes", len > PROGRAM_BYTES);
         if let Ok(reading) = &outcome.reading {
             job_classes(&mut self.classes, &reading.job, &outcome);
+            stand_in_classes(&mut self.stand_ins, &reading.job, &outcome);
         }
         outcome
     }
@@ -320,6 +316,7 @@ impl Comparison {
     /// Prints how often each kind was met, and the counts of the entries, which go to the whole.
     fn close(self, all: &mut Tally) {
         self.classes.close(all);
+        self.stand_ins.close(all);
         for (fault, count) in FAULTS.iter().zip(self.alone) {
             let name = format!("{} alone", named(*fault));
             println!("{name:60}{count:>10}");
@@ -483,6 +480,23 @@ fn job_classes(classes: &mut Classes, job: &Job, outcome: &Outcome) {
     classes.note("a place of three digits", lengths().any(|m| m > 100));
 }
 
+fn stand_in_classes(classes: &mut Classes, job: &Job, outcome: &Outcome) {
+    let sum = count(&job.contours);
+    if outcome.colored.is_ok() {
+        stand_ins::classes(classes, &job.contours);
+    }
+    let accepted = |strategy: u8| outcome.colored.is_ok() && job.strategy == strategy;
+    classes.note("accepted with stand-ins, simple", accepted(1) && sum > 0);
+    classes.note("accepted with stand-ins, ink trap", accepted(2) && sum > 0);
+    classes.note("accepted with stand-ins, by distance", accepted(3) && sum > 0);
+    let refused = |fault: Fault| outcome.fault() == Some(fault) && sum > 0;
+    classes.note("refused by its splines, stand-ins", refused(Fault::Splines));
+    classes.note("refused by its distances, stand-ins", refused(Fault::DistanceCount));
+    classes.note("listed with a sum of one digit, not 0", (1..10).contains(&outcome.stand_ins()));
+    classes.note("listed with a sum of two digits", (10..100).contains(&outcome.stand_ins()));
+    classes.note("listed with a sum of three digits", outcome.stand_ins() >= 100);
+}
+
 // ---- files
 
 /// The square of P6 by each strategy, the limits, and what SCOPE says of them.
@@ -499,18 +513,37 @@ fn known_answers(c: &mut Comparison, all: &mut Tally) {
         c.classes.note(name, true);
     }
     for (job, text) in [
-        (square_job(1), "0 0 L 5\n0 1 L 3\n0 2 L 6\n0 3 L 3\nedges 4\n"),
-        (square_job(2), "0 0 L 5\n0 1 L 3\n0 2 L 6\n0 3 L 3\nedges 4\n"),
-        (square_job(3), "0 0 L 3\n0 1 L 6\n0 2 L 5\n0 3 L 6\nedges 4\n"),
-        (no_contours(1), "edges 0\n"),
+        (square_job(1), "0 0 L 5\n0 1 L 3\n0 2 L 6\n0 3 L 3\nedges 4\nstandins 0\n"),
+        (square_job(2), "0 0 L 5\n0 1 L 3\n0 2 L 6\n0 3 L 3\nedges 4\nstandins 0\n"),
+        (square_job(3), "0 0 L 3\n0 1 L 6\n0 2 L 5\n0 3 L 6\nedges 4\nstandins 0\n"),
+        (no_contours(1), "edges 0\nstandins 0\n"),
     ] {
         let found = outcome(&write(&job)).text();
         part.note(found == text, || format!("{found}, not {text}"));
     }
     part.note(write(&longest()).len() == 33_177, || "the longest accepted file".to_string());
-    let text = outcome(&write(&widest(1))).text();
-    part.note(text.len() == 4_672, || format!("the longest text: {} bytes", text.len()));
+    let text = outcome(&write(&widest_of_stand_ins(1))).text();
+    let last = text.ends_with("\nedges 508\nstandins 449\n");
+    part.note(last && text.len() == 4_685, || format!("the longest text: {text}"));
     all.close("job files that SCOPE names", part);
+}
+
+/// Outlines with their stand-ins written out, by each strategy and by thresholds that split some and not.
+fn known_stand_ins(c: &mut Comparison, all: &mut Tally) {
+    let mut part = Tally::default();
+    let r = &mut Random(708);
+    for known in known_outlines() {
+        for (strategy, threshold) in (1..4).flat_map(|s| [(s, 0.125), (s, -1.0)]) {
+            let file = write(&by(r, strategy, known.contours.clone(), threshold));
+            let outcome = c.file(r, &file);
+            let text = outcome.text();
+            let last = format!("\nstandins {}\n", known.stand_ins);
+            let listed =
+                if outcome.colored.is_ok() { text.ends_with(&last) } else { text == "refused 4\n" };
+            part.note(listed, || format!("{}: {text}", known.name));
+        }
+    }
+    all.close("job files with stand-ins as written out", part);
 }
 
 /// Two faults of one record.
@@ -671,6 +704,7 @@ fn accepted(c: &mut Comparison) {
 pub fn compare(all: &mut Tally) {
     let mut c = Comparison::default();
     known_answers(&mut c, all);
+    known_stand_ins(&mut c, all);
     both_faults(&mut c);
     planted_faults(&mut c, all);
     long_files(&mut c);

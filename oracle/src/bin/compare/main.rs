@@ -12,6 +12,7 @@ mod records;
 mod root;
 mod shapes;
 mod speed;
+mod stand_ins;
 mod tables;
 
 /// How many answers were compared, how many of them differ, and how many kinds of input that are asked

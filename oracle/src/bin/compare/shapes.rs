@@ -1,13 +1,16 @@
 //! Simple and ink-trap colouring: shapes, refusals and the trichotomy.
 
-use crate::Tally;
+use crate::{Tally, stand_ins};
 use oracle::contours::{self, Edges, directions};
 use oracle::given::probe;
 use oracle::math::{cross, dot};
 use oracle::numbers::Random;
 use oracle::shapes::used;
 use oracle::shapes::{Answer, Buffers, Call, FAULTS, ORDER, Outline, STRATEGIES, Strategy};
-use oracle::shapes::{call, color, decode, faults, result, source_shape};
+use oracle::shapes::{
+    buffers, call, color, decode, faults, outline, refusal, result, source_shape,
+};
+use oracle::stand_ins::known_outlines;
 
 type Entry = unsafe extern "C" fn(
     lengths: *const u16,
@@ -365,7 +368,7 @@ const SHAPES: u64 = 250_000;
 
 fn shapes(all: &mut Tally) {
     let mut parts = [Tally::default(), Tally::default()];
-    let mut classes = Classes::default();
+    let (mut classes, mut stand_in_classes) = (Classes::default(), Classes::default());
     let mut colors = [[0u64; 8]; 2];
     let r = &mut Random(400);
     for _ in 0..SHAPES {
@@ -373,7 +376,13 @@ fn shapes(all: &mut Tally) {
         let shape = decode(&call.outline);
         for (which, strategy) in STRATEGIES.into_iter().enumerate() {
             let (answer, after) = compare_call(&mut parts[which], strategy, &call);
-            let Answer::Edges(count) = answer else { panic!("refused: {answer:?}") };
+            let Answer::Colored { edges: count, stand_ins } = answer else {
+                panic!("refused: {answer:?}")
+            };
+            stand_ins::check_source(1 + which as u8, &shape, call.threshold);
+            let split = of_result(&after, shape.len(), count).stand_ins();
+            classes.note("a result with more stand-ins than the outline", split > stand_ins);
+            classes.note("the same, of an outline with some", split > stand_ins && stand_ins > 0);
             after.colors[..count].iter().for_each(|&c| colors[which][c as usize] += 1);
             classes.note("508 edges out", count == 508);
             classes.note(
@@ -387,12 +396,14 @@ fn shapes(all: &mut Tally) {
             );
         }
         classes.call(&call, &shape);
+        stand_ins::classes(&mut stand_in_classes, &shape);
         let last = shape.iter().rposition(|edges| !edges.is_empty());
         for (i, edges) in shape.iter().enumerate().filter(|c| !c.1.is_empty()) {
             classes.contour(edges, call.threshold, Some(i) == last);
         }
     }
     classes.close(all);
+    stand_in_classes.close(all);
     let [simple, ink_trap] = parts;
     all.close("simple colouring", simple);
     all.close("ink-trap colouring", ink_trap);
@@ -404,6 +415,35 @@ fn shapes(all: &mut Tally) {
     }
 }
 
+/// The outline of a result: its first contours and edges in the buffers.
+fn of_result(out: &Buffers, contours: usize, edges: usize) -> Outline {
+    Outline {
+        lengths: out.lengths[..contours].to_vec(),
+        kinds: out.kinds[..edges].to_vec(),
+        points: out.points[..8 * edges].to_vec(),
+    }
+}
+
+/// Outlines with their stand-ins written out, by both colourings and by thresholds that split some and not.
+fn known_stand_ins(all: &mut Tally) {
+    let mut part = Tally::default();
+    let r = &mut Random(403);
+    for known in known_outlines() {
+        for (strategy, threshold) in STRATEGIES.into_iter().flat_map(|s| [(s, 0.125), (s, -1.0)]) {
+            let (outline, out) = (outline(r, &known.contours), buffers(r, 64, 508, 4064, 508));
+            let call = Call { outline, threshold, seed: 1, out };
+            let (answer, _) = compare_call(&mut part, strategy, &call);
+            let found = match answer {
+                Answer::Colored { stand_ins, .. } => Some(stand_ins),
+                _ => None,
+            };
+            let as_known = found == Some(known.stand_ins);
+            part.note(as_known, || format!("{}: {found:?} stand-ins", known.name));
+        }
+    }
+    all.close("stand-ins as written out, simple and ink trap", part);
+}
+
 /// Calls with up to three faults: what is refused, by which number, and no byte changed.
 fn refusals(all: &mut Tally) {
     let mut part = Tally::default();
@@ -411,6 +451,7 @@ fn refusals(all: &mut Tally) {
     let mut one_short = [0u64; 4];
     // by the refusal that decides, and another that holds besides
     let mut besides = [[0u64; 6]; 6];
+    let mut classes = Classes::default();
     let r = &mut Random(401);
     for number in 0..200_000 {
         let mut call = call(r);
@@ -421,10 +462,14 @@ fn refusals(all: &mut Tally) {
             FAULTS[fault].2(r, &mut call);
         }
         let (answer, _) = compare_call(&mut part, STRATEGIES[number % 2], &call);
-        let which = match answer {
-            Answer::Edges(_) => 0,
-            Answer::Refused(number) => 1 + ORDER.iter().position(|&n| n == number).unwrap(),
+        let which = match answer.edges() {
+            Ok(_) => 0,
+            Err(number) => 1 + ORDER.iter().position(|&n| n == number).unwrap(),
         };
+        let no_other = Call { threshold: 0.0, ..call.clone() };
+        let stand_ins = refusal(&no_other).is_none() && call.outline.stand_ins() > 0;
+        classes.note("6, stand-ins", answer == Answer::Refused(6) && stand_ins);
+        classes.note("11, stand-ins", answer == Answer::Refused(11) && stand_ins);
         if count == 1 {
             alone[fault][which] += 1;
         }
@@ -460,6 +505,7 @@ fn refusals(all: &mut Tally) {
         println!("{:24}{count:>10}", format!("{name} short by 1 alone"));
         all.met(count, || format!("result {name} one short, the others exact"));
     }
+    classes.close(all);
     all.close("refusals", part);
 }
 
@@ -480,6 +526,7 @@ fn short_by_one(counts: &mut [u64; 4], call: &Call) {
 
 pub fn compare(all: &mut Tally) {
     trichotomy(all);
+    known_stand_ins(all);
     shapes(all);
     refusals(all);
 }

@@ -1,5 +1,5 @@
 //! Job files of 256 edges and 64 splines, read and coloured, and listed too. The Rust is the oracle's own
-//! reader, the source's colouring, and formatting to a string.
+//! reader, the source's colouring, and formatting to a string; to list, it counts stand-ins too.
 
 use super::clock::pass;
 use super::shapes::starts_with;
@@ -12,6 +12,7 @@ use oracle::job_files::square_job;
 use oracle::jobs::{Job, color, listing, read, splines, write};
 use oracle::numbers::Random;
 use oracle::shapes::{Buffers, buffers, encode, some};
+use oracle::stand_ins::count;
 use std::hint::black_box;
 
 pub fn table() -> Table {
@@ -73,6 +74,11 @@ fn colored(file: &[u8]) -> Shape {
     color(&read(file).unwrap().job).unwrap()
 }
 
+fn listed(file: &[u8]) -> String {
+    let job = read(file).unwrap().job;
+    listing(&color(&job).unwrap(), count(&job.contours))
+}
+
 fn color_proved(file: &[u8], out: &mut Buffers) -> u64 {
     let Buffers { lengths, kinds, points, colors } = out;
     proved_color(file, lengths, kinds, points, colors)
@@ -98,10 +104,10 @@ fn coloring(files: Vec<Vec<u8>>) -> Race {
 }
 
 fn listings(files: Vec<Vec<u8>>) -> Race {
-    let mut text = [0; 5598];
+    let mut text = [0; 5611];
     for file in &files {
         let length = proved_listing(file, &mut text) as usize;
-        let same = text[..length] == *listing(&colored(file)).as_bytes();
+        let same = text[..length] == *listed(file).as_bytes();
         assert!(same, "the two listed differently");
     }
     let sources = files.clone();
@@ -113,6 +119,6 @@ fn listings(files: Vec<Vec<u8>>) -> Race {
                 black_box(proved_listing(file, &mut text));
             })
         }),
-        rust: Box::new(move || pass(&sources, |file| drop(black_box(listing(&colored(file)))))),
+        rust: Box::new(move || pass(&sources, |file| drop(black_box(listed(file))))),
     }
 }
