@@ -1,5 +1,5 @@
-/* Colours the unit square and prints a line for each edge: contour, place in it, kind and colour, as docs/FORMAT.md has
- * it. */
+/* Colours the unit square and prints what docs/FORMAT.md has: a line for each edge, its contour, place in it, kind and
+ * colour, then how many edges and how many stand-ins there are. */
 #include <stdio.h>
 
 #include "merelsplum.h"
@@ -28,6 +28,6 @@ int main(void) {
     for (unsigned contour = 0; contour < 1; contour++)
         for (unsigned place = 0; place < out_lengths[contour]; place++, edge++)
             printf("%u %u %c %u\n", contour, place, " LQC"[out_kinds[edge]], out_colors[edge]);
-    printf("edges %u\n", (unsigned)answer);
+    printf("edges %u\nstandins %u\n", merelsplum_colored_edges(answer), merelsplum_stand_ins(answer));
     return 0;
 }

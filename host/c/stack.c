@@ -15,6 +15,7 @@ static uint16_t lengths[MERELSPLUM_MAX_CONTOURS], out_lengths[MERELSPLUM_MAX_CON
 static uint8_t kinds[MERELSPLUM_MAX_EDGES], out_kinds[MERELSPLUM_MAX_RESULT_EDGES], out_bytes[MERELSPLUM_MAX_RESULT_EDGES];
 static double points[8 * MERELSPLUM_MAX_EDGES], out_points[8 * MERELSPLUM_MAX_RESULT_EDGES];
 static double distances[MERELSPLUM_MAX_DISTANCES], out_directions[4 * MERELSPLUM_MAX_EDGES];
+static uint8_t out_stand_ins[2 * MERELSPLUM_MAX_EDGES];
 static uint8_t coloring[MERELSPLUM_MAX_SPLINES], matrix[MERELSPLUM_MAX_SPLINES * MERELSPLUM_MAX_SPLINES];
 static uint8_t file[40000], text[MERELSPLUM_MAX_LISTING_BYTES];
 static size_t file_len;
@@ -29,7 +30,10 @@ static uint64_t by_distance(void) {
     return merelsplum_edge_coloring_by_distance(OUTLINE, 0.125, 7, distances, MERELSPLUM_MAX_DISTANCES, RESULT);
 }
 static uint64_t collect(void) { return merelsplum_collect_splines(OUTLINE, 0.125, RESULT); }
-static uint64_t directions(void) { return merelsplum_edge_directions(OUTLINE, out_directions, 4 * MERELSPLUM_MAX_EDGES); }
+static uint64_t directions(void) {
+    return merelsplum_edge_directions(
+        OUTLINE, out_directions, 4 * MERELSPLUM_MAX_EDGES, out_stand_ins, 2 * MERELSPLUM_MAX_EDGES);
+}
 static uint64_t offer(void) {
     const uint64_t answer = merelsplum_try_add_edge(coloring, sizeof coloring, matrix, sizeof matrix, 0, 3);
     return merelsplum_offer_outcome(answer) == MERELSPLUM_OFFER_DECLINED ? answer : MERELSPLUM_REFUSED;

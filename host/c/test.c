@@ -49,7 +49,7 @@ static void nothing(void) {
     CHECK(merelsplum_edge_coloring_ink_trap(NULL, 0, NULL, 0, NULL, 0, 0, 0, NULL, 0, NULL, 0, NULL, 0, NULL, 0) == 0);
     CHECK(merelsplum_edge_coloring_by_distance(NULL, 0, NULL, 0, NULL, 0, 0, 0, NULL, 0, NULL, 0, NULL, 0, NULL, 0, NULL, 0) == 0);
     CHECK(merelsplum_collect_splines(NULL, 0, NULL, 0, NULL, 0, 0, NULL, 0, NULL, 0, NULL, 0, NULL, 0) == 0);
-    CHECK(merelsplum_edge_directions(NULL, 0, NULL, 0, NULL, 0, NULL, 0) == 0);
+    CHECK(merelsplum_edge_directions(NULL, 0, NULL, 0, NULL, 0, NULL, 0, NULL, 0) == 0);
     CHECK(merelsplum_offer_refusal(merelsplum_try_add_edge(NULL, 0, NULL, 0, 0, 1)) == MERELSPLUM_BAD_TABLE);
     uint64_t numbers[6];
     CHECK(merelsplum_refusal(merelsplum_job_read(NULL, 0, NULL, 0, NULL, 0, NULL, 0, NULL, 0, numbers)) == MERELSPLUM_TRUNCATED);
@@ -81,43 +81,121 @@ static void outlines(void) {
     CHECK(answer == 4 && colors_are(&out, "\3\6\5\6"));
 }
 
-static unsigned directions_refused(size_t contours, const uint16_t *l, const uint8_t *k, size_t n, const double *p, size_t room) {
-    double out[16] = {5, 5, 5, 5, 5, 5, 5, 5, 5, 5, 5, 5, 5, 5, 5, 5};
-    const uint64_t answer = merelsplum_edge_directions(l, contours, k, n, p, 8 * n, out, room);
-    for (int i = 0; i < 16; i++)
-        CHECK(out[i] == 5);
+/* The parts of an answer, each at its limit. */
+static void parts(void) {
+    static const uint64_t most = MERELSPLUM_MAX_RESULT_EDGES + (UINT64_C(64) << 16) + (UINT64_C(512) << 48);
+    CHECK(MERELSPLUM_MAX_STAND_INS == 512 && MERELSPLUM_MAX_SPLINES == 64);
+    CHECK(!merelsplum_is_refusal(most) && merelsplum_refusal(most) == 0);
+    CHECK(merelsplum_colored_edges(most) == 508 && merelsplum_collected_edges(most) == 508);
+    CHECK(merelsplum_collected_splines(most) == 64 && merelsplum_stand_ins(most) == 512);
+    for (unsigned number = 1; number <= MERELSPLUM_RESULT_TOO_SHORT; number++) {
+        const uint64_t refused = MERELSPLUM_REFUSED + number;
+        CHECK(merelsplum_is_refusal(refused) && merelsplum_refusal(refused) == number);
+        CHECK(merelsplum_colored_edges(refused) == 0 && merelsplum_stand_ins(refused) == 0);
+    }
+}
+
+/* What the colourings answer for a contour of n edges and a result of as many as there is room for; the collecting pass
+ * adds its splines. */
+static uint64_t counted(uint16_t n, const uint8_t *k, const double *p, double threshold, size_t room) {
+    static struct {
+        uint16_t lengths[1];
+        uint8_t kinds[MERELSPLUM_MAX_EDGES], bytes[MERELSPLUM_MAX_EDGES];
+        double points[8 * MERELSPLUM_MAX_EDGES];
+    } out;
+    static const double distances[MERELSPLUM_MAX_DISTANCES];
+#define CONTOUR &n, 1, k, n, p, 8 * (size_t)n, threshold
+#define RESULT out.lengths, 1, out.kinds, room, out.points, 8 * room, out.bytes, room
+    const uint64_t answer = merelsplum_edge_coloring_simple(CONTOUR, 0, RESULT);
+    CHECK(merelsplum_edge_coloring_ink_trap(CONTOUR, 0, RESULT) == answer);
+    const uint64_t collected = merelsplum_collect_splines(CONTOUR, RESULT);
+    const unsigned splines = merelsplum_is_refusal(collected) ? 0 : merelsplum_collected_splines(collected);
+    CHECK(collected == answer + ((uint64_t)splines << 16));
+    CHECK(merelsplum_edge_coloring_by_distance(CONTOUR, 0, distances, splines * (splines - 1) / 2, RESULT) == answer);
+    return answer;
+}
+
+/* A square with a point that stands twice, a line that goes up, and as many edges as there can be that are points. */
+static void stand_ins(void) {
+    enum { EDGES = MERELSPLUM_MAX_EDGES + 1 };
+    static uint8_t k[EDGES];
+    static double p[8 * EDGES];
+    memset(k, MERELSPLUM_LINE, sizeof k);
+    square(p, 1);
+    memmove(p + 16, p + 8, 24 * sizeof *p);
+    p[10] = p[8], p[11] = p[9];
+    CHECK(counted(5, k, p, 0.125, 5) == 5 + (UINT64_C(2) << 48));
+    static const double up[8] = {3, 3, 3, 5};
+    CHECK(counted(1, k, up, 0.125, 3) == 1);
+
+    memset(p, 0, sizeof p);
+    for (int i = 0; i < EDGES; i++)
+        k[i] = (uint8_t)(1 + i % 3);
+    const uint64_t answer = counted(256, k, p, 0.125, 256);
+    CHECK(answer == 256 + (UINT64_C(512) << 48) && !merelsplum_is_refusal(answer));
+    CHECK(merelsplum_colored_edges(answer) == 256 && merelsplum_stand_ins(answer) == MERELSPLUM_MAX_STAND_INS);
+    /* a refusal has nothing else */
+    CHECK(counted(256, k, p, 0.125, 255) == MERELSPLUM_REFUSED + MERELSPLUM_RESULT_TOO_SHORT);
+    CHECK(counted(256, k, p, 1.5, 256) == MERELSPLUM_REFUSED + MERELSPLUM_BAD_THRESHOLD);
+    CHECK(counted(EDGES, k, p, 0.125, 256) == MERELSPLUM_REFUSED + MERELSPLUM_TOO_MANY);
+}
+
+/* The refusal of a call with so many contours and edges and so much room for directions and stand-ins. */
+static unsigned directions_refused(
+    size_t contours, const uint16_t *l, const uint8_t *k, size_t n, const double *p, size_t room, size_t bytes) {
+    double out[16];
+    uint8_t out_stand_ins[8];
+    memset(out, 5, sizeof out), memset(out_stand_ins, 5, sizeof out_stand_ins);
+    const uint64_t answer = merelsplum_edge_directions(l, contours, k, n, p, 8 * n, out, room, out_stand_ins, bytes);
+    for (size_t i = 0; i < sizeof out; i++)
+        CHECK(((const uint8_t *)out)[i] == 5);
+    for (size_t i = 0; i < sizeof out_stand_ins; i++)
+        CHECK(out_stand_ins[i] == 5);
+    CHECK(answer == MERELSPLUM_REFUSED + merelsplum_refusal(answer));
     return merelsplum_refusal(answer);
 }
 
-/* Directions of the square, of a cubic whose first two points are the same, and of a line without length; then each
- * refusal where all later ones hold too. */
+/* Directions of the square, of cubics with two or three points that are the same, and of lines without length; then
+ * each refusal where all later ones hold too. */
 static void directions(void) {
     double points[32], out[18];
-    out[16] = out[17] = 5;
+    uint8_t out_stand_ins[10];
+    memset(out, 5, sizeof out), memset(out_stand_ins, 5, sizeof out_stand_ins);
     square(points, 2);
-    static const double sides[] = {1, 0, 1, 0, 0, 1, 0, 1, -1, 0, -1, 0, 0, -1, 0, -1, 5, 5};
-    CHECK(merelsplum_edge_directions(lengths, 1, kinds, 4, points, 32, out, 18) == 4);
-    for (int i = 0; i < 18; i++)
+    static const double sides[] = {1, 0, 1, 0, 0, 1, 0, 1, -1, 0, -1, 0, 0, -1, 0, -1};
+    CHECK(merelsplum_edge_directions(lengths, 1, kinds, 4, points, 32, out, 18, out_stand_ins, 10) == 4);
+    CHECK(memcmp(out_stand_ins, "\0\0\0\0\0\0\0\0\5\5", 10) == 0);
+    for (int i = 0; i < 16; i++)
         CHECK(out[i] == sides[i]);
-    CHECK(merelsplum_edge_directions(lengths, 1, kinds, 4, points, 32, out, 16) == 4);
+    for (size_t i = sizeof sides; i < sizeof out; i++)
+        CHECK(((const uint8_t *)out)[i] == 5);
+    CHECK(merelsplum_edge_directions(lengths, 1, kinds, 4, points, 32, out, 16, out_stand_ins, 8) == 4);
 
-    static const uint16_t two[] = {1, 0, 1};
-    static const uint8_t cubic_and_line[] = {MERELSPLUM_CUBIC, MERELSPLUM_LINE};
-    static const double edges[16] = {1, 1, 1, 1, 4, 5, 4, -2, 7, 7, 7, 7};
-    static const double expected[] = {0.6, 0.8, 0, -1, 0, 1, 0, 1};
-    CHECK(merelsplum_edge_directions(two, 3, cubic_and_line, 2, edges, 16, out, 8) == 2);
+    static const uint16_t four[] = {1, 0, 3};
+    static const uint8_t cubics_and_lines[] = {MERELSPLUM_CUBIC, MERELSPLUM_LINE, MERELSPLUM_CUBIC, MERELSPLUM_LINE};
+    static const double edges[32] = {
+        1, 1, 1, 1, 4, 5, 4, -2,
+        7, 7, 7, 7, 0, 0, 0, 0,
+        1, 1, 4, 5, 4, 5, 4, 5,
+        0, 0, 0x1p-600, 0, 0, 0, 0, 0,
+    };
+    static const double expected[] = {0.6, 0.8, 0, -1, 0, 1, 0, 1, 0.6, 0.8, 0, 1, 0, 1, 0, 1};
+    CHECK(merelsplum_edge_directions(four, 3, cubics_and_lines, 4, edges, 32, out, 16, out_stand_ins, 8) == 4);
     CHECK(memcmp(out, expected, sizeof expected) == 0);
+    CHECK(memcmp(out_stand_ins, "\0\0\1\1\0\1\1\1\5\5", 10) == 0);
 
     static const uint16_t many[MERELSPLUM_MAX_CONTOURS + 1] = {4}, five[] = {5}, above[] = {MERELSPLUM_MAX_EDGES + 1};
     static const uint8_t unknown[] = {MERELSPLUM_LINE, MERELSPLUM_LINE, MERELSPLUM_LINE, 4};
-    CHECK(directions_refused(1, lengths, kinds, 4, points, 15) == MERELSPLUM_RESULT_TOO_SHORT);
-    CHECK(directions_refused(1, lengths, kinds, 4, points, 0) == MERELSPLUM_RESULT_TOO_SHORT);
+    CHECK(directions_refused(1, lengths, kinds, 4, points, 15, 8) == MERELSPLUM_RESULT_TOO_SHORT);
+    CHECK(directions_refused(1, lengths, kinds, 4, points, 16, 7) == MERELSPLUM_RESULT_TOO_SHORT);
+    CHECK(directions_refused(1, lengths, kinds, 4, points, 0, 8) == MERELSPLUM_RESULT_TOO_SHORT);
+    CHECK(directions_refused(1, lengths, kinds, 4, points, 16, 0) == MERELSPLUM_RESULT_TOO_SHORT);
     points[8] = 2 * MERELSPLUM_MAX_COORDINATE;
-    CHECK(directions_refused(1, lengths, kinds, 4, points, 15) == MERELSPLUM_BAD_COORDINATE);
-    CHECK(directions_refused(1, lengths, unknown, 4, points, 15) == MERELSPLUM_UNKNOWN_KIND);
-    CHECK(directions_refused(1, five, unknown, 4, points, 15) == MERELSPLUM_LENGTH_MISMATCH);
-    CHECK(directions_refused(1, above, unknown, 4, points, 15) == MERELSPLUM_TOO_MANY);
-    CHECK(directions_refused(MERELSPLUM_MAX_CONTOURS + 1, many, unknown, 4, points, 15) == MERELSPLUM_TOO_MANY);
+    CHECK(directions_refused(1, lengths, kinds, 4, points, 15, 7) == MERELSPLUM_BAD_COORDINATE);
+    CHECK(directions_refused(1, lengths, unknown, 4, points, 15, 7) == MERELSPLUM_UNKNOWN_KIND);
+    CHECK(directions_refused(1, five, unknown, 4, points, 15, 7) == MERELSPLUM_LENGTH_MISMATCH);
+    CHECK(directions_refused(1, above, unknown, 4, points, 15, 7) == MERELSPLUM_TOO_MANY);
+    CHECK(directions_refused(MERELSPLUM_MAX_CONTOURS + 1, many, unknown, 4, points, 15, 7) == MERELSPLUM_TOO_MANY);
 }
 
 static void offers(void) {
@@ -146,6 +224,20 @@ static void floating_point_state(void) {
     }
 }
 
+/* A file's check, colouring and listing say how many edges and stand-ins there are. */
+static void job_stand_ins(const uint8_t *file, size_t n, unsigned edges, unsigned count, const char *end) {
+    static uint16_t out_lengths[1];
+    static uint8_t out_kinds[MERELSPLUM_MAX_EDGES], out_colors[MERELSPLUM_MAX_EDGES];
+    static double out_points[8 * MERELSPLUM_MAX_EDGES];
+    static uint8_t text[MERELSPLUM_MAX_LISTING_BYTES];
+    const uint64_t answer = merelsplum_job_check(file, n);
+    CHECK(answer == edges + ((uint64_t)count << 48));
+    CHECK(merelsplum_colored_edges(answer) == edges && merelsplum_stand_ins(answer) == count);
+    CHECK(merelsplum_job_color(file, n, out_lengths, 1, out_kinds, 256, out_points, 2048, out_colors, 256) == answer);
+    const uint64_t length = merelsplum_job_listing(file, n, text, sizeof text);
+    CHECK(length > strlen(end) && length <= sizeof text && memcmp(text + length - strlen(end), end, strlen(end)) == 0);
+}
+
 /* The file of docs/FORMAT.md. */
 static void jobs(const char *path) {
     uint8_t file[MERELSPLUM_MAX_JOB_BYTES + 1], text[MERELSPLUM_MAX_LISTING_BYTES];
@@ -166,18 +258,30 @@ static void jobs(const char *path) {
     CHECK(merelsplum_refusal(merelsplum_job_check(file, n - 1)) == MERELSPLUM_TRUNCATED);
     CHECK(merelsplum_job_color(file, n, out.lengths, 1, out.kinds, 12, out.points, 96, out.bytes, 12) == 4);
     CHECK(out.lengths[0] == 4 && colors_are(&out, "\5\3\6\3"));
-    static const char listing[] = "0 0 L 5\n0 1 L 3\n0 2 L 6\n0 3 L 3\nedges 4\n";
+    static const char listing[] = "0 0 L 5\n0 1 L 3\n0 2 L 6\n0 3 L 3\nedges 4\nstandins 0\n";
     CHECK(merelsplum_job_listing(file, n, text, sizeof text) == sizeof listing - 1 && !memcmp(text, listing, sizeof listing - 1));
     CHECK(merelsplum_refusal(merelsplum_job_listing(file, n, text, sizeof listing - 2)) == MERELSPLUM_RESULT_TOO_SHORT);
     CHECK(merelsplum_job_listing(file, 1, text, sizeof text) == 10 && memcmp(text, "refused 1\n", 10) == 0);
     const uint64_t part = merelsplum_job_contour_part(file, n, 0);
     CHECK(merelsplum_part_start(part) == 19 && merelsplum_part_len(part) == n - 21);
     CHECK(merelsplum_part_len(merelsplum_job_contour_part(file, n, 1)) == 0);
+
+    /* the second side ends where it starts: its two directions have no length */
+    memcpy(file + 21 + 34 + 18, file + 21 + 34 + 2, 16);
+    job_stand_ins(file, n, 4, 2, "\nedges 4\nstandins 2\n");
+    /* as many edges as there can be, each a point */
+    memset(file + 21, 0, sizeof file - 21);
+    for (int i = 0; i < MERELSPLUM_MAX_EDGES; i++)
+        memcpy(file + 21 + 34 * i, "LN", 2);
+    memcpy(file + 21 + 34 * MERELSPLUM_MAX_EDGES, "EN", 2);
+    job_stand_ins(file, 21 + 34 * MERELSPLUM_MAX_EDGES + 2, 256, 512, "\nedges 256\nstandins 512\n");
 }
 
 int main(int argc, char **argv) {
     nothing();
     outlines();
+    parts();
+    stand_ins();
     directions();
     offers();
     floating_point_state();

@@ -39,16 +39,34 @@ class Tests(unittest.TestCase):
         self.assertTrue(all(a != b for a, b in zip(bits, bits[1:] + bits[:1])), bits)
 
     def test_directions(self):
-        (sides,) = edge_directions(SQUARE)
+        ((sides, stand_in),) = edge_directions(SQUARE)
         numpy.testing.assert_array_equal(sides[:, 0], [[1, 0], [0, 1], [-1, 0], [0, -1]])
         numpy.testing.assert_array_equal(sides[:, 1], sides[:, 0])
+        self.assertFalse(stand_in.any())
         # the first two points are the same: the third is taken; a line without length
         cubic, line = [[1, 1], [1, 1], [4, 5], [4, -2]], [[7, 7], [7, 7]]
         directions = edge_directions([[], [cubic], [], [line, cubic]])
-        self.assertEqual([contour.shape for contour in directions], [(0, 2, 2), (1, 2, 2), (0, 2, 2), (2, 2, 2)])
-        numpy.testing.assert_array_equal(directions[1][0], [[0.6, 0.8], [0, -1]])
-        numpy.testing.assert_array_equal(directions[3], [[[0, 1], [0, 1]], [[0.6, 0.8], [0, -1]]])
+        shapes = [(contour.vectors.shape, contour.stand_in.shape) for contour in directions]
+        self.assertEqual(shapes, [((n, 2, 2), (n, 2)) for n in (0, 1, 0, 2)])
+        numpy.testing.assert_array_equal(directions[1].vectors[0], [[0.6, 0.8], [0, -1]])
+        numpy.testing.assert_array_equal(directions[3].vectors, [[[0, 1], [0, 1]], [[0.6, 0.8], [0, -1]]])
+        self.assertEqual(directions[3].stand_in.tolist(), [[True, True], [False, False]])
         self.assertEqual(edge_directions([]), [])
+
+    def test_stand_ins(self):
+        # a point that stands twice, a curve without a direction at its end, and one that goes straight up
+        point, curve, up = [[1, 0], [1, 0]], [[1, 1], [4, 5], [4, 5], [4, 5]], [[3, 3], [3, 3], [3, 5]]
+        outline = [SQUARE[0][:1] + [point] + SQUARE[0][1:], [], [curve, up]]
+        splines, collected = collect_splines(outline)
+        distances = [1.0] * (splines * (splines - 1) // 2)
+        by_distance = color(outline, "distance", distances=distances)
+        for result in [color(outline, "simple"), color(outline), by_distance, collected]:
+            self.assertEqual((len(result), result.stand_ins), (3, 3))
+        flags = [contour.stand_in.tolist() for contour in edge_directions(outline)]
+        self.assertEqual(flags[0], [[False, False], [True, True]] + 3 * [[False, False]])
+        self.assertEqual(flags[1:], [[], [[False, True], [False, False]]])
+        self.assertEqual((color(SQUARE).stand_ins, color([]).stand_ins), (0, 0))
+        self.assertEqual(color([256 * [point]]).stand_ins, 512)
 
     def test_refusals(self):
         for number, call in [

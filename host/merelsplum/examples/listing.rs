@@ -23,4 +23,5 @@ fn main() {
         }
     }
     println!("edges {}", colored.edge_count());
+    println!("standins {}", colored.stand_ins);
 }

@@ -1,4 +1,4 @@
-use crate::ffi::{self, FlatResult};
+use crate::ffi::{self, Counts, FlatResult};
 use crate::outline::{self, Collected, Colored, EdgeColor, Outline};
 use crate::refusal::Refusal;
 
@@ -7,17 +7,25 @@ const NO_SPLINE: u8 = 255;
 
 /// The number that a call answers, or its refusal.
 pub(crate) fn answer(code: u64) -> Result<u64, Refusal> {
-    if code >> 32 == 1 { Err(Refusal::from_code(code - REFUSED)) } else { Ok(code) }
+    if ffi::is_refusal(code) { Err(Refusal::from_code(code - REFUSED)) } else { Ok(code) }
 }
 
-pub(crate) fn colored(out: &FlatResult) -> Colored {
-    Colored { contours: outline::contours(out.lengths(), &out.kinds, &out.points, &out.bytes, EdgeColor::from_bits) }
+/// The counts that a call answers, or its refusal.
+pub(crate) fn counts(code: u64) -> Result<Counts, Refusal> {
+    answer(code).map(Counts::of)
+}
+
+/// The result of a colouring, by its answer and its buffers.
+pub(crate) fn colored(code: u64, out: &FlatResult) -> Result<Colored, Refusal> {
+    let Counts { stand_ins, .. } = counts(code)?;
+    let contours = outline::contours(out.lengths(), &out.kinds, &out.points, &out.bytes, EdgeColor::from_bits);
+    Ok(Colored { contours, stand_ins })
 }
 
 fn color(outline: &Outline, entry: impl FnOnce(&ffi::Flat, &mut FlatResult) -> u64) -> Result<Colored, Refusal> {
     let mut out = outline.room();
-    answer(entry(&outline.flat(), &mut out))?;
-    Ok(colored(&out))
+    let code = entry(&outline.flat(), &mut out);
+    colored(code, &out)
 }
 
 /// The threshold for an angle in radians from which a turn is a corner: its sine.
@@ -35,8 +43,8 @@ pub fn threshold(angle: f64) -> f64 {
     angle.sin()
 }
 
-/// Goes round each contour and changes the colour at every corner. `threshold` is the sine of the angle from which a turn is a corner,
-/// -1 to 1; `seed` picks among colours that are as good as each other.
+/// Goes round each contour and changes the colour at every corner. `threshold` is the sine of the angle from which a
+/// turn is a corner, -1 to 1; `seed` picks among colours that are as good as each other.
 ///
 /// # Errors
 ///
@@ -48,14 +56,17 @@ pub fn threshold(angle: f64) -> f64 {
 /// let triangle = Outline::polygon(&[[0.0, 0.0], [8.0, 0.0], [4.0, 7.0]]);
 /// assert_eq!(edge_coloring_simple(&triangle, 0.125, 0)?.edge_count(), 3);
 /// assert_eq!(edge_coloring_simple(&triangle, 2.0, 0), Err(Refusal::BadThreshold));
+/// // a point that stands twice makes a line without length: its two directions are stand-ins
+/// let doubled = Outline::polygon(&[[0.0, 0.0], [8.0, 0.0], [8.0, 0.0], [4.0, 7.0]]);
+/// assert_eq!(edge_coloring_simple(&doubled, 0.125, 0)?.stand_ins, 2);
 /// # Ok::<(), Refusal>(())
 /// ```
 pub fn edge_coloring_simple(outline: &Outline, threshold: f64, seed: u64) -> Result<Colored, Refusal> {
     color(outline, |flat, out| ffi::edge_coloring_simple(flat, threshold, seed, out))
 }
 
-/// As [`edge_coloring_simple`], but a spline that is shorter than both its neighbours, as at an ink trap, takes the colour that they leave
-/// over, and they change colours as if it was not there.
+/// As [`edge_coloring_simple`], but a spline that is shorter than both its neighbours, as at an ink trap, takes the
+/// colour that they leave over, and they change colours as if it was not there.
 ///
 /// # Errors
 ///
@@ -74,8 +85,8 @@ pub fn edge_coloring_ink_trap(outline: &Outline, threshold: f64, seed: u64) -> R
     color(outline, |flat, out| ffi::edge_coloring_ink_trap(flat, threshold, seed, out))
 }
 
-/// Gives splines that are near each other different colours. `distances` has one for each pair i < j of the splines that
-/// [`collect_splines`] numbers, by i and then by j: finite, not below zero, and 0 where the two touch.
+/// Gives splines that are near each other different colours. `distances` has one for each pair i < j of the splines
+/// that [`collect_splines`] numbers, by i and then by j: finite, not below zero, and 0 where the two touch.
 ///
 /// # Errors
 ///
@@ -114,10 +125,8 @@ pub fn edge_coloring_by_distance(outline: &Outline, threshold: f64, seed: u64, d
 /// ```
 pub fn collect_splines(outline: &Outline, threshold: f64) -> Result<Collected, Refusal> {
     let mut out = outline.room();
-    let counts = answer(ffi::collect_splines(&outline.flat(), threshold, &mut out))?;
+    let Counts { splines, stand_ins, .. } = counts(ffi::collect_splines(&outline.flat(), threshold, &mut out))?;
     let spline = |number: u8| Some(number).filter(|&number| number != NO_SPLINE);
-    Ok(Collected {
-        contours: outline::contours(out.lengths(), &out.kinds, &out.points, &out.bytes, spline),
-        splines: (counts >> 16) as usize,
-    })
+    let contours = outline::contours(out.lengths(), &out.kinds, &out.points, &out.bytes, spline);
+    Ok(Collected { contours, splines, stand_ins })
 }

@@ -1,7 +1,7 @@
 //! The library's C functions (crates/capi/merelsplum.h), and all unsafe code of this crate.
 //!
-//! The functions take any contents and lengths. What they ask of a caller is what slices have: each pointer is good for the length beside
-//! it, and what is written overlaps nothing else.
+//! The functions take any contents and lengths. What they ask of a caller is what slices have: each pointer is good for
+//! the length beside it, and what is written overlaps nothing else.
 
 /// The eight point places of an edge: room for the control points of every kind.
 pub(crate) type Places = [[f64; 2]; 4];
@@ -13,7 +13,30 @@ pub(crate) struct Flat {
     pub points: Vec<Places>,
 }
 
-/// A length that no result has. Places beyond a result keep their bytes, so the contours of a result end at the first of these.
+/// Whether a call was refused. No count of an answer reaches this bit.
+pub(crate) fn is_refusal(code: u64) -> bool {
+    code >> 32 == 1
+}
+
+/// What the answer of a colouring, of its collecting pass or of a job file counts, where it is no refusal.
+#[derive(Debug, PartialEq)]
+pub(crate) struct Counts {
+    pub edges: usize,
+    /// Of the collecting pass; else 0.
+    pub splines: usize,
+    pub stand_ins: usize,
+}
+
+impl Counts {
+    /// Each has 16 bits of the answer.
+    pub fn of(code: u64) -> Counts {
+        let at = |bit: u32| usize::from((code >> bit) as u16);
+        Counts { edges: at(0), splines: at(16), stand_ins: at(48) }
+    }
+}
+
+/// A length that no result has. Places beyond a result keep their bytes, so the contours of a result end at the first
+/// of these.
 const UNWRITTEN: u16 = u16::MAX;
 
 /// Where a result goes: an outline and a byte for each edge. What stands for edges is empty until they are written.
@@ -39,10 +62,10 @@ impl FlatResult {
 
     /// # Safety
     ///
-    /// The code is that of a call which had these buffers: where it is no refusal, its low 16 bits are the number of edges
-    /// that were written, of which there are at most 508.
+    /// The code is that of a call which had these buffers: where it is no refusal, it counts the edges that were
+    /// written, of which there are at most 508.
     unsafe fn written(&mut self, code: u64) {
-        let edges = if code >> 32 == 0 { code as usize & 0xFFFF } else { 0 };
+        let edges = if is_refusal(code) { 0 } else { Counts::of(code).edges };
         // SAFETY: so many are written, and there was room for them.
         unsafe {
             self.kinds.set_len(edges);
@@ -152,6 +175,8 @@ unsafe extern "C" {
         points_len: usize,
         out_directions: *mut f64,
         out_directions_len: usize,
+        out_stand_ins: *mut u8,
+        out_stand_ins_len: usize,
     ) -> u64;
 
     fn merelsplum_try_add_edge(
@@ -198,7 +223,8 @@ unsafe extern "C" {
 }
 
 pub(crate) fn edge_coloring_simple(o: &Flat, threshold: f64, seed: u64, out: &mut FlatResult) -> u64 {
-    // SAFETY: each pointer and length is a slice's, or that of the room of a `Vec`, and those written are borrowed mutably.
+    // SAFETY: each pointer and length is a slice's, or that of the room of a `Vec`, and those written are borrowed
+    // mutably.
     unsafe {
         let code = merelsplum_edge_coloring_simple(
             o.lengths.as_ptr(),
@@ -302,10 +328,20 @@ pub(crate) fn collect_splines(o: &Flat, threshold: f64, out: &mut FlatResult) ->
     }
 }
 
-/// Makes the list anew: for each edge where it starts and where it ends.
-pub(crate) fn edge_directions(o: &Flat, list: &mut Vec<[[f64; 2]; 2]>) -> u64 {
-    list.clear();
-    list.reserve_exact(o.kinds.len());
+/// Where the directions of edges go, and for each of them 1 where (0, 1) stands in: at the start, at the end.
+#[derive(Default)]
+pub(crate) struct FlatDirections {
+    pub vectors: Vec<[[f64; 2]; 2]>,
+    pub stand_ins: Vec<[u8; 2]>,
+}
+
+/// Makes both lists anew.
+pub(crate) fn edge_directions(o: &Flat, out: &mut FlatDirections) -> u64 {
+    let FlatDirections { vectors, stand_ins } = out;
+    vectors.clear();
+    vectors.reserve_exact(o.kinds.len());
+    stand_ins.clear();
+    stand_ins.reserve_exact(o.kinds.len());
     // SAFETY: as above; where the code is no refusal it is the number of edges that were written.
     unsafe {
         let code = merelsplum_edge_directions(
@@ -315,11 +351,14 @@ pub(crate) fn edge_directions(o: &Flat, list: &mut Vec<[[f64; 2]; 2]>) -> u64 {
             o.kinds.len(),
             o.points.as_ptr().cast(),
             8 * o.points.len(),
-            list.as_mut_ptr().cast(),
+            vectors.as_mut_ptr().cast(),
             4 * o.kinds.len(),
+            stand_ins.as_mut_ptr().cast(),
+            2 * o.kinds.len(),
         );
-        if code >> 32 == 0 {
-            list.set_len(code as usize);
+        if !is_refusal(code) {
+            vectors.set_len(code as usize);
+            stand_ins.set_len(code as usize);
         }
         code
     }
@@ -383,4 +422,17 @@ pub(crate) fn job_listing(file: &[u8], out: &mut [u8]) -> u64 {
 pub(crate) fn job_contour_part(file: &[u8], contour: usize) -> u64 {
     // SAFETY: as above.
     unsafe { merelsplum_job_contour_part(file.as_ptr(), file.len(), contour) }
+}
+
+#[cfg(test)]
+mod tests {
+    use super::*;
+
+    #[test]
+    fn counts_at_their_limits() {
+        let most = 508 + (64 << 16) + (512 << 48);
+        assert_eq!(Counts::of(most), Counts { edges: 508, splines: 64, stand_ins: 512 });
+        assert!(!is_refusal(most) && (0..=512).all(|stand_ins: u64| !is_refusal(stand_ins << 48)));
+        assert!((1..=11).all(|number| is_refusal((1 << 32) + number)));
+    }
 }

@@ -1,4 +1,5 @@
-//! Job files: an outline with all that its colouring needs, in a few kilobytes (docs/FORMAT.md of the repository has the format).
+//! Job files: an outline with all that its colouring needs, in a few kilobytes (docs/FORMAT.md of the repository has
+//! the format).
 //!
 //! ```
 //! use merelsplum::{Outline, job::{self, Job, Strategy}};
@@ -8,12 +9,12 @@
 //! let file = job.to_bytes();
 //! assert_eq!(file.len(), 159);
 //! assert_eq!(Job::read(&file)?, job);
-//! assert_eq!(job::check(&file)?, 4);
-//! assert_eq!(job::listing(&file), "0 0 L 5\n0 1 L 3\n0 2 L 6\n0 3 L 3\nedges 4\n");
+//! assert_eq!(job::check(&file)?.edges, 4);
+//! assert_eq!(job::listing(&file), "0 0 L 5\n0 1 L 3\n0 2 L 6\n0 3 L 3\nedges 4\nstandins 0\n");
 //! # Ok::<(), merelsplum::Refusal>(())
 //! ```
 
-use crate::coloring::{answer, colored, edge_coloring_by_distance, edge_coloring_ink_trap, edge_coloring_simple};
+use crate::coloring::{answer, colored, counts, edge_coloring_by_distance, edge_coloring_ink_trap, edge_coloring_simple};
 use crate::ffi::{self, Flat, FlatJob, FlatResult, Places};
 use crate::outline::{self, Colored, Outline};
 use crate::refusal::Refusal;
@@ -22,7 +23,7 @@ const MAX_CONTOURS: usize = 64;
 const MAX_EDGES: usize = 256;
 const MAX_RESULT_EDGES: usize = 508;
 const MAX_DISTANCES: usize = 2016;
-const MAX_LISTING_BYTES: usize = 5598;
+const MAX_LISTING_BYTES: usize = 5611;
 
 /// How a job is coloured.
 #[derive(Clone, Copy, Debug, PartialEq, Eq, Hash)]
@@ -93,8 +94,8 @@ impl Job {
         }
     }
 
-    /// The job as a file. Nothing is looked at: a job that cannot be coloured gives a file that is refused. This writer is plain Rust and
-    /// not proved.
+    /// The job as a file. Nothing is looked at: a job that cannot be coloured gives a file that is refused. This writer
+    /// is plain Rust and not proved.
     #[must_use]
     pub fn to_bytes(&self) -> Vec<u8> {
         let mut file = b"JB".to_vec();
@@ -118,13 +119,22 @@ impl Job {
     }
 }
 
-/// Whether a file is accepted: how many edges it has once coloured, or why it is refused.
+/// What colouring a file comes to.
+#[derive(Clone, Copy, Debug, PartialEq, Eq, Hash)]
+pub struct Checked {
+    /// How many edges it has once coloured.
+    pub edges: usize,
+    /// How many of its outline's directions have no length, as in [`Colored`].
+    pub stand_ins: usize,
+}
+
+/// Whether a file is accepted: what colouring it comes to, or why it is refused.
 ///
 /// # Errors
 ///
 /// The first fault of the file.
-pub fn check(file: &[u8]) -> Result<usize, Refusal> {
-    answer(ffi::job_check(file)).map(|edges| edges as usize)
+pub fn check(file: &[u8]) -> Result<Checked, Refusal> {
+    counts(ffi::job_check(file)).map(|counts| Checked { edges: counts.edges, stand_ins: counts.stand_ins })
 }
 
 /// Reads and colours a file.
@@ -134,12 +144,13 @@ pub fn check(file: &[u8]) -> Result<usize, Refusal> {
 /// The first fault of the file.
 pub fn color(file: &[u8]) -> Result<Colored, Refusal> {
     let mut out = FlatResult::new(MAX_CONTOURS, MAX_RESULT_EDGES);
-    answer(ffi::job_color(file, &mut out))?;
-    Ok(colored(&out))
+    let code = ffi::job_color(file, &mut out);
+    colored(code, &out)
 }
 
-/// Reads and colours a file, and lists the result: a line for each edge with its contour, its place in it, its kind and its colour; last
-/// how many there are. A refused file gives one line, `refused` and the number.
+/// Reads and colours a file, and lists the result: a line for each edge with its contour, its place in it, its kind and
+/// its colour; then `edges` and how many there are; last `standins` and how many directions had no length. A refused
+/// file gives one line, `refused` and the number.
 ///
 /// ```
 /// assert_eq!(merelsplum::job::listing(b""), "refused 1\n");
@@ -166,4 +177,24 @@ pub fn contour_part(file: &[u8], contour: usize) -> &[u8] {
     let part = ffi::job_contour_part(file, contour);
     let (start, length) = (part as u32 as usize, (part >> 32) as usize);
     &file[start..start + length]
+}
+
+#[cfg(test)]
+mod tests {
+    use super::*;
+
+    #[test]
+    fn limits_of_the_header() {
+        let header = include_str!("../../../crates/capi/merelsplum.h");
+        for (name, limit) in [
+            ("CONTOURS", MAX_CONTOURS),
+            ("EDGES", MAX_EDGES),
+            ("RESULT_EDGES", MAX_RESULT_EDGES),
+            ("DISTANCES", MAX_DISTANCES),
+            ("LISTING_BYTES", MAX_LISTING_BYTES),
+        ] {
+            let line = header.lines().find(|line| line.starts_with(&format!("#define MERELSPLUM_MAX_{name} "))).unwrap();
+            assert_eq!(line.split_whitespace().nth(2), Some(limit.to_string().as_str()), "{name}");
+        }
+    }
 }

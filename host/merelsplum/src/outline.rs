@@ -28,28 +28,36 @@ pub enum EdgeColor {
     White,
 }
 
-/// What is to be coloured: contours of edges. A contour may be empty; an edge stands as it is given, its end is not joined to the start of
-/// the next.
+/// What is to be coloured: contours of edges. A contour may be empty; an edge stands as it is given, its end is not
+/// joined to the start of the next.
 #[derive(Clone, Debug, Default, PartialEq)]
 pub struct Outline {
     /// The edges of each contour.
     pub contours: Vec<Vec<Edge>>,
 }
 
-/// A coloured outline. A contour of one or two edges with one corner is split in thirds; otherwise the edges are those of the outline.
+/// A coloured outline. A contour of one or two edges with one corner is split in thirds; otherwise the edges are those
+/// of the outline.
 #[derive(Clone, Debug, Default, PartialEq)]
 pub struct Colored {
     /// The edges of each contour with their colours.
     pub contours: Vec<Vec<(Edge, EdgeColor)>>,
+    /// How many of the outline's directions had no length, so that (0, 1) stood in for them: each of its edges has two,
+    /// in which it starts and in which it ends, and those of a line are the same.
+    /// [`edge_directions`](crate::edge_directions) says which.
+    pub stand_ins: usize,
 }
 
 /// An outline cut into splines, runs of edges from corner to corner.
 #[derive(Clone, Debug, Default, PartialEq)]
 pub struct Collected {
-    /// The edges of each contour with the numbers of their splines; `None` where an edge belongs to none and will be White.
+    /// The edges of each contour with the numbers of their splines; `None` where an edge belongs to none and will be
+    /// White.
     pub contours: Vec<Vec<(Edge, Option<u8>)>>,
     /// How many splines there are.
     pub splines: usize,
+    /// As in [`Colored`].
+    pub stand_ins: usize,
 }
 
 impl Edge {

@@ -30,7 +30,8 @@ impl SplineTable {
         SplineTable { colors: colors.to_vec(), pairs: vec![0; colors.len() * colors.len()] }
     }
 
-    /// With a table of pairs by rows, 1 where a pair is kept. The table is looked at when an offer is made, and not here.
+    /// With a table of pairs by rows, 1 where a pair is kept. The table is looked at when an offer is made, and not
+    /// here.
     #[must_use]
     pub fn from_parts(colors: Vec<u8>, pairs: Vec<u8>) -> SplineTable {
         SplineTable { colors, pairs }
@@ -55,7 +56,8 @@ impl SplineTable {
         a < n && b < n && self.pairs.get(a * n + b).is_some_and(|&entry| entry != 0)
     }
 
-    /// Offers to keep `a` and `b` apart. Colours are changed as needed; where that does not end within some steps, the offer is declined.
+    /// Offers to keep `a` and `b` apart. Colours are changed as needed; where that does not end within some steps, the
+    /// offer is declined.
     ///
     /// # Errors
     ///

@@ -1,14 +1,15 @@
 //! Random input, coloured through this crate and by the Rust of docs/src: the same, bit for bit, or the refusal that is
 //! due.
 
-use merelsplum::job::{self, Job};
+use merelsplum::job::{self, Checked, Job};
 use merelsplum::{
-    Edge, Offer, Outline, Point, Refusal, SplineTable, collect_splines, edge_coloring_by_distance, edge_coloring_ink_trap,
-    edge_coloring_simple, edge_directions,
+    Colored, Direction, Edge, Offer, Outline, Point, Refusal, SplineTable, collect_splines, edge_coloring_by_distance,
+    edge_coloring_ink_trap, edge_coloring_simple, edge_directions,
 };
 use oracle::geometry::{Contour, EdgeSegment, Shape};
 use oracle::given;
 use oracle::math::Vector2;
+use proptest::array::uniform4;
 use proptest::collection::vec;
 use proptest::prelude::*;
 
@@ -26,12 +27,26 @@ fn point() -> impl Strategy<Value = Point> {
     [coordinate(), coordinate()]
 }
 
+/// An edge of a kind from the points that it needs.
+fn from_points(kind: u8, [a, b, c, d]: [Point; 4]) -> Edge {
+    match kind {
+        1 => Edge::Line([a, b]),
+        2 => Edge::Quadratic([a, b, c]),
+        _ => Edge::Cubic([a, b, c, d]),
+    }
+}
+
+/// Every control point is one of two, which may be so near each other that a square of their distance is subnormal or
+/// 0.
+fn coincident() -> impl Strategy<Value = Edge> {
+    let near = (-2i32..=2, -2i32..=2, -540i32..=-535).prop_map(|(x, y, e)| [x, y].map(|i| f64::from(i) * 2f64.powi(e)));
+    let places = prop_oneof![[point(), point()], near.prop_map(|place| [[0.0, 0.0], place])];
+    (1..=3u8, places, uniform4(0..2usize)).prop_map(|(kind, places, picked)| from_points(kind, picked.map(|i| places[i])))
+}
+
 fn edge() -> impl Strategy<Value = Edge> {
-    prop_oneof![
-        [point(), point()].prop_map(Edge::Line),
-        [point(), point(), point()].prop_map(Edge::Quadratic),
-        [point(), point(), point(), point()].prop_map(Edge::Cubic),
-    ]
+    let spread = (1..=3u8, uniform4(point())).prop_map(|(kind, points)| from_points(kind, points));
+    prop_oneof![spread, coincident()]
 }
 
 /// A walk that turns a little at most edges and far at few, so that contours of none, one and two corners come up too.
@@ -110,6 +125,17 @@ fn source_bits(shape: &Shape) -> Bits<u8> {
     shape.contours.iter().map(contour).collect()
 }
 
+/// Whether a direction of the source's has no length.
+fn no_length(edge: &EdgeSegment, t: f64) -> bool {
+    edge.direction(t).length() == 0.0
+}
+
+/// How many of them there are at the starts and ends of an outline's edges.
+fn source_stand_ins(outline: &Outline) -> usize {
+    let edges = outline.contours.iter().flatten().map(segment);
+    edges.flat_map(|edge| [0.0, 1.0].map(|t| no_length(&edge, t))).filter(|&none| none).count()
+}
+
 /// The source's collecting pass: how many splines, and each edge with its spline's number.
 fn source_splines(outline: &Outline, threshold: f64) -> (usize, Bits<Option<u8>>) {
     let mut shape = shape(outline);
@@ -132,6 +158,7 @@ proptest! {
         given::edge_coloring_simple(&mut source, threshold, seed);
         let colored = edge_coloring_simple(&outline, threshold, seed).unwrap();
         prop_assert_eq!(bits(&colored.contours, |c| c.bits()), source_bits(&source));
+        prop_assert_eq!(colored.stand_ins, source_stand_ins(&outline));
     }
 
     #[test]
@@ -140,6 +167,7 @@ proptest! {
         given::edge_coloring_ink_trap(&mut source, threshold, seed);
         let colored = edge_coloring_ink_trap(&outline, threshold, seed).unwrap();
         prop_assert_eq!(bits(&colored.contours, |c| c.bits()), source_bits(&source));
+        prop_assert_eq!(colored.stand_ins, source_stand_ins(&outline));
     }
 
     #[test]
@@ -149,24 +177,30 @@ proptest! {
         let collected = collect_splines(&outline, threshold).unwrap();
         prop_assert_eq!(collected.splines, splines);
         prop_assert_eq!(bits(&collected.contours, |spline| spline), edges);
+        prop_assert_eq!(collected.stand_ins, source_stand_ins(&outline));
 
         let distances = for_pairs(splines, &distances);
         let mut source = shape(&outline);
         given::by_distance_given::edge_coloring_by_distance_given(&mut source, threshold, seed, &distances);
         let colored = edge_coloring_by_distance(&outline, threshold, seed, &distances).unwrap();
         prop_assert_eq!(bits(&colored.contours, |c| c.bits()), source_bits(&source));
+        prop_assert_eq!(colored.stand_ins, source_stand_ins(&outline));
     }
 
-    /// The directions bit for bit, and the corners that follow from them.
+    /// The directions bit for bit, which of them are stand-ins, and the corners that follow.
     #[test]
     fn directions(outline in outline(), threshold in threshold()) {
-        let pair = |v: Vector2| [v.x.to_bits(), v.y.to_bits()];
+        let bits = |x: f64, y: f64, stand_in: bool| (x.to_bits(), y.to_bits(), stand_in);
+        let unit = |e: &EdgeSegment, t: f64| {
+            let Vector2 { x, y } = e.direction(t).normalize(false);
+            bits(x, y, no_length(e, t))
+        };
         for (contour, directions) in shape(&outline).contours.iter().zip(edge_directions(&outline).unwrap()) {
-            let source = contour.segments.iter().map(|e| [0.0, 1.0].map(|t| pair(e.direction(t).normalize(false))));
-            let found = directions.iter().map(|d| [d.start, d.end].map(|p| p.map(f64::to_bits)));
+            let source = contour.segments.iter().map(|e| [unit(e, 0.0), unit(e, 1.0)]);
+            let found = directions.iter().map(|d| [d.start, d.end].map(|d| bits(d.x, d.y, d.stand_in)));
             prop_assert_eq!(found.collect::<Vec<_>>(), source.collect::<Vec<_>>());
 
-            let corner = |[x, y]: Point, [u, v]: Point| x * u + y * v <= 0.0 || (x * v - y * u).abs() > threshold;
+            let corner = |e: Direction, s: Direction| e.x * s.x + e.y * s.y <= 0.0 || (e.x * s.y - e.y * s.x).abs() > threshold;
             let before = directions.iter().cycle().skip(directions.len().saturating_sub(1));
             let corners = directions.iter().zip(before).map(|(d, before)| corner(before.end, d.start));
             let corners: Vec<usize> = corners.enumerate().filter(|c| c.1).map(|c| c.0).collect();
@@ -253,7 +287,7 @@ proptest! {
         prop_assert_eq!(read.as_ref().map_err(|&refusal| refusal), colored.as_ref().map(|_| &job).map_err(|&refusal| refusal));
 
         prop_assert_eq!(&job::color(&file), &colored);
-        prop_assert_eq!(job::check(&file), colored.as_ref().map(|c| c.edge_count()).map_err(|&refusal| refusal));
+        prop_assert_eq!(job::check(&file), checked(&colored));
         prop_assert_eq!(job::listing(&file), listing(&colored));
 
         let parts: Vec<u8> = (0..=job.outline.contours.len()).flat_map(|n| job::contour_part(&file, n)).copied().collect();
@@ -274,13 +308,19 @@ proptest! {
         }
         let colored = job::color(&file);
         prop_assert!(byte.is_some() || colored.is_err());
-        prop_assert_eq!(job::check(&file), colored.as_ref().map(|c| c.edge_count()).map_err(|&refusal| refusal));
+        prop_assert_eq!(job::check(&file), checked(&colored));
         prop_assert_eq!(job::listing(&file), listing(&colored));
     }
 }
 
+/// What a check answers.
+fn checked(colored: &Result<Colored, Refusal>) -> Result<Checked, Refusal> {
+    let counts = |colored: &Colored| Checked { edges: colored.edge_count(), stand_ins: colored.stand_ins };
+    colored.as_ref().map(counts).map_err(|&refusal| refusal)
+}
+
 /// The text of docs/FORMAT.md.
-fn listing(colored: &Result<merelsplum::Colored, Refusal>) -> String {
+fn listing(colored: &Result<Colored, Refusal>) -> String {
     let colored = match colored {
         Ok(colored) => colored,
         Err(refusal) => return format!("refused {}\n", refusal.number()),
@@ -292,5 +332,5 @@ fn listing(colored: &Result<merelsplum::Colored, Refusal>) -> String {
             lines += &format!("{contour} {place} {kind} {}\n", color.bits());
         }
     }
-    lines + &format!("edges {}\n", colored.edge_count())
+    lines + &format!("edges {}\nstandins {}\n", colored.edge_count(), colored.stand_ins)
 }

@@ -8,10 +8,11 @@ one beside this file, where `host/wheel` puts it, or the one that the system fin
 import ctypes
 import math
 import os
+from typing import NamedTuple
 
 import numpy
 
-__all__ = ["COLORS", "Refusal", "collect_splines", "color", "edge_directions"]
+__all__ = ["COLORS", "Contours", "Directions", "Refusal", "collect_splines", "color", "edge_directions"]
 
 #: The names of the colours, by their bits: 1 red, 2 green, 4 blue.
 COLORS = ("black", "red", "green", "yellow", "blue", "magenta", "cyan", "white")
@@ -39,8 +40,31 @@ class Refusal(ValueError):
         self.number = number
 
 
+class Contours(list):
+    """The contours of a result, a list.
+
+    `stand_ins` is how many of the outline's directions had no length, so that (0, 1) stood in for them. An edge has two,
+    in which it starts and in which it ends; `edge_directions` says which they are.
+    """
+
+    def __init__(self, contours, stand_ins):
+        super().__init__(contours)
+        self.stand_ins = stand_ins
+
+
+class Directions(NamedTuple):
+    """The unit directions of a contour's edges.
+
+    `vectors` has the shape (edges, 2, 2): x and y at the start of an edge, and at its end. `stand_in` has the shape
+    (edges, 2): whether that direction had no length and is (0, 1) in its place.
+    """
+
+    vectors: numpy.ndarray
+    stand_in: numpy.ndarray
+
+
 def _load():
-    name = "libmerelsplum.so.0"
+    name = "libmerelsplum.so.0.2"
     beside = os.path.join(os.path.dirname(os.path.abspath(__file__)), name)
     if folder := os.environ.get("MERELSPLUM_LIB_DIR"):
         library = ctypes.CDLL(os.path.join(folder, name))
@@ -56,7 +80,7 @@ def _load():
         function = getattr(library, "merelsplum_" + name)
         function.argtypes = 3 * _BUFFER + [ctypes.c_double] + more + 4 * _BUFFER
         function.restype = ctypes.c_uint64
-    library.merelsplum_edge_directions.argtypes = 4 * _BUFFER
+    library.merelsplum_edge_directions.argtypes = 5 * _BUFFER
     library.merelsplum_edge_directions.restype = ctypes.c_uint64
     return library
 
@@ -104,7 +128,7 @@ def _call(name, contours, angle, more):
         edges = range(at, at + length)
         result.append([(points[8 * i :][: 2 * int(kinds[i]) + 2].reshape(-1, 2).copy(), int(values[i])) for i in edges])
         at += length
-    return answer, result
+    return answer, Contours(result, answer >> 48)
 
 
 def color(contours, strategy="ink_trap", angle=3.0, seed=0, distances=None):
@@ -113,8 +137,8 @@ def color(contours, strategy="ink_trap", angle=3.0, seed=0, distances=None):
     The strategy is "simple", "ink_trap" or "distance". The last needs the distances of the splines that `collect_splines`
     numbers: one for each pair i < j, by i and then by j.
 
-    Returns the contours, each a list of pairs: the control points of an edge, and the bits of its colour (see `COLORS`). A
-    contour of one or two edges with one corner comes back in thirds.
+    Returns the `Contours`, each a list of pairs: the control points of an edge, and the bits of its colour (see `COLORS`).
+    A contour of one or two edges with one corner comes back in thirds.
     """
     names = {"simple": "simple", "ink_trap": "ink_trap", "distance": "by_distance"}
     if strategy not in names:
@@ -131,22 +155,21 @@ def color(contours, strategy="ink_trap", angle=3.0, seed=0, distances=None):
 def collect_splines(contours, angle=3.0):
     """Cuts an outline into splines, runs of edges from corner to corner, for the colouring by distance.
 
-    Returns how many there are, and the contours, each a list of pairs: the control points of an edge, and the number of its
-    spline, None where it belongs to none.
+    Returns how many there are, and the `Contours`, each a list of pairs: the control points of an edge, and the number of
+    its spline, None where it belongs to none.
     """
     answer, result = _call("collect_splines", contours, angle, [])
     numbered = [[(edge, None if spline == _NO_SPLINE else spline) for edge, spline in contour] for contour in result]
-    return answer >> 16 & 0xFFFF, numbered
+    return answer >> 16 & 0xFFFF, Contours(numbered, result.stand_ins)
 
 
 def edge_directions(contours):
-    """The unit directions in which each edge starts and ends; (0, 1) stands in for one that has no length.
-
-    Returns an array for each contour, of the shape (edges, 2, 2): x and y at the start of an edge, and at its end.
-    """
+    """The unit directions in which edges start and end, and which of them had no length: `Directions` of each contour."""
     outline = _outline(contours)
     edges = outline[1].size
-    directions = numpy.zeros((edges, 2, 2))
-    _check(_library.merelsplum_edge_directions(*_buffers(*outline, directions)))
+    vectors = numpy.zeros((edges, 2, 2))
+    stand_in = numpy.zeros((edges, 2), dtype=bool)
+    _check(_library.merelsplum_edge_directions(*_buffers(*outline, vectors, stand_in)))
     ends = numpy.cumsum([len(contour) for contour in contours], dtype=int)
-    return [directions[end - len(contour) : end].copy() for contour, end in zip(contours, ends)]
+    places = [slice(end - len(contour), end) for contour, end in zip(contours, ends)]
+    return [Directions(vectors[place].copy(), stand_in[place].copy()) for place in places]

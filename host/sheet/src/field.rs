@@ -447,7 +447,7 @@ mod tests {
         for (x, y) in [(3.5, 2.0), (5.0, 3.0), (8.0, 3.0), (-1.0, -1.0)] {
             assert_eq!(depth(&with(&[0, 2, 4]), x, y), depth(&with(&[]), x, y));
         }
-        let nothing = Field::new(&Colored { contours: vec![vec![]; 2] });
+        let nothing = Field::new(&Colored { contours: vec![vec![]; 2], stand_ins: 0 });
         assert_eq!(depth(&nothing, 0.0, 0.0), f64::MIN);
     }
 

@@ -26,6 +26,8 @@ impl fmt::Display for Name {
 pub struct Glyph {
     pub name: Name,
     pub advance: f64,
+    /// Its edges as the font draws them, through all contours.
+    pub drawn: Vec<EdgeSegment>,
     /// Its contours with the inside on their right, and its cusps pushed apart.
     pub shape: Shape,
     /// What the font draws.
@@ -103,13 +105,13 @@ impl<'a> Font<'a> {
         let id = self.id(name)?;
         let mut pen = Pen::default();
         let read = self.face.outline_glyph(id, &mut pen);
-        let mut shape = pen.shape;
+        let Pen { drawn, mut shape, .. } = pen;
         // a part was drawn, and then came what cannot be read
         if read.is_none() && shape.edge_count() > 0 {
             return None;
         }
         let fill = prepare(&mut shape);
-        Some(Glyph { name, advance: self.face.glyph_hor_advance(id).unwrap_or(0).into(), shape, fill })
+        Some(Glyph { name, advance: self.face.glyph_hor_advance(id).unwrap_or(0).into(), drawn, shape, fill })
     }
 
     pub fn metrics(&self) -> Metrics {
@@ -151,21 +153,29 @@ fn prepare(shape: &mut Shape) -> Fill {
     fill
 }
 
-/// Collects the contours that a font draws. Edges of no length are dropped, and curves that are lines become lines.
+/// Collects what a font draws: all edges as they are, and contours in which edges of no length are dropped and curves
+/// that are lines become lines.
 #[derive(Default)]
 struct Pen {
+    drawn: Vec<EdgeSegment>,
     shape: Shape,
     start: Vector2,
     at: Vector2,
 }
 
 impl Pen {
-    fn add(&mut self, edge: EdgeSegment, end: Vector2) {
+    fn add(&mut self, drawn: EdgeSegment, edge: EdgeSegment, end: Vector2) {
+        self.drawn.push(drawn);
         // a curve may end where it starts
         if end != self.at || edge.order() > 1 {
             self.shape.contours.last_mut().expect("a font moves before it draws").add_edge(edge);
             self.at = end;
         }
+    }
+
+    fn line(&mut self, end: Vector2) {
+        let line = EdgeSegment::line(self.at, end);
+        self.add(line, line, end);
     }
 }
 
@@ -189,19 +199,23 @@ impl OutlineBuilder for Pen {
     }
 
     fn line_to(&mut self, x: f32, y: f32) {
-        self.add(EdgeSegment::line(self.at, v(x, y)), v(x, y));
+        self.line(v(x, y));
     }
 
     fn quad_to(&mut self, x1: f32, y1: f32, x: f32, y: f32) {
-        self.add(EdgeSegment::quadratic(self.at, v(x1, y1), v(x, y)), v(x, y));
+        let [p0, p1, p2] = [self.at, v(x1, y1), v(x, y)];
+        self.add(EdgeSegment::Quadratic([p0, p1, p2]), EdgeSegment::quadratic(p0, p1, p2), p2);
     }
 
     fn curve_to(&mut self, x1: f32, y1: f32, x2: f32, y2: f32, x: f32, y: f32) {
-        self.add(cubic(self.at, v(x1, y1), v(x2, y2), v(x, y)), v(x, y));
+        let [p0, p1, p2, p3] = [self.at, v(x1, y1), v(x2, y2), v(x, y)];
+        self.add(EdgeSegment::Cubic([p0, p1, p2, p3]), cubic(p0, p1, p2, p3), p3);
     }
 
     fn close(&mut self) {
-        self.add(EdgeSegment::line(self.at, self.start), self.start);
+        if self.at != self.start {
+            self.line(self.start);
+        }
         if self.shape.contours.last().is_some_and(Contour::is_empty) {
             self.shape.contours.pop();
         }
@@ -222,6 +236,7 @@ mod tests {
         pen.close();
         let edge = EdgeSegment::cubic(v(0.0, 0.0), v(6.0, 6.0), v(-6.0, 6.0), v(0.0, 0.0));
         assert_eq!(pen.shape.contours[0].segments, [edge]);
+        assert_eq!(pen.drawn.len(), 2);
     }
 
     /// Its two curves meet at the origin in a turn of 180 degrees, and inside is what the font draws, whichever way it
@@ -272,6 +287,8 @@ mod tests {
         pen.close();
         pen.move_to(5.0, 5.0);
         pen.close();
+        let kinds: Vec<usize> = pen.drawn.iter().map(EdgeSegment::order).collect();
+        assert_eq!(kinds, [1, 1, 2, 1, 1], "all are drawn");
         let clockwise = pen.shape;
         assert_eq!(clockwise.contours.len(), 1, "empty contours are dropped");
         assert!(

@@ -17,5 +17,5 @@ pub mod picture;
 pub mod sheet;
 pub mod sign;
 pub mod source;
-pub mod standin;
+pub mod unproved;
 pub mod winding;

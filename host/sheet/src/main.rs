@@ -5,14 +5,14 @@ mod options;
 use clap::error::ErrorKind;
 use indicatif::{ProgressBar, ProgressStyle};
 use merelsplum::Refusal;
-use options::Options;
+use options::{Input, Options};
 use rayon::prelude::*;
 use sheet::font::{Font, Name};
 use sheet::layout::Layout;
 use sheet::output::Outputs;
 use sheet::pack::{Dimensions, MAX_SIDE};
 use sheet::sheet::{Cell, Sheet};
-use sheet::{json, picture, standin};
+use sheet::{json, picture, unproved};
 use std::env;
 use std::fs::File;
 use std::io::{self, Read, Write};
@@ -85,34 +85,45 @@ fn run(options: &Options) -> Result<usize, String> {
     let (sheet, mut lines) = draw(options, &fonts, &names)?;
     write(options, &fonts, &sheet)?;
     let left_out = names.len() - sheet.cells.len();
-    for (input, missing) in options.inputs().zip(&missing) {
-        let font = if fonts.len() > 1 { input.font.display().to_string() } else { "the font".to_owned() };
-        lines.extend(not_there(missing, &font));
-    }
+    let called = |input: &Input| if fonts.len() > 1 { input.font.display().to_string() } else { "the font".to_owned() };
+    let called: Vec<String> = options.inputs().map(called).collect();
+    lines.extend(called.iter().zip(&missing).filter_map(|(font, missing)| not_there(missing, font)));
     lines.iter().for_each(|line| report(line));
     let edges: usize = sheet.cells.iter().map(|cell| cell.colored.edge_count()).sum();
-    let standins = sheet.cells.iter().filter(|cell| cell.job.is_none()).count();
-    let summary = format!(
-        "{} glyphs, {edges} edges, {left_out} left out, {standins} coloured by docs/src, {} not in the font, {:.2} s",
+    let unproved = sheet.cells.iter().filter(|cell| cell.job.is_none()).count();
+    let mut summary = format!(
+        "{} glyphs, {edges} edges, {left_out} left out, {unproved} coloured by docs/src, {} not in the font, {:.2} s\n",
         sheet.cells.len(),
         missing.iter().map(Vec::len).sum::<usize>(),
         start.elapsed().as_secs_f64()
     );
+    summary.extend(called.iter().enumerate().filter_map(|(number, font)| no_length(&sheet, number, font)));
     if options.writes_to_stdout() {
-        let _ = writeln!(io::stderr(), "{summary}");
+        let _ = write!(io::stderr(), "{summary}");
     } else {
-        let _ = writeln!(io::stdout(), "{summary}");
+        let _ = write!(io::stdout(), "{summary}");
     }
     Ok(left_out)
 }
 
 /// The line about characters that the font has not.
 fn not_there(missing: &[Name], font: &str) -> Option<String> {
+    (!missing.is_empty()).then(|| format!("not in {font}: {}", first_few(missing)))
+}
+
+/// The line about a font's glyphs that have directions without length, and how many each has.
+fn no_length(sheet: &Sheet, number: usize, font: &str) -> Option<String> {
+    let cells = sheet.cells.iter().filter(|cell| cell.font == number && cell.stand_ins > 0);
+    let glyphs: Vec<String> = cells.map(|cell| format!("{} ({})", cell.name, cell.stand_ins)).collect();
+    (!glyphs.is_empty()).then(|| format!("directions without length in {font}: {}\n", glyphs.join(" ")))
+}
+
+/// Some glyphs in words: the first few, and how many more there are.
+fn first_few(glyphs: &[Name]) -> String {
     const SHOWN: usize = 8;
-    let names: Vec<String> = missing.iter().take(SHOWN).map(Name::to_string).collect();
-    let more = missing.len().saturating_sub(SHOWN);
-    let more = if more > 0 { format!(" and {more} more") } else { String::new() };
-    (!missing.is_empty()).then(|| format!("not in {font}: {}{more}", names.join(" ")))
+    let shown: Vec<String> = glyphs.iter().take(SHOWN).map(ToString::to_string).collect();
+    let more = glyphs.len() - shown.len();
+    shown.join(" ") + &if more > 0 { format!(" and {more} more") } else { String::new() }
 }
 
 /// The sheet of the glyphs that could be coloured, and a line for each of the others and each that docs/src coloured.
@@ -127,7 +138,7 @@ fn draw(options: &Options, fonts: &[Font], names: &[(usize, Name)]) -> Result<(S
         progress.inc(1);
         let font = &fonts[number];
         let glyph = font.glyph(name).ok_or_else(|| format!("{name}: outline damaged, or beyond the coordinates of a font"))?;
-        let excess = standin::excess(&glyph.shape);
+        let excess = unproved::excess(&glyph.shape);
         match settings.color(glyph, number, place, font.units_per_em()) {
             Ok(cell) if cell.job.is_none() => Ok((cell, Some(format!("{name}: coloured by docs/src, not proved: {excess}")))),
             Ok(cell) => Ok((cell, None)),

@@ -524,7 +524,7 @@ impl Options {
             angle: self.angle,
             seed: self.seed,
             layout: self.layout(),
-            standins: !self.provedonly,
+            unproved: !self.provedonly,
             drawing: Drawing {
                 kind: self.kind,
                 pxrange: self.pxrange,

@@ -4,11 +4,11 @@ use crate::draw::{Drawing, Type, byte};
 use crate::font::{Glyph, Name};
 use crate::frame::{self, Frame};
 use crate::layout::{Arrangement, Cells, Layout};
-use crate::source::{self, Bounds, spline_distances};
-use crate::standin;
+use crate::source::{self, Bounds, EdgeSegment, spline_distances};
+use crate::unproved;
 use crate::winding::Fill;
 use merelsplum::job::{Job, Strategy};
-use merelsplum::{Colored, Outline, Refusal, collect_splines};
+use merelsplum::{Colored, Outline, Refusal, collect_splines, edge_directions};
 use rayon::prelude::*;
 
 /// How a sheet is made.
@@ -22,7 +22,7 @@ pub struct Settings {
     /// Its range is the layout's.
     pub drawing: Drawing,
     /// Whether docs/src colours what is above the library's limits.
-    pub standins: bool,
+    pub unproved: bool,
 }
 
 /// Pixels by rows from the top: red, green, blue, and the true distance where the type has it.
@@ -45,6 +45,8 @@ pub struct Cell {
     /// None where the library refused the glyph, and docs/src coloured it.
     pub job: Option<Job>,
     pub colored: Colored,
+    /// How many directions of its edges, as the font draws them, have no length.
+    pub stand_ins: usize,
     pub fill: Fill,
     /// Of its outline, in units.
     bounds: Option<Bounds>,
@@ -84,6 +86,15 @@ pub fn job(outline: Outline, strategy: Strategy, threshold: f64, seed: u64) -> R
     Ok(Job { strategy, seed, threshold, outline, distances })
 }
 
+/// How many directions of edges have no length: by the library, or above its limits by docs/src.
+fn stand_ins(drawn: &[EdgeSegment]) -> usize {
+    let outline = Outline::from(vec![drawn.iter().map(source::edge).collect()]);
+    match edge_directions(&outline) {
+        Ok(directions) => directions[0].iter().flat_map(|edge| [edge.start, edge.end]).filter(|end| end.stand_in).count(),
+        Err(_) => source::stand_ins(drawn.iter()),
+    }
+}
+
 impl Settings {
     /// Colours a glyph of a font, the `place`-th of the sheet. One above the library's limits is coloured by docs/src
     /// where that is allowed.
@@ -92,12 +103,12 @@ impl Settings {
         let job = job(source::outline(&glyph.shape), self.strategy, self.angle.sin(), seed);
         let (job, colored) = match job.and_then(|job| job.color().map(|colored| (job, colored))) {
             Ok((job, colored)) => (Some(job), colored),
-            Err(Refusal::TooMany) if self.standins => (None, standin::color(&glyph.shape, self.strategy, self.angle, seed)),
+            Err(Refusal::TooMany) if self.unproved => (None, unproved::color(&glyph.shape, self.strategy, self.angle, seed)),
             Err(refusal) => return Err(refusal),
         };
-        let Glyph { name, advance, shape, fill } = glyph;
-        let (bounds, frame) = (frame::bounds(&shape), Frame::empty(1.0));
-        Ok(Cell { font, name, advance, job, colored, fill, bounds, units_per_em, frame, x: 0, y: 0 })
+        let Glyph { name, advance, drawn, shape, fill } = glyph;
+        let (stand_ins, bounds, frame) = (stand_ins(&drawn), frame::bounds(&shape), Frame::empty(1.0));
+        Ok(Cell { font, name, advance, job, colored, stand_ins, fill, bounds, units_per_em, frame, x: 0, y: 0 })
     }
 
     /// Lays glyphs that are coloured out in a sheet without pixels; none where no sheet holds them.

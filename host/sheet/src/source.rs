@@ -35,6 +35,11 @@ pub fn spline_distances(collected: &Collected) -> Vec<f64> {
     distance::pairs(&segments, &starts)
 }
 
+/// How many of the directions in which edges start and end have no length, as docs/src has them.
+pub fn stand_ins<'a>(edges: impl Iterator<Item = &'a EdgeSegment>) -> usize {
+    edges.flat_map(|edge| [0.0, 1.0].map(|t| edge.direction(t).length())).filter(|&length| length == 0.0).count()
+}
+
 /// An edge as docs/src has it.
 pub fn segment(edge: &Edge) -> EdgeSegment {
     let v = |p: Point| Vector2::new(p[0], p[1]);

@@ -3,6 +3,7 @@
 mod common;
 
 use merelsplum::job::{self, Job};
+use merelsplum::{Edge, Outline, Point, edge_directions};
 use serde_json::Value;
 use sheet::picture::{INK, PAPER, inside};
 use sheet::source::{EdgeSegment, median, segment};
@@ -14,7 +15,7 @@ use std::process::{Command, Output, Stdio};
 use std::thread::sleep;
 use std::time::{Duration, Instant};
 use tempfile::TempDir;
-use ttf_parser::Face;
+use ttf_parser::{Face, OutlineBuilder};
 
 /// An empty folder of a test's own, taken away at its end.
 struct Folder(TempDir);
@@ -322,6 +323,103 @@ fn missing_characters() {
     let before =
         |text: &str, end: &str| text.split(end).next().unwrap().split(' ').next_back().unwrap().parse::<usize>().unwrap();
     assert_eq!(before(&lines(&output)[0], " more") + 8, before(&words(&output), " not in the font"));
+}
+
+/// The edges of a glyph as its font draws them.
+#[derive(Default)]
+struct Drawn {
+    edges: Vec<Edge>,
+    at: Point,
+}
+
+impl Drawn {
+    fn point(x: f32, y: f32) -> Point {
+        [x.into(), y.into()]
+    }
+
+    fn add(&mut self, edge: Edge) {
+        self.at = *edge.points().last().unwrap();
+        self.edges.push(edge);
+    }
+}
+
+impl OutlineBuilder for Drawn {
+    fn move_to(&mut self, x: f32, y: f32) {
+        self.at = Drawn::point(x, y);
+    }
+
+    fn line_to(&mut self, x: f32, y: f32) {
+        self.add(Edge::Line([self.at, Drawn::point(x, y)]));
+    }
+
+    fn quad_to(&mut self, x1: f32, y1: f32, x: f32, y: f32) {
+        self.add(Edge::Quadratic([self.at, Drawn::point(x1, y1), Drawn::point(x, y)]));
+    }
+
+    fn curve_to(&mut self, x1: f32, y1: f32, x2: f32, y2: f32, x: f32, y: f32) {
+        self.add(Edge::Cubic([self.at, Drawn::point(x1, y1), Drawn::point(x2, y2), Drawn::point(x, y)]));
+    }
+
+    fn close(&mut self) {}
+}
+
+/// The characters whose glyphs have directions without length, and how many the library finds, in parts of 256 edges.
+fn without_length(font: &str, characters: impl Iterator<Item = char>) -> Vec<String> {
+    let file = fs::read(font).unwrap();
+    let face = Face::from_slice(&file, 0).unwrap();
+    let count = |character: char| {
+        let mut drawn = Drawn::default();
+        face.outline_glyph(face.glyph_index(character)?, &mut drawn)?;
+        let parts = drawn.edges.chunks(256).map(|edges| Outline::from(vec![edges.to_vec()]));
+        let ends = parts.flat_map(|part| edge_directions(&part).unwrap().concat()).flat_map(|edge| [edge.start, edge.end]);
+        Some(ends.filter(|end| end.stand_in).count()).filter(|&count| count > 0)
+    };
+    let named = |character: char| Some(format!("U+{:04X} ({})", character as u32, count(character)?));
+    characters.filter_map(named).collect()
+}
+
+/// The glyphs in which a direction has no length are named behind the summary, the first eight of them.
+#[test]
+fn directions_without_length() {
+    let folder = Folder::new("directions_without_length");
+    let named = |font: &str, characters: &str| {
+        let output = sheet(&folder, &["--font", font, "--chars", characters, "--json", "a.json"]);
+        assert_eq!(output.status.code(), Some(0));
+        words(&output).lines().skip(1).map(str::to_owned).collect::<Vec<_>>()
+    };
+    let sans = common::dejavu_sans();
+    assert_eq!(named(&sans, "A..Z"), [""; 0]);
+    // its last point is its first: a line of no length
+    assert_eq!(named(&sans, "A..C u"), ["directions without length in the font: U+0075 (2)"]);
+    let all = without_length(&sans, '\u{20}'..='\u{24F}');
+    assert!(all.len() > 8);
+    assert_eq!(named(&sans, "[0x20, 0x24F]"), [format!("directions without length in the font: {}", all.join(" "))]);
+
+    // far above the limits, so that docs/src counts too
+    let italic = common::installed("fonts-linuxlibertine", "/LinLibertine_I.otf");
+    let circled = without_length(&italic, '\u{24B6}'..='\u{24B8}').join(" ");
+    assert!(circled.starts_with("U+24B6 (30) "), "{circled}");
+    assert_eq!(named(&italic, "[0x24B6, 0x24B8]"), [format!("directions without length in the font: {circled}")]);
+
+    // a font that has none
+    let liberation = common::installed("fonts-liberation", "/LiberationSans-Regular.ttf");
+    let output = sheet(&folder, &["--font", &liberation, "--allglyphs", "--json", "a.json"]);
+    assert_eq!((output.status.code(), words(&output).lines().count()), (Some(0), 1));
+}
+
+/// Of several fonts each has its line; a curve may have no direction at one end only. All goes where the summary goes.
+#[test]
+fn directions_without_length_in_several_fonts() {
+    let folder = Folder::new("directions_without_length_in_several_fonts");
+    let (sans, serif) = (common::dejavu_sans(), common::installed("fonts-freefont-otf", "/FreeSerif.otf"));
+    let fonts = ["--font", &sans, "--chars", "A u", "--and", "--font", &serif, "--chars", "A 0xA8E2"];
+    let expected = [(sans.as_str(), "U+0075 (2)"), (&serif, "U+A8E2 (1)")]
+        .map(|(font, glyph)| format!("directions without length in {font}: {glyph}"));
+    let output = sheet(&folder, &[fonts.as_slice(), &["--json", "a.json"]].concat());
+    assert_eq!(words(&output).lines().skip(1).collect::<Vec<_>>(), expected);
+    let output = sheet(&folder, &[fonts.as_slice(), &["--json", "-"]].concat());
+    assert_eq!(output.stdout, fs::read(folder.file("a.json")).unwrap());
+    assert_eq!(lines(&output)[1..], expected);
 }
 
 /// Each type has its channels; the true distance of mtsdf is that of sdf, and its colours are those of msdf.
@@ -735,9 +833,7 @@ fn kerning_without_a_kern_table() {
 }
 
 fn inter() -> String {
-    let list = Command::new("dpkg").args(["-L", "fonts-inter-variable"]).output().unwrap().stdout;
-    let list = String::from_utf8(list).unwrap();
-    list.lines().find(|path| path.ends_with("/Inter.var.ttf")).expect("host/setup installs it").to_owned()
+    common::installed("fonts-inter-variable", "/Inter.var.ttf")
 }
 
 /// An axis makes letters wider; what is no axis is told of.

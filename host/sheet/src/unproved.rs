@@ -1,6 +1,6 @@
 //! Glyphs above the limits of the proved library, coloured by the Rust of docs/src instead, which has none.
 
-use crate::source::{Shape, edge};
+use crate::source::{Shape, edge, stand_ins};
 use bymsdfgen::coloring;
 use merelsplum::job::Strategy;
 use merelsplum::{Colored, EdgeColor};
@@ -12,6 +12,7 @@ const EDGES: usize = 256;
 /// Colours a shape, the angle in radians.
 pub fn color(shape: &Shape, strategy: Strategy, angle: f64, seed: u64) -> Colored {
     let mut shape = shape.clone();
+    let stand_ins = stand_ins(shape.contours.iter().flat_map(|contour| &contour.segments));
     match strategy {
         Strategy::Simple => coloring::edge_coloring_simple(&mut shape, angle, seed),
         Strategy::InkTrap => coloring::edge_coloring_ink_trap(&mut shape, angle, seed),
@@ -21,7 +22,7 @@ pub fn color(shape: &Shape, strategy: Strategy, angle: f64, seed: u64) -> Colore
         let edges = contour.segments.iter().zip(&contour.colors);
         edges.map(|(segment, color)| (edge(segment), EdgeColor::ALL[usize::from(color.bits() & 7)])).collect()
     };
-    Colored { contours: shape.contours.iter().map(contour).collect() }
+    Colored { contours: shape.contours.iter().map(contour).collect(), stand_ins }
 }
 
 /// Which limit a shape is above, and by how much.
@@ -52,13 +53,18 @@ mod tests {
         shape
     }
 
-    /// Within the limits both colour alike.
+    /// Within the limits both colour alike, and count as many directions without length.
     #[test]
     fn as_the_library() {
-        let shape = squares(3);
+        let mut shape = squares(3);
+        let v = |x: f64| Vector2::new(x, 0.0);
+        let line = |a: f64, b: f64| EdgeSegment::Line([v(a), v(b)]);
+        let edges = [line(0.0, 0.0), line(0.0, 1.0), EdgeSegment::Cubic([1.0, 1.0, 1.0, 0.0].map(v)), line(0.0, 1e-180)];
+        edges.into_iter().for_each(|edge| shape.contours[1].add_edge(edge));
         for strategy in [Strategy::Simple, Strategy::InkTrap, Strategy::ByDistance] {
             let job = crate::sheet::job(outline(&shape), strategy, 3f64.sin(), 5).unwrap();
-            assert_eq!(color(&shape, strategy, 3.0, 5), job.color().unwrap(), "{strategy:?}");
+            let colored = color(&shape, strategy, 3.0, 5);
+            assert_eq!((&colored, colored.stand_ins), (&job.color().unwrap(), 5), "{strategy:?}");
         }
     }
 
