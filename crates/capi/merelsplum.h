@@ -54,7 +54,7 @@ extern "C" {
 #define MERELSPLUM_MAX_SPLINES 64             /* counted for colouring by distance and its collecting pass only */
 #define MERELSPLUM_MAX_DISTANCES 2016         /* 64 * 63 / 2 */
 #define MERELSPLUM_MAX_COORDINATE 1048576.0   /* of either sign */
-#define MERELSPLUM_MAX_JOB_BYTES 33177        /* no job file that is accepted is longer */
+#define MERELSPLUM_MAX_JOB_BYTES 33179        /* no job file that is accepted is longer */
 #define MERELSPLUM_MAX_LISTING_BYTES 5611
 #define MERELSPLUM_STACK_BYTES 131072
 
@@ -186,6 +186,62 @@ uint64_t merelsplum_collect_splines(
 static inline unsigned merelsplum_collected_edges(uint64_t answer) { return merelsplum_colored_edges(answer); }
 static inline unsigned merelsplum_collected_splines(uint64_t answer) { return (unsigned)(answer >> 16 & 0xFFFF); }
 
+/* ---- balanced teardrops
+ *
+ * A teardrop is a contour with one corner; its edges are coloured in three runs. The functions above divide them as
+ * msdfgen does: of n edges, 3 or more, place p, counted from 0 at the corner, is
+ *   in the first run where 46 p < 15 (n - 1),
+ *   else in the middle one, which is White, where 46 p < 31 (n - 1),
+ *   else in the last one.
+ * Here the middle run is where 15 (n - 1) <= 46 p <= 31 (n - 1), so that the two outer ones are equally long. The two
+ * divisions differ where n - 1 is a multiple of 46, and there at one place, p = 31 (n - 1) / 46: 47 edges are 15, 16
+ * and 16 above, and 15, 17 and 15 here. Teardrops of one or two edges, which are split in thirds, and all other
+ * contours are the same in both.
+ *
+ * Parameters, answers and refusals are those of the functions without the suffix. The distances of a balanced colouring
+ * are those of the splines that the balanced collecting pass numbers. */
+
+uint64_t merelsplum_edge_coloring_simple_balanced(
+    const uint16_t *lengths, size_t lengths_len,
+    const uint8_t *kinds, size_t kinds_len,
+    const double *points, size_t points_len,
+    double threshold, uint64_t seed,
+    uint16_t *out_lengths, size_t out_lengths_len,
+    uint8_t *out_kinds, size_t out_kinds_len,
+    double *out_points, size_t out_points_len,
+    uint8_t *out_colors, size_t out_colors_len);
+
+uint64_t merelsplum_edge_coloring_ink_trap_balanced(
+    const uint16_t *lengths, size_t lengths_len,
+    const uint8_t *kinds, size_t kinds_len,
+    const double *points, size_t points_len,
+    double threshold, uint64_t seed,
+    uint16_t *out_lengths, size_t out_lengths_len,
+    uint8_t *out_kinds, size_t out_kinds_len,
+    double *out_points, size_t out_points_len,
+    uint8_t *out_colors, size_t out_colors_len);
+
+uint64_t merelsplum_edge_coloring_by_distance_balanced(
+    const uint16_t *lengths, size_t lengths_len,
+    const uint8_t *kinds, size_t kinds_len,
+    const double *points, size_t points_len,
+    double threshold, uint64_t seed,
+    const double *distances, size_t distances_len,
+    uint16_t *out_lengths, size_t out_lengths_len,
+    uint8_t *out_kinds, size_t out_kinds_len,
+    double *out_points, size_t out_points_len,
+    uint8_t *out_colors, size_t out_colors_len);
+
+uint64_t merelsplum_collect_splines_balanced(
+    const uint16_t *lengths, size_t lengths_len,
+    const uint8_t *kinds, size_t kinds_len,
+    const double *points, size_t points_len,
+    double threshold,
+    uint16_t *out_lengths, size_t out_lengths_len,
+    uint8_t *out_kinds, size_t out_kinds_len,
+    double *out_points, size_t out_points_len,
+    uint8_t *out_splines, size_t out_splines_len);
+
 /* ---- directions of an outline's edges
  *
  * out_directions gets four doubles for each edge, through all contours: x and y of the unit direction in which it
@@ -237,13 +293,16 @@ static inline unsigned merelsplum_offer_refusal(uint64_t answer) {
 
 /* ---- job files (docs/FORMAT.md)
  *
- * A job file has an outline, its strategy, seed and threshold and, by distance, the distances. Of a file that is
- * refused the earliest record with a fault decides. */
+ * A job file has an outline, its strategy, seed and threshold, whether its teardrops are balanced and, by distance, the
+ * distances. Of a file that is refused the earliest record with a fault decides. Its colouring and its listing divide
+ * teardrops as it asks. */
 
 /* What the file holds: the outline, the distances, and in numbers its strategy, seed, threshold (the bits of a
  * double), and how many contours, edges and distances there are. numbers has no length of its own and is not NULL.
  * Answer: 0, or a refusal; 11 where a buffer is too short, and else the refusal of merelsplum_job_check: a file that
- * is read here is accepted. The largest job has 64 lengths, 256 kinds, 2048 points and 2016 distances. */
+ * is read here is accepted. The largest job has 64 lengths, 256 kinds, 2048 points and 2016 distances. Whether the
+ * file asks for balanced teardrops is not among the numbers: a host that colours what it has read asks
+ * merelsplum_job_balanced, and where that answers 1 it calls the functions that end in _balanced. */
 uint64_t merelsplum_job_read(
     const uint8_t *file, size_t file_len,
     uint16_t *lengths, size_t lengths_len,
@@ -251,6 +310,10 @@ uint64_t merelsplum_job_read(
     double *points, size_t points_len,
     double *distances, size_t distances_len,
     uint64_t numbers[6]);
+
+/* Whether the file asks for balanced teardrops, by the record BL. Answer: 1 where it does, 0 where it does not, or the
+ * refusal of merelsplum_job_check. */
+uint64_t merelsplum_job_balanced(const uint8_t *file, size_t file_len);
 
 /* Whether the file is accepted, without buffers. Answer: what merelsplum_job_color answers with buffers that are long
  * enough; never 11. */

@@ -2,6 +2,8 @@
 use Prim.Native.Nat.{ℕ, _+_, _-_, _*_, _%_}
 use mathlib.Core.List.{List, [], _∷_}
 use Rattle.coloring.specs.Answers.{Answer, gives, refusal}
+use Rattle.coloring.specs.declared.settings.Division.{Division}
+use Rattle.coloring.specs.declared.settings.Division.the-variants.{Source, Balanced}
 use Rattle.job.specs.declared.progress.Numbers.{Numbers}
 use Rattle.job.specs.declared.part.Span.{Span}
 use Rattle.job.specs.Records.{strategyNumber}
@@ -34,6 +36,14 @@ handedJob code buffers numbers = record { code = code; buffers = buffers; number
 -- the outcome of reading, over numbers that stood there
 abbrev pub handOutJob : ReadOutcome → List ℕ → HandedJob
 handOutJob o old = handedJob (readCode (o .answer)) (o .buffers) (numbersAfter (o .answer) old)
+
+abbrev pub divisionNumber : Division → ℕ
+divisionNumber Source = 0
+divisionNumber Balanced = 1
+
+-- 1 where the teardrops of a job are balanced, else 0; or 2^32 and the number of the refusal
+abbrev pub balancedCode : Answer Numbers → ℕ
+balancedCode = codeOf (λ (n : Numbers). divisionNumber (n .division)) 4294967296
 
 -- the place of the first byte, and 2^32 times the number of bytes
 abbrev pub placeCode : Span → ℕ

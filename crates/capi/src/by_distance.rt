@@ -10,7 +10,7 @@ ghost use Rattle.capi.specs.EdgeColoring.{collectedCode, coloredCode, ha
 
 // The number of edges, 2^16 times that of splines and 2^48 times that of stand-ins, or 2^32 and the number of the
 // refusal.
-fn collected_code(answer: Colored) -> u64
+pub(crate) fn collected_code(answer: Colored) -> u64
     ensures { λ r. ⌜ r ≡ collectedCode (coloredAnswer answer) ⌝ }
 {
     match answer {

@@ -1,6 +1,7 @@
-// The job file: reading, checking, colouring, listing, and the place of one contour.
+// The job file: reading, checking, colouring, listing, its division, and the place of one contour.
 use crate::edge_coloring::code;
 use crate::wide;
+use coloring::settings::Division;
 use job::color;
 use job::listing;
 use job::listing::Listed;
@@ -9,14 +10,14 @@ use job::progress::Read;
 use job::reader;
 ghost use mathlib.Core.Path.{_≡_};
 ghost use Rattle.coloring.specs.Outline.{atEntry, atExit};
-ghost use Rattle.job.specs.Progress.{readAnswer};
+ghost use Rattle.job.specs.Progress.{readAnswer, answerOf};
 ghost use Rattle.job.specs.Reader.{jobAtEntry, jobAtExit, readInto};
 ghost use Rattle.job.specs.Color.{colorFile, checkFile, acceptJob};
 ghost use Rattle.job.specs.Listing.{listedAnswer, listFile};
 ghost use Rattle.job.specs.Part.{contourPlace};
 ghost use Rattle.capi.specs.Answers.{countCode, handedBuffer, handOutBuffer};
 ghost use Rattle.capi.specs.EdgeColoring.{coloredCode, handed, handOut};
-ghost use Rattle.capi.specs.JobFile.{readCode, numbersAfter, handedJob, handOutJob, placeCode};
+ghost use Rattle.capi.specs.JobFile.{readCode, numbersAfter, handedJob, handOutJob, balancedCode, placeCode};
 
 // 0, or 2^32 and the number of the refusal.
 fn read_code(answer: Read) -> u64
@@ -73,6 +74,29 @@ pub extern "C" fn merelsplum_job_check(file: &[u8]) -> u64
     code(color::check(file))
 }
 
+// 1 where the teardrops of a job are balanced, else 0; or 2^32 and the number of the refusal.
+fn balanced_code(answer: Read) -> u64
+    ensures { λ r. ⌜ r ≡ balancedCode (readAnswer answer) ⌝ }
+{
+    match answer {
+        Read::Job(n) => {
+            let division = n.division;
+            match division {
+                Division::Source => 0,
+                Division::Balanced => 1,
+            }
+        }
+        Read::Refused(refusal) => 4294967296 + wide(refusal.number()),
+    }
+}
+
+#[no_mangle]
+pub extern "C" fn merelsplum_job_balanced(file: &[u8]) -> u64
+    ensures { λ r. ⌜ r ≡ balancedCode (answerOf (acceptJob (now (file .entry)))) ⌝ }
+{
+    balanced_code(color::accept(file))
+}
+
 #[no_mangle]
 pub extern "C" fn merelsplum_job_color(
     file: &[u8],
@@ -106,7 +130,7 @@ pub extern "C" fn merelsplum_job_listing(file: &[u8], out: &mut [u8]) -> u64
 }
 
 // The place of a contour's first byte, and 2^32 times the number of its bytes; 0 for a refused file and for a number
-// too large. Nothing is cut off: an accepted file has at most 33,177 bytes.
+// too large. Nothing is cut off: an accepted file has at most 33,179 bytes.
 #[no_mangle]
 pub extern "C" fn merelsplum_job_contour_part(file: &[u8], contour: usize) -> u64
     ensures { λ r. ⌜ r ≡ placeCode (contourPlace (now (file .entry)) contour) ⌝ }

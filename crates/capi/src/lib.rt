@@ -1,4 +1,5 @@
 // The proved functions that a host calls, from C or Rust, over numbers and slices only. An answer is one number.
+pub mod balanced;
 pub mod by_distance;
 pub mod directions;
 pub mod edge_coloring;

@@ -1,24 +1,26 @@
 -- The source's own loops, written down literally, give what the definitions give: `source-loop` for the loop around a
 -- contour with two corners or more (`(start + i) % m`, on to the next spline at its corner; coloring/mod.rs and
 -- by_distance.rs), and `break-splits` for the collecting pass of a teardrop, whose second spline begins at m / 2.
-use Prim.Native.Nat.{ℕ, zero, suc, _+_, _-_, _*_, _/_, _%_, _≤_, _<_}
+use Prim.Native.Nat.{ℕ, zero, suc, _+_, _-_, _/_, _%_, _≤_, _<_}
 use mathlib.Core.Bool.{Bool, true, false, cond, _&&_}
 use mathlib.Core.Path.{_≡_, refl, sym, ap, _∙_}
 use mathlib.Core.List.{List, [], _∷_, _++_, map, map-append, append-assoc}
 use native.Mathlib.Nat.{mod-eq-of-lt, mod-eq-sub-mod, zero-add, add-zero}
 use native.Mathlib.Omega.{arith}
 use lib.Dec.{ltb, eqb}
-use lib.IntN.{pos, negsuc}
+use lib.IntN.{ℤ}
 use lib.ListN.{length, getD, set, take, drop, replicate, length-append, length-drop, length-replicate, take-append-drop}
 use lib.Seq.{drop-cons, set-at, length-take-le}
-use borrow.Author.Tests.{lt-ltb, le-ltb, ltb-true, ltb-false, eq-eqb, ne-eqb}
+use borrow.Author.Tests.{lt-ltb, le-ltb, eq-eqb, ne-eqb}
 use Rattle.coloring.specs.Lists.{range}
-use Rattle.coloring.specs.Trichotomy.{symmetricalTrichotomy}
+use Rattle.coloring.specs.declared.settings.Division.{Division}
+use Rattle.coloring.specs.Trichotomy.{thirdBy}
 use Rattle.coloring.specs.Corners.{cornersFrom, cornersOf, cornerCount}
 use Rattle.coloring.specs.Teardrop.{thirdOf, runs}
 use Rattle.coloring.specs.Splines.{spread, paint}
 use Rattle.coloring.specs.Values.{noSpline}
 use Rattle.coloring.specs.Sizes.{paint-spread}
+use Rattle.coloring.proofs.Thirds.{Third, in-first, in-middle, in-last, third}
 
 -- ---- the loop around a contour
 
@@ -227,42 +229,40 @@ module _ {A : Type 0} (middle : A) (values out : List A) where
       ∙ sym (spread-upTo final values n (true ∷ rest) ∙ ap (λ (l : List A). replicate n final ++ spread final l (true ∷ rest)) whole)
 
 -- the loop of a contour with two corners or more, whatever stood in its places before
-pub source-loop : {A : Type 0} (middle : A) (values out : List A) (flags : List Bool)
+pub source-loop : {A : Type 0} (division : Division) (middle : A) (values out : List A) (flags : List Bool)
     → 2 ≤ cornerCount flags → length values ≡ cornerCount flags → length out ≡ length flags
-    → sourceLoop (cornersOf flags) values middle (length flags) out ≡ paint middle values flags
+    → sourceLoop (cornersOf flags) values middle (length flags) out ≡ paint division middle values flags
 unfolding cornerCount cornersOf
-source-loop middle values out flags two v o =
+source-loop division middle values out flags two v o =
     let r = split-upTo 0 flags (omega arith) in
     let corners = cornersOf flags in
     let c : corners ≡ r .0 ∷ cornersFrom (suc (r .0)) (r .1) = ap (cornersFrom 0) (r .2) ∙ corners-upTo 0 (r .0) (r .1) ∙ rw zero-add in
     let loop = loop-upTo middle values out (r .0) (r .1) corners c v (o ∙ ap length (r .2)) in
-    (rw (← r .2) at loop) ∙ sym (paint-spread middle values flags (ne-eqb (cornerCount flags) 1 (λ e. omega arith)))
+    (rw (← r .2) at loop) ∙ sym (paint-spread division middle values flags (ne-eqb (cornerCount flags) 1 (λ e. omega arith)))
 
 -- ---- the break of a teardrop
 
 -- the collecting pass over the m edges of a teardrop from its corner on: a White edge has no spline; the second spline
 -- begins at m / 2
-unfoldable pub collectRuns : ℕ → ℕ → List ℕ
-collectRuns first m =
-    map (λ i. let spline = cond (ltb i (m / 2)) first (suc first) in thirdOf spline noSpline spline (symmetricalTrichotomy i m)) (range 0 m)
+unfoldable pub collectRuns : Division → ℕ → ℕ → List ℕ
+collectRuns division first m =
+    map (λ i. let spline = cond (ltb i (m / 2)) first (suc first) in thirdOf spline noSpline spline (thirdBy division i m)) (range 0 m)
 
 -- all of -1 stands before the break, and all of 1 after it
-pub break-splits : (first m : ℕ) → 3 ≤ m → collectRuns first m ≡ runs first noSpline (suc first) m
-unfolding collectRuns runs symmetricalTrichotomy
-break-splits first m h = each (range 0 m)
+pub break-splits : (division : Division) (first m : ℕ) → 3 ≤ m → collectRuns division first m ≡ runs division first noSpline (suc first) m
+unfolding collectRuns runs
+break-splits division first m h = each (range 0 m)
   where
     spline : ℕ → ℕ
     spline i = cond (ltb i (m / 2)) first (suc first)
 
-    by-tests : (i : ℕ) (a : Bool) → ltb (46 * i) (15 * (m - 1)) ≡ a → (b : Bool) → ltb (46 * i) (31 * (m - 1)) ≡ b
-        → let third = cond a (negsuc 0) (cond b (pos 0) (pos 1)) in
-        thirdOf (spline i) noSpline (spline i) third ≡ thirdOf first noSpline (suc first) third
-    by-tests i true e b f = let below : 46 * i < 15 * (m - 1) = ltb-true (46 * i) (15 * (m - 1)) e in rw (lt-ltb i (m / 2) (omega arith))
-    by-tests i false e true f = refl
-    by-tests i false e false f = let above : 31 * (m - 1) ≤ 46 * i = ltb-false (46 * i) (31 * (m - 1)) f in rw (le-ltb i (m / 2) (omega arith))
+    by-third : (i : ℕ) (t : ℤ) → Third i m t → thirdOf (spline i) noSpline (spline i) t ≡ thirdOf first noSpline (suc first) t
+    by-third i t (in-first below) = rw (lt-ltb i (m / 2) (omega arith))
+    by-third i t in-middle = refl
+    by-third i t (in-last after above) = rw (le-ltb i (m / 2) (omega arith))
 
     each : (places : List ℕ)
-        → map (λ i. thirdOf (spline i) noSpline (spline i) (symmetricalTrichotomy i m)) places
-        ≡ map (λ i. thirdOf first noSpline (suc first) (symmetricalTrichotomy i m)) places
+        → map (λ i. thirdOf (spline i) noSpline (spline i) (thirdBy division i m)) places
+        ≡ map (λ i. thirdOf first noSpline (suc first) (thirdBy division i m)) places
     each [] = refl
-    each (i ∷ places) = rw (by-tests i (ltb (46 * i) (15 * (m - 1))) refl (ltb (46 * i) (31 * (m - 1))) refl, each places)
+    each (i ∷ places) = rw (by-third i (thirdBy division i m) (third division i m), each places)

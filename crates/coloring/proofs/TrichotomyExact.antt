@@ -10,7 +10,7 @@ use native.Mathlib.Omega.{arith}
 use lib.Arith.{digits-div}
 use lib.Dec.{ltb}
 use lib.IntN.{pos, _+ℤ_}
-use borrow.Author.Tests.{ltb-true, ltb-false, lt-ltb, le-ltb}
+use borrow.Author.Tests.{ltb-true, ltb-false}
 use Rattle.coloring.specs.Trichotomy.{symmetricalTrichotomy}
 
 -- the source's terms, in its order, over 16 (n - 1)
@@ -38,10 +38,3 @@ trichotomy-exact n p h l = by-tests (ltb (46 * p) (15 * (n - 1))) refl (ltb (46 
     by-tests false e false f =
         let above : 31 * (n - 1) ≤ 46 * p = ltb-false (46 * p) (31 * (n - 1)) f in
         rw (e, f, quotient 4 (46 * p + 33 * (n - 1)) (n - 1) (omega arith) (omega arith))
-
--- The source's collecting pass begins a teardrop's second spline at m / 2. That place is in the middle run, so that the
--- outer runs are the two splines.
-pub break-in-the-middle : (m : ℕ) → 3 ≤ m → symmetricalTrichotomy (m / 2) m ≡ pos 0
-unfolding symmetricalTrichotomy
-break-in-the-middle m h =
-    rw (le-ltb (46 * (m / 2)) (15 * (m - 1)) (omega arith), lt-ltb (46 * (m / 2)) (31 * (m - 1)) (omega arith))

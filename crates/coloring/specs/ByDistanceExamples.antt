@@ -15,6 +15,7 @@ use Rattle.coloring.specs.PairOrder.{validDistance}
 use Rattle.coloring.specs.SplineColors.{offerSplines}
 use Rattle.coloring.specs.SplineColorsExamples.{squareDistances}
 use Rattle.coloring.specs.Corners.{cornerCount, firstCorner}
+use Rattle.coloring.specs.declared.settings.Division.the-variants.{Source}
 use Rattle.coloring.specs.declared.settings.Marking.the-variants.{Distances}
 use Rattle.coloring.specs.Splines.{paintContours}
 use Rattle.coloring.specs.Values.{splineColor, noSpline, middleValue}
@@ -38,12 +39,12 @@ abbrev twoContours : List (List Bool)
 twoContours = (true ∷ false ∷ false ∷ []) ∷ (false ∷ false ∷ []) ∷ []
 
 -- refutes one that numbers each contour from 0, or gives the White edge of a teardrop a spline
-pub numbers-go-on : paintContours {A = ℕ} noSpline (range 0 3) twoContours ≡ ((0 ∷ 255 ∷ 1 ∷ []) ∷ (2 ∷ 2 ∷ []) ∷ [])
+pub numbers-go-on : paintContours {A = ℕ} Source noSpline (range 0 3) twoContours ≡ ((0 ∷ 255 ∷ 1 ∷ []) ∷ (2 ∷ 2 ∷ []) ∷ [])
 unfolding paintContours cornerCount firstCorner range
 numbers-go-on = refl
 
 -- refutes one that colours the White edge
-pub white-stays : paintContours {A = ℕ} (middleValue (Distances 0)) (map (λ color. bitsOf (splineColor color)) (2 ∷ 1 ∷ 0 ∷ [])) twoContours
+pub white-stays : paintContours {A = ℕ} Source (middleValue (Distances 0)) (map (λ color. bitsOf (splineColor color)) (2 ∷ 1 ∷ 0 ∷ [])) twoContours
     ≡ ((5 ∷ 7 ∷ 6 ∷ []) ∷ (3 ∷ 3 ∷ []) ∷ [])
 unfolding paintContours cornerCount firstCorner
 white-stays = refl

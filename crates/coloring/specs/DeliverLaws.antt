@@ -5,7 +5,7 @@ use mathlib.Core.Bool.{true, false}
 use mathlib.Core.List.{List, [], _++_, map, append-assoc}
 use lib.Ieee.{Float}
 use Rattle.coloring.specs.declared.outline.Counts.{Counts}
-use Rattle.coloring.specs.declared.settings.Marking.{Marking}
+use Rattle.coloring.specs.declared.settings.Settings.{Settings}
 use Rattle.coloring.specs.Answers.{Answer, gives, refusal, Check, inOrder, allPass}
 use Rattle.coloring.specs.Answers.{firstRefusal, passed-on, failed-on, all-passed, one-failed, refused-first}
 use Rattle.coloring.specs.Corners.{Cornered, Found}
@@ -49,7 +49,7 @@ module _ (counts : Counts) (written old : Result) where
       go (refusal number) failed = ap (λ (o : Outcome). o .answer) (sym (deliver-failed checks failed)) ∙ sym (one-failed checks refusal (gives counts) failed)
 
 -- the same with the corners found
-module _ (marking : Marking) (distances : List Float) (found : Found) (old : Result) where
+module _ (settings : Settings) (distances : List Float) (found : Found) (old : Result) where
   abbrev laid : List Cornered
   laid = map layout (found .contours)
 
@@ -57,23 +57,23 @@ module _ (marking : Marking) (distances : List Float) (found : Found) (old : Res
   counts = countsOf laid (found .standIns)
 
   abbrev written : List ℕ → Result
-  written values = painted (middleValue marking) values laid
+  written values = painted (settings .division) (middleValue (settings .marking)) values laid
 
   -- the checks of the splines, which come last
   abbrev last : List Check
-  last = checkMarking marking (splineTotal laid) distances
+  last = checkMarking (settings .marking) (splineTotal laid) distances
 
   pub found-passed : (checks : List Check) → firstRefusal checks ≡ allPass
-      → deliverFound checks marking distances found old ≡ deliverFound [] marking distances found old
-  found-passed checks e = deliver-on counts (written (splineValues marking distances laid)) old checks last e
+      → deliverFound checks settings distances found old ≡ deliverFound [] settings distances found old
+  found-passed checks e = deliver-on counts (written (splineValues (settings .marking) distances laid)) old checks last e
 
   pub found-failed : (checks : List Check) {number : ℕ} → firstRefusal checks ≡ refusal number
-      → outcome (refusal number) old ≡ deliverFound checks marking distances found old
-  found-failed checks e = deliver-failed counts (written (splineValues marking distances laid)) old (checks ++ last) (refused-first checks last e)
+      → outcome (refusal number) old ≡ deliverFound checks settings distances found old
+  found-failed checks e = deliver-failed counts (written (splineValues (settings .marking) distances laid)) old (checks ++ last) (refused-first checks last e)
 
-  pub values-passed : {values : List ℕ} → firstRefusal last ≡ allPass → values ≡ splineValues marking distances laid
-      → deliverValues [] marking values laid (found .standIns) old ≡ deliverFound [] marking distances found old
+  pub values-passed : {values : List ℕ} → firstRefusal last ≡ allPass → values ≡ splineValues (settings .marking) distances laid
+      → deliverValues [] settings values laid (found .standIns) old ≡ deliverFound [] settings distances found old
   values-passed {values} e values-are = rw (← values-are) (sym (deliver-passed counts (written values) old last e))
 
-  pub values-failed : {number : ℕ} → firstRefusal last ≡ refusal number → outcome (refusal number) old ≡ deliverFound [] marking distances found old
-  values-failed e = deliver-failed counts (written (splineValues marking distances laid)) old last e
+  pub values-failed : {number : ℕ} → firstRefusal last ≡ refusal number → outcome (refusal number) old ≡ deliverFound [] settings distances found old
+  values-failed e = deliver-failed counts (written (splineValues (settings .marking) distances laid)) old last e

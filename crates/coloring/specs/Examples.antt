@@ -16,6 +16,7 @@ use Rattle.geometry.specs.declared.edge_color.EdgeColor.{EdgeColor}
 use Rattle.geometry.specs.declared.edge_color.EdgeColor.the-variants.{Yellow, Magenta, Cyan}
 use Rattle.geometry.specs.declared.edge_segment.EdgeSegment.{EdgeSegment}
 use Rattle.coloring.specs.Answers.{Answer, gives, refusal, allPass, firstRefusal}
+use Rattle.coloring.specs.declared.settings.Division.the-variants.{Source}
 use Rattle.coloring.specs.Trichotomy.{symmetricalTrichotomy}
 use Rattle.coloring.specs.Switching.{switchColor, switchColorBanned}
 use Rattle.coloring.specs.Corners.{cornerCount, firstCorner}
@@ -141,7 +142,7 @@ unused-ignored = refl
 -- ---- teardrops
 
 -- of a split contour each run has a third of the edges, as the source lists them
-pub split-runs : (runs {A = ℕ} 1 2 3 3 ≡ (1 ∷ 2 ∷ 3 ∷ [])) × (runs {A = ℕ} 1 2 3 6 ≡ (1 ∷ 1 ∷ 2 ∷ 2 ∷ 3 ∷ 3 ∷ []))
+pub split-runs : (runs {A = ℕ} Source 1 2 3 3 ≡ (1 ∷ 2 ∷ 3 ∷ [])) × (runs {A = ℕ} Source 1 2 3 6 ≡ (1 ∷ 1 ∷ 2 ∷ 2 ∷ 3 ∷ 3 ∷ []))
 unfolding runs
 split-runs = (refl, refl)
 
@@ -153,14 +154,14 @@ unfolding layout cornerCount firstCorner
 split-from-the-corner e f = refl
 
 -- refutes a teardrop that starts at the first edge: three edges, the corner at the second
-pub teardrop-from-the-corner : paint {A = ℕ} 9 (1 ∷ 2 ∷ []) (false ∷ true ∷ false ∷ []) ≡ (2 ∷ 1 ∷ 9 ∷ [])
+pub teardrop-from-the-corner : paint {A = ℕ} Source 9 (1 ∷ 2 ∷ []) (false ∷ true ∷ false ∷ []) ≡ (2 ∷ 1 ∷ 9 ∷ [])
 unfolding paint cornerCount firstCorner
 teardrop-from-the-corner = refl
 
 -- ---- splines
 
 -- refutes one that begins a spline at the first edge: what stands before the first corner belongs to the last spline
-pub spread-around : paint {A = ℕ} 9 (1 ∷ 2 ∷ []) (false ∷ true ∷ false ∷ true ∷ []) ≡ (2 ∷ 1 ∷ 1 ∷ 2 ∷ [])
+pub spread-around : paint {A = ℕ} Source 9 (1 ∷ 2 ∷ []) (false ∷ true ∷ false ∷ true ∷ []) ≡ (2 ∷ 1 ∷ 1 ∷ 2 ∷ [])
 unfolding paint cornerCount firstCorner
 spread-around = refl
 

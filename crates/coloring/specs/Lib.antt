@@ -41,4 +41,5 @@ pub mod Examples
 pub mod ByDistanceExamples
 pub mod DirectionExamples
 pub mod StandInExamples
+pub mod BalancedExamples
 pub mod TenExamples

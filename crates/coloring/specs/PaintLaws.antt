@@ -9,7 +9,8 @@ use lib.IntN.{ℤ, pos, negsuc}
 use lib.ListN.{length, take, drop, length-map, List·getD-map}
 use Rattle.coloring.specs.Lists.{range, map-take, map-drop}
 use Rattle.coloring.specs.Places.{byPlace}
-use Rattle.coloring.specs.Trichotomy.{symmetricalTrichotomy}
+use Rattle.coloring.specs.declared.settings.Division.{Division}
+use Rattle.coloring.specs.Trichotomy.{thirdBy}
 use Rattle.coloring.specs.Corners.{cornerCount, firstCorner}
 use Rattle.coloring.specs.Teardrop.{thirdOf, runs}
 use Rattle.coloring.specs.Splines.{splineCount, spread, paint, paintContours}
@@ -27,15 +28,15 @@ module _ {A B : Type 0} (f : A → B) where
   third-map first middle last (pos (suc n)) = refl
   third-map first middle last (negsuc n) = refl
 
-  each-third : (first middle last : A) (m : ℕ) (places : List ℕ)
-      → map f (map (λ i. thirdOf first middle last (symmetricalTrichotomy i m)) places)
-      ≡ map (λ i. thirdOf (f first) (f middle) (f last) (symmetricalTrichotomy i m)) places
-  each-third first middle last m [] = refl
-  each-third first middle last m (i ∷ places) = rw (third-map first middle last (symmetricalTrichotomy i m), each-third first middle last m places)
+  each-third : (division : Division) (first middle last : A) (m : ℕ) (places : List ℕ)
+      → map f (map (λ i. thirdOf first middle last (thirdBy division i m)) places)
+      ≡ map (λ i. thirdOf (f first) (f middle) (f last) (thirdBy division i m)) places
+  each-third division first middle last m [] = refl
+  each-third division first middle last m (i ∷ places) = rw (third-map first middle last (thirdBy division i m), each-third division first middle last m places)
 
-  runs-map : (first middle last : A) (m : ℕ) → map f (runs first middle last m) ≡ runs (f first) (f middle) (f last) m
+  runs-map : (division : Division) (first middle last : A) (m : ℕ) → map f (runs division first middle last m) ≡ runs division (f first) (f middle) (f last) m
   unfolding runs
-  runs-map first middle last m = each-third first middle last m (range 0 m)
+  runs-map division first middle last m = each-third division first middle last m (range 0 m)
 
   spread-map : (value : A) (values : List A) (flags : List Bool) → map f (spread value values flags) ≡ spread (f value) (map f values) flags
   unfolding spread
@@ -44,27 +45,37 @@ module _ {A B : Type 0} (f : A → B) where
   spread-map value [] (true ∷ flags) = ap (λ l. f value ∷ l) (spread-map value [] flags)
   spread-map value (next ∷ values) (true ∷ flags) = ap (λ l. f next ∷ l) (spread-map next values flags)
 
-  module _ (middle : A) (values : List A) (flags : List Bool) where
-    map-by-count : (b : Bool) → eqb (cornerCount flags) 1 ≡ b → map f (paint middle values flags) ≡ paint (f middle) (map f values) flags
+  module _ (division : Division) (middle : A) (values : List A) (flags : List Bool) where
+    map-by-count : (b : Bool) → eqb (cornerCount flags) 1 ≡ b → map f (paint division middle values flags) ≡ paint division (f middle) (map f values) flags
     map-by-count true e =
-        rw (paint-one middle values flags e, paint-one (f middle) (map f values) flags e, List·getD-map f values 0 middle, List·getD-map f values 1 middle)
+        rw (
+          paint-one division middle values flags e,
+          paint-one division (f middle) (map f values) flags e,
+          List·getD-map f values 0 middle,
+          List·getD-map f values 1 middle,
+        )
         (map-byPlace (firstCorner flags) _ ∙ rw runs-map)
     map-by-count false e =
         rw (
-          paint-spread middle values flags e,
-          paint-spread (f middle) (map f values) flags e,
+          paint-spread division middle values flags e,
+          paint-spread division (f middle) (map f values) flags e,
           length-map values f,
           List·getD-map f values (length values - 1) middle,
         )
         (spread-map _ values flags)
 
-    pub paint-map : map f (paint middle values flags) ≡ paint (f middle) (map f values) flags
+    pub paint-map : map f (paint division middle values flags) ≡ paint division (f middle) (map f values) flags
     paint-map = map-by-count (eqb (cornerCount flags) 1) refl
 
-  pub contours-map : (middle : A) (values : List A) (contours : List (List Bool))
-      → map (map f) (paintContours middle values contours) ≡ paintContours (f middle) (map f values) contours
+  pub contours-map : (division : Division) (middle : A) (values : List A) (contours : List (List Bool))
+      → map (map f) (paintContours division middle values contours) ≡ paintContours division (f middle) (map f values) contours
   unfolding paintContours
-  contours-map middle values [] = refl
-  contours-map middle values (flags ∷ rest) =
+  contours-map division middle values [] = refl
+  contours-map division middle values (flags ∷ rest) =
       let count = splineCount flags in
-      rw (paint-map middle (take count values) flags, contours-map middle (drop count values) rest, map-take f count values, map-drop f count values)
+      rw (
+        paint-map division middle (take count values) flags,
+        contours-map division middle (drop count values) rest,
+        map-take f count values,
+        map-drop f count values,
+      )

@@ -6,7 +6,8 @@ use mathlib.Core.List.{List, [], _++_, map}
 use lib.Ieee.{Float}
 use lib.ListN.{length}
 use Rattle.coloring.specs.Answers.{Check}
-use Rattle.coloring.specs.declared.settings.Marking.{Marking}
+use Rattle.coloring.specs.declared.settings.Division.{Division}
+use Rattle.coloring.specs.declared.settings.Settings.{Settings}
 use Rattle.coloring.specs.declared.outline.Counts.{Counts}
 use Rattle.coloring.specs.Limits.{maxResultEdges, maxShapeSplines}
 use Rattle.coloring.specs.Places.{total}
@@ -17,9 +18,9 @@ use Rattle.coloring.specs.Values.{splineValues, middleValue, checkMarkin
 use Rattle.coloring.specs.Outline.{cut, Result, Outcome, encode, deliver}
 
 -- what is written of laid out contours, with a value for each of their splines
-unfoldable pub painted : ℕ → List ℕ → List Cornered → Result
+unfoldable pub painted : Division → ℕ → List ℕ → List Cornered → Result
 unfolding encode paintContours
-painted middle values laid = encode (edgesIn laid) (paintContours middle values (flagsIn laid))
+painted division middle values laid = encode (edgesIn laid) (paintContours division middle values (flagsIn laid))
 
 -- of what is laid out, and the stand-ins of the outline
 unfoldable pub countsOf : List Cornered → ℕ → Counts
@@ -28,16 +29,17 @@ countsOf laid standIns =
     let written = encode (edgesIn laid) [] in
     record { contours = length (written .lengths); edges = length (written .kinds); splines = splineTotal laid; «stand_ins» = standIns }
 
-abbrev pub deliverValues : List Check → Marking → List ℕ → List Cornered → ℕ → Result → Outcome
-deliverValues checks marking values laid standIns old = deliver checks (countsOf laid standIns) (painted (middleValue marking) values laid) old
+abbrev pub deliverValues : List Check → Settings → List ℕ → List Cornered → ℕ → Result → Outcome
+deliverValues checks settings values laid standIns old =
+    deliver checks (countsOf laid standIns) (painted (settings .division) (middleValue (settings .marking)) values laid) old
 
 -- The outcome of an entry, once its checks are made and its corners found: the layout, and from there on the result
 -- alone. The splines are checked, each gets its value, and each edge that of its spline.
-abbrev pub deliverFound : List Check → Marking → List Float → Found → Result → Outcome
-deliverFound checks marking distances found old =
+abbrev pub deliverFound : List Check → Settings → List Float → Found → Result → Outcome
+deliverFound checks settings distances found old =
     let laid = map layout (found .contours) in
-    let last = checkMarking marking (splineTotal laid) distances in
-    deliverValues (checks ++ last) marking (splineValues marking distances laid) laid (found .standIns) old
+    let last = checkMarking (settings .marking) (splineTotal laid) distances in
+    deliverValues (checks ++ last) settings (splineValues (settings .marking) distances laid) laid (found .standIns) old
 
 -- ---- in the words of contracts
 

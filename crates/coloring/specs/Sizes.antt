@@ -18,6 +18,7 @@ use Rattle.coloring.specs.Lists.{range, length-range, lastOf}
 use Rattle.coloring.specs.Limits.{maxContours, maxEdges, maxResultEdges}
 use Rattle.coloring.specs.Places.{rotate, byPlace, total}
 use Rattle.coloring.specs.declared.directions.Ends.{Ends}
+use Rattle.coloring.specs.declared.settings.Division.{Division}
 use Rattle.coloring.specs.Corners.{cornerFlags, directionsOf, endsOf, endsIn, flagsAfter, flagsBetween, same-flags}
 use Rattle.coloring.specs.Corners.{Cornered, findCorners, edgesIn, flagsIn, cornerCount, firstCorner}
 use Rattle.coloring.specs.Layout.{thirds, splits, firstOnly, splitContour, layout, resultEdges}
@@ -142,9 +143,9 @@ module _ (contour : Cornered) where
 -- ---- what is painted
 
 module _ {A : Type 0} where
-  runs-length : (first middle last : A) (m : ℕ) → length (runs first middle last m) ≡ m
+  runs-length : (division : Division) (first middle last : A) (m : ℕ) → length (runs division first middle last m) ≡ m
   unfolding runs
-  runs-length first middle last m = length-map (range 0 m) _ ∙ length-range 0 m
+  runs-length division first middle last m = length-map (range 0 m) _ ∙ length-range 0 m
 
   pub spread-length : (value : A) (values : List A) (flags : List Bool) → length (spread value values flags) ≡ length flags
   unfolding spread
@@ -153,28 +154,29 @@ module _ {A : Type 0} where
   spread-length value [] (true ∷ flags) = ap suc (spread-length value [] flags)
   spread-length value (next ∷ values) (true ∷ flags) = ap suc (spread-length next values flags)
 
-  module _ (middle : A) (values : List A) (flags : List Bool) where
+  module _ (division : Division) (middle : A) (values : List A) (flags : List Bool) where
     pub paint-one : eqb (cornerCount flags) 1 ≡ true
-        → paint middle values flags ≡ byPlace (firstCorner flags) (runs (getD values 0 middle) middle (getD values 1 middle) (length flags))
+        → paint division middle values flags ≡ byPlace (firstCorner flags) (runs division (getD values 0 middle) middle (getD values 1 middle) (length flags))
     unfolding paint teardrop
     paint-one e = branch-true (eqb (cornerCount flags) 1) _ _ e
 
-    pub paint-spread : eqb (cornerCount flags) 1 ≡ false → paint middle values flags ≡ spread (getD values (length values - 1) middle) values flags
+    pub paint-spread : eqb (cornerCount flags) 1 ≡ false → paint division middle values flags ≡ spread (getD values (length values - 1) middle) values flags
     unfolding paint
     paint-spread e = branch-false (eqb (cornerCount flags) 1) _ _ e
 
-    by-count : (b : Bool) → eqb (cornerCount flags) 1 ≡ b → length (paint middle values flags) ≡ length flags
-    by-count true e = rw (paint-one e) (length-byPlace (firstCorner flags) _ ∙ runs-length _ middle _ (length flags))
+    by-count : (b : Bool) → eqb (cornerCount flags) 1 ≡ b → length (paint division middle values flags) ≡ length flags
+    by-count true e = rw (paint-one e) (length-byPlace (firstCorner flags) _ ∙ runs-length division _ middle _ (length flags))
     by-count false e = rw (paint-spread e) (spread-length _ values flags)
 
-    pub paint-length : length (paint middle values flags) ≡ length flags
+    pub paint-length : length (paint division middle values flags) ≡ length flags
     paint-length = by-count (eqb (cornerCount flags) 1) refl
 
-  pub paint-sizes : (middle : A) (values : List A) (contours : List (List Bool)) → sizes (paintContours middle values contours) ≡ sizes contours
+  pub paint-sizes : (division : Division) (middle : A) (values : List A) (contours : List (List Bool))
+      → sizes (paintContours division middle values contours) ≡ sizes contours
   unfolding paintContours
-  paint-sizes middle values [] = refl
-  paint-sizes middle values (flags ∷ rest) =
-      rw (paint-length middle (take (splineCount flags) values) flags, paint-sizes middle (drop (splineCount flags) values) rest)
+  paint-sizes division middle values [] = refl
+  paint-sizes division middle values (flags ∷ rest) =
+      rw (paint-length division middle (take (splineCount flags) values) flags, paint-sizes division middle (drop (splineCount flags) values) rest)
 
 -- ---- contours with their corners, contour by contour
 
@@ -272,16 +274,19 @@ encoded-sized edges bytes e =
 
 module _ (found : List Cornered) (f : Flagged found) where
   -- the byte of each edge, and the edges
-  pub painted-sizes : (middle : ℕ) (values : List ℕ) → sizes (paintContours middle values (flagsIn (map layout found))) ≡ sizes (edgesIn (map layout found))
-  painted-sizes middle values = paint-sizes middle values (flagsIn (map layout found)) ∙ flagged-sizes (map layout found) (laid-flagged found f)
+  pub painted-sizes : (division : Division) (middle : ℕ) (values : List ℕ)
+      → sizes (paintContours division middle values (flagsIn (map layout found))) ≡ sizes (edgesIn (map layout found))
+  painted-sizes division middle values =
+      paint-sizes division middle values (flagsIn (map layout found)) ∙ flagged-sizes (map layout found) (laid-flagged found f)
 
-  pub painted-sized : (middle : ℕ) (values : List ℕ) → Sized (painted middle values (map layout found)) (length found) (total (map resultEdges (flagsIn found)))
+  pub painted-sized : (division : Division) (middle : ℕ) (values : List ℕ)
+      → Sized (painted division middle values (map layout found)) (length found) (total (map resultEdges (flagsIn found)))
   unfolding painted
-  painted-sized middle values =
+  painted-sized division middle values =
       let laid = edgesIn (map layout found) in
       let contours : length laid ≡ length found = length-map (map layout found) _ ∙ length-map found layout in
       let edges : length (flatten laid) ≡ total (map resultEdges (flagsIn found)) = flatten-length laid ∙ ap total (laid-sizes found f) in
-      let s = encoded-sized laid (paintContours middle values (flagsIn (map layout found))) (painted-sizes middle values) in
+      let s = encoded-sized laid (paintContours division middle values (flagsIn (map layout found))) (painted-sizes division middle values) in
       record {
         lengths-long = s .lengths-long ∙ contours;
         kinds-long = s .kinds-long ∙ edges;

@@ -6,6 +6,7 @@ use mathlib.Core.Bool.{Bool, true, false, cond}
 use mathlib.Core.List.{List, [], _∷_, map}
 use lib.ListN.{length, getD, take, drop}
 use lib.Dec.{eqb, ltb}
+use Rattle.coloring.specs.declared.settings.Division.{Division}
 use Rattle.coloring.specs.Limits.{maxResultEdges}
 use Rattle.coloring.specs.Places.{total}
 use Rattle.coloring.specs.Corners.{Cornered, cornerCount, flagsIn}
@@ -32,21 +33,21 @@ spread value (next ∷ values) (true ∷ flags) = next ∷ spread next values fl
 
 -- The values of a contour's edges, by place, from those of its splines. What stands before the first corner belongs to
 -- the last spline.
-unfoldable pub paint : {A : Type 0} → A → List A → List Bool → List A
+unfoldable pub paint : {A : Type 0} → Division → A → List A → List Bool → List A
 unfolding teardrop spread
-paint middle values flags =
+paint division middle values flags =
     elim (eqb (cornerCount flags) 1) [
-      | true ↦ teardrop (getD values 0 middle) middle (getD values 1 middle) flags
+      | true ↦ teardrop division (getD values 0 middle) middle (getD values 1 middle) flags
       | false ↦ spread (getD values (length values - 1) middle) values flags
     ]
 
 -- the same for several contours, each with its own part of the values
-unfoldable pub paintContours : {A : Type 0} → A → List A → List (List Bool) → List (List A)
+unfoldable pub paintContours : {A : Type 0} → Division → A → List A → List (List Bool) → List (List A)
 unfolding splineCount paint
-paintContours middle values [] = []
-paintContours middle values (flags ∷ rest) =
+paintContours division middle values [] = []
+paintContours division middle values (flags ∷ rest) =
     let count = splineCount flags in
-    paint middle (take count values) flags ∷ paintContours middle (drop count values) rest
+    paint division middle (take count values) flags ∷ paintContours division middle (drop count values) rest
 
 -- where splines' values may be painted: one a spline, and a place for each edge
 pub record Paintable (flags : List Bool) (values out : List ℕ) : Type 0 where

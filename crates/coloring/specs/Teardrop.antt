@@ -6,7 +6,8 @@ use mathlib.Core.List.{List, map}
 use lib.IntN.{ℤ, pos, negsuc}
 use lib.ListN.{length}
 use Rattle.coloring.specs.Lists.{range}
-use Rattle.coloring.specs.Trichotomy.{symmetricalTrichotomy}
+use Rattle.coloring.specs.declared.settings.Division.{Division}
+use Rattle.coloring.specs.Trichotomy.{symmetricalTrichotomy, balanced, thirdBy}
 use Rattle.coloring.specs.Places.{byPlace}
 use Rattle.coloring.specs.Corners.{firstCorner}
 
@@ -15,11 +16,11 @@ thirdOf first middle last (pos zero) = middle
 thirdOf first middle last (pos (suc n)) = last
 thirdOf first middle last (negsuc n) = first
 
--- The runs of m edges. Of the 3 or 6 edges of a contour that was split they are a third each.
-unfoldable pub runs : {A : Type 0} → A → A → A → ℕ → List A
-unfolding range symmetricalTrichotomy
-runs first middle last m = map (λ i. thirdOf first middle last (symmetricalTrichotomy i m)) (range 0 m)
+-- The runs of m edges, by a division. Of the 3 or 6 edges of a contour that was split they are a third each.
+unfoldable pub runs : {A : Type 0} → Division → A → A → A → ℕ → List A
+unfolding range symmetricalTrichotomy balanced
+runs division first middle last m = map (λ i. thirdOf first middle last (thirdBy division i m)) (range 0 m)
 
-unfoldable pub teardrop : {A : Type 0} → A → A → A → List Bool → List A
+unfoldable pub teardrop : {A : Type 0} → Division → A → A → A → List Bool → List A
 unfolding byPlace runs
-teardrop first middle last flags = byPlace (firstCorner flags) (runs first middle last (length flags))
+teardrop division first middle last flags = byPlace (firstCorner flags) (runs division first middle last (length flags))

@@ -2,6 +2,7 @@
 // that numbers the splines.
 use crate::edge_coloring::edge_coloring;
 use crate::outline::Colored;
+use crate::settings::Division;
 use crate::settings::Marking;
 use crate::settings::Settings;
 ghost use mathlib.Core.Path.{_≡_};
@@ -25,6 +26,7 @@ pub fn collect_splines(
     let settings = Settings {
         marking: Marking::Numbers,
         threshold,
+        division: Division::Source,
     };
     edge_coloring(
         settings,
@@ -59,6 +61,7 @@ pub fn edge_coloring_by_distance(
     let settings = Settings {
         marking: Marking::Distances(seed),
         threshold,
+        division: Division::Source,
     };
     edge_coloring(
         settings,

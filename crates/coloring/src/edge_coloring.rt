@@ -1,5 +1,5 @@
-// Simple and ink-trap colouring of an outline, after `edge_coloring_simple` and `edge_coloring_ink_trap` of
-// coloring/mod.rs, and the one function behind every colouring.
+// The one function behind every colouring; simple and ink-trap colouring of an outline as the source has them, after
+// `edge_coloring_simple` and `edge_coloring_ink_trap` of coloring/mod.rs.
 use crate::corners::find_corners;
 use crate::limits::MAX_DISTANCES;
 use crate::limits::MAX_EDGES;
@@ -7,6 +7,7 @@ use crate::outline::Colored;
 use crate::outline::check;
 use crate::refusal::Checked;
 use crate::refusal::Refusal;
+use crate::settings::Division;
 use crate::settings::Marking;
 use crate::settings::Settings;
 use crate::settings::Strategy;
@@ -15,9 +16,9 @@ ghost use mathlib.Core.Path.{_≡_};
 ghost use Rattle.coloring.specs.Outline.{given, atEntry, atExit, coloredAnswer, outcome};
 ghost use Rattle.coloring.specs.EdgeColoring.{edgeColoring, edgeColoringSimple, edgeColoringInkTrap};
 
-// The checks; the corners and the stand-ins, once; then the values of the splines, the edges of the result and the byte
-// of each.
-pub(crate) fn edge_coloring(
+// The outline coloured, or its splines numbered, as the settings ask: the checks; the corners and the stand-ins, once;
+// then the values of the splines, the edges of the result and the byte of each.
+pub fn edge_coloring(
     settings: Settings,
     lengths: &[u16],
     kinds: &[u8],
@@ -74,6 +75,7 @@ pub fn edge_coloring_simple(
     let settings = Settings {
         marking: Marking::Colors(Strategy::Simple, seed),
         threshold,
+        division: Division::Source,
     };
     edge_coloring(
         settings,
@@ -106,6 +108,7 @@ pub fn edge_coloring_ink_trap(
     let settings = Settings {
         marking: Marking::Colors(Strategy::InkTrap, seed),
         threshold,
+        division: Division::Source,
     };
     edge_coloring(
         settings,

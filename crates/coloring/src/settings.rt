@@ -1,4 +1,4 @@
-// How the edges of an outline are marked: with what, and the threshold of a corner.
+// How the edges of an outline are marked: with what, the threshold of a corner, and how a teardrop is divided.
 
 // A colouring that goes round the contours with a pen.
 pub enum Strategy {
@@ -14,8 +14,17 @@ pub enum Marking {
     Distances(u64),
 }
 
-// What an entry asks for: what each edge is marked with, and the threshold of a corner.
+// How the edges of a contour with one corner are divided into three runs.
+pub enum Division {
+    // the source's rule, by which the last run can have an edge more than the first
+    Source,
+    // the first run and the last are equally long (record BL)
+    Balanced,
+}
+
+// What an entry asks for: what each edge is marked with, the threshold of a corner, and how a teardrop is divided.
 pub struct Settings {
     pub marking: Marking,
     pub threshold: f64,
+    pub division: Division,
 }

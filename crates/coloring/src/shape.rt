@@ -84,7 +84,7 @@ fn paint_shape(
     requires { ⌜ Cut (now lengths) (now kinds) (now points) (now flags) ⌝ }
     requires { ⌜ Counted (now lengths) (now flags) counts × (length (now values) ≡ counts .splines) ⌝ }
     ensures { λ r. ⌜ outcome (coloredAnswer r) (atExit «out_lengths» «out_kinds» «out_points» «out_colors»)
-        ≡ deliverValues [] (settings .marking) (now (values .entry))
+        ≡ deliverValues [] settings (now (values .entry))
         (map layout (cornered (now (lengths .entry)) (edgesOf (now (kinds .entry)) (now (points .entry))) (now (flags .entry))))
         (counts .«stand_ins»)
         (atEntry «out_lengths» «out_kinds» «out_points» «out_colors») ⌝ }
@@ -112,8 +112,10 @@ fn paint_shape(
         out_points,
         &mut out_flags,
     );
+    let division = settings.division;
     let marking = settings.marking;
     paint_contours(
+        division,
         &out_lengths[..contours],
         &out_flags[..edges],
         middle_value(marking),
@@ -140,7 +142,7 @@ pub(crate) fn color_shape(
 ) -> Colored
     requires { ⌜ Cut (now lengths) (now kinds) (now points) (now flags) ⌝ }
     ensures { λ r. ⌜ outcome (coloredAnswer r) (atExit «out_lengths» «out_kinds» «out_points» «out_colors»)
-        ≡ deliverFound [] (settings .marking) (now (distances .entry))
+        ≡ deliverFound [] settings (now (distances .entry))
         (foundIn (cornered (now (lengths .entry)) (edgesOf (now (kinds .entry)) (now (points .entry))) (now (flags .entry))) «stand_ins»)
         (atEntry «out_lengths» «out_kinds» «out_points» «out_colors») ⌝ }
 {

@@ -2,6 +2,7 @@
 // in one way.
 use crate::corners::count_corners;
 use crate::corners::first_corner;
+use crate::settings::Division;
 use crate::teardrop::paint_runs;
 ghost use mathlib.Core.Path.{_≡_};
 ghost use mathlib.Core.List.{_++_, map, flatten};
@@ -56,15 +57,22 @@ fn spread(flags: &[bool], values: &[u8], out: &mut [u8])
 }
 
 // The values of a contour's edges, from those of its splines.
-fn paint(flags: &[bool], middle: u8, values: &[u8], out: &mut [u8])
+fn paint(division: Division, flags: &[bool], middle: u8, values: &[u8], out: &mut [u8])
     requires { ⌜ Paintable (now flags) (now values) (now out) ⌝ }
-    ensures { λ _. ⌜ now (out .exit) ≡ paint middle (now (values .entry)) (now (flags .entry)) ⌝ }
+    ensures { λ _. ⌜ now (out .exit) ≡ paint division middle (now (values .entry)) (now (flags .entry)) ⌝ }
 {
     if flags.len() == 0 {
         return;
     }
     if count_corners(flags) == 1 {
-        paint_runs(first_corner(flags), values[0], middle, values[1], out);
+        paint_runs(
+            division,
+            first_corner(flags),
+            values[0],
+            middle,
+            values[1],
+            out,
+        );
         return;
     }
     spread(flags, values, out);
@@ -72,6 +80,7 @@ fn paint(flags: &[bool], middle: u8, values: &[u8], out: &mut [u8])
 
 // The contour of the edges from `at` up to `end`, from the values from place `from` up to `to`.
 fn paint_part(
+    division: Division,
     flags: &[bool],
     at: usize,
     end: usize,
@@ -84,9 +93,10 @@ fn paint_part(
     requires { ⌜ (at ≤ end) × (end ≤ length (now flags)) × (length (now flags) ≤ maxResultEdges) × (length (now out) ≡ length (now flags)) ⌝ }
     requires { ⌜ (to ≡ from + splineCount (take (end - at) (drop at (now flags)))) × (to ≤ length (now values)) ⌝ }
     ensures { λ _. ⌜ take end (now (out .exit)) ≡ take at (now (out .entry))
-        ++ paint middle (take (to - from) (drop from (now (values .entry)))) (take (end - at) (drop at (now (flags .entry)))) ⌝ }
+        ++ paint division middle (take (to - from) (drop from (now (values .entry)))) (take (end - at) (drop at (now (flags .entry)))) ⌝ }
 {
     paint(
+        division,
         &flags[at..end],
         middle,
         &values[from..to],
@@ -96,6 +106,7 @@ fn paint_part(
 
 // The values of all edges, contour by contour, each from its own part of the splines' values.
 pub(crate) fn paint_contours(
+    division: Division,
     lengths: &[u16],
     flags: &[bool],
     middle: u8,
@@ -104,7 +115,7 @@ pub(crate) fn paint_contours(
 )
     requires { ⌜ (total (now lengths) ≡ length (now flags)) × (length (now flags) ≤ maxResultEdges) × (length (now out) ≡ length (now flags)) ⌝ }
     requires { ⌜ length (now values) ≡ total (map splineCount (cut (now lengths) (now flags))) ⌝ }
-    ensures { λ _. ⌜ now (out .exit) ≡ flatten (paintContours middle (now (values .entry)) (cut (now (lengths .entry)) (now (flags .entry)))) ⌝ }
+    ensures { λ _. ⌜ now (out .exit) ≡ flatten (paintContours division middle (now (values .entry)) (cut (now (lengths .entry)) (now (flags .entry)))) ⌝ }
 {
     let mut at: usize = 0;
     let mut from: usize = 0;
@@ -112,7 +123,7 @@ pub(crate) fn paint_contours(
     while i < lengths.len() {
         let end = at + lengths[i] as usize;
         let to = from + part_splines(flags, at, end);
-        paint_part(flags, at, end, middle, values, from, to, out);
+        paint_part(division, flags, at, end, middle, values, from, to, out);
         at = end;
         from = to;
         i += 1; // the next contour begins where this one ends

@@ -1,4 +1,4 @@
--- Every accepted file has at most 33,177 bytes, and the first 34,000 bytes of any file decide how it is read, its
+-- Every accepted file has at most 33,179 bytes, and the first 34,000 bytes of any file decide how it is read, its
 -- colouring and the part of a contour.
 use mathlib.Core.Path.{_≡_, refl, sym, ap, _∙_}
 use mathlib.Core.Bool.{Bool, true, false}
@@ -17,11 +17,9 @@ use Rattle.coloring.specs.Answers.{gives, refusal, succeeds}
 use Rattle.job.specs.Limits.{maxFile, decidingBytes}
 use Rattle.job.specs.declared.records.Kind.{Kind}
 use Rattle.job.specs.declared.records.Mark.{Mark}
-use Rattle.job.specs.declared.records.Mark.the-variants.{Header, Contour, Edge, Distances, End}
+use Rattle.job.specs.declared.records.Mark.the-variants.{Header, Balanced, Contour, Edge, Distances, End}
 use Rattle.job.specs.declared.records.Marked.{Marked}
 use Rattle.job.specs.declared.records.Marked.the-variants.{Known, Unknown}
-use Rattle.job.specs.declared.records.Phase.{Phase}
-use Rattle.job.specs.declared.records.Phase.the-variants.{Start, Outside, Inside, Closing}
 use Rattle.job.specs.declared.records.State.{State}
 use Rattle.job.specs.declared.progress.Progress.{Progress}
 use Rattle.job.specs.Patterns.{number, words, floats, isThreshold, isCoordinate, isDistance}
@@ -35,7 +33,8 @@ use Rattle.job.specs.Listing.{readingText, fileText}
 use Rattle.job.specs.Progress.{begin, advanced}
 use Rattle.job.proofs.records.RecordLaws.{Allowed, controls-few}
 use Rattle.job.proofs.records.ReadingLaws.{taken, end-size, records-next, records-fault}
-use Rattle.job.proofs.progress.ProgressLaws.{besides, among-contours, at-start, in-contour, Reached, reached-begin, reached-next, further, bytes-few}
+use Rattle.job.proofs.progress.ProgressLaws.{besides-most, among-contours, at-start, in-contour, Reached, reached-begin}
+use Rattle.job.proofs.progress.ProgressLaws.{reached-next, further, bytes-few}
 use Rattle.job.proofs.part.PartLaws.{part-refused}
 
 -- a step with more bytes after it
@@ -118,6 +117,7 @@ module _ (more : List ℕ) where
   marked-more s (Known Header) bytes some many =
       unfold readBody in
       known-more s Header bytes (λ may. omega (arith, many (at-start (s .phase) may))) (λ may. header-more (take 17 bytes) (drop 17 bytes))
+  marked-more s (Known Balanced) bytes some many = unfold readBody in known-more s Balanced bytes (λ may. omega arith) (λ may. refl)
   marked-more s (Known Contour) bytes some many = unfold readBody in known-more s Contour bytes (λ may. omega arith) (λ may. refl)
   marked-more s (Known (Edge kind)) bytes some many =
       unfold readBody in
@@ -141,18 +141,12 @@ module _ (more : List ℕ) where
 
 -- ---- the records of a file that is longer
 
-besides-most : (phase : Phase) → (besides phase ≤ 16151) × (closing phase ≡ false → besides phase ≤ 19)
-besides-most Start = (omega arith, λ h. omega arith)
-besides-most Outside = (omega arith, λ h. omega arith)
-besides-most Inside = (omega arith, λ h. omega arith)
-besides-most Closing = (omega arith, λ h. let z : _≡_ {A = ℕ} 0 1 = cc in absurd (omega arith))
-
 module _ (short more : List ℕ) (long : length short ≡ decidingBytes) where
   abbrev file : List ℕ
   file = short ++ more
 
   -- a place that is reached lies well before the cut
-  before-cut : (p : Progress) → Reached file p → (p .at ≤ 33175) × (closing (p .state .phase) ≡ false → p .at ≤ 17043)
+  before-cut : (p : Progress) → Reached file p → (p .at ≤ 33177) × (closing (p .state .phase) ≡ false → p .at ≤ 17045)
   before-cut p at =
       let most = besides-most (p .state .phase) in
       (omega (arith, at .sized, most .0, at .contours-fit, at .edges-fit), λ h. omega (arith, at .sized, most .1 h, at .contours-fit, at .edges-fit))

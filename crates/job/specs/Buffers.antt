@@ -14,7 +14,7 @@ use Rattle.job.specs.declared.records.Kind.{Kind}
 use Rattle.job.specs.declared.records.Kind.the-variants.{Line, Quadratic, Cubic}
 use Rattle.job.specs.declared.records.Mark.the-variants as mark
 use Rattle.job.specs.declared.records.Item.{Item}
-use Rattle.job.specs.declared.records.Item.the-variants.{Header, Contour, Edge, Distances}
+use Rattle.job.specs.declared.records.Item.the-variants.{Header, Balanced, Contour, Edge, Distances}
 use Rattle.job.specs.Patterns.{words, floats}
 use Rattle.job.specs.Records.{controls, bodySize, edgeOf}
 use Rattle.job.specs.declared.progress.Numbers.{Numbers}
@@ -84,6 +84,7 @@ pointsRead kind body = toStored (edgeOf kind (floats (words (2 * controls kind) 
 unfoldable pub written : Item → Numbers → List ℕ → Buffers → Buffers
 unfolding pointsRead
 written (Header h) n bytes b = b
+written Balanced n bytes b = b
 written Contour n bytes b = record { lengths = set (b .lengths) (n .contours) 0; kinds = b .kinds; points = b .points; distances = b .distances }
 written (Edge kind) n bytes b = record {
   lengths = set (b .lengths) (n .contours - 1) (getD (b .lengths) (n .contours - 1) 0 + 1);
@@ -101,6 +102,7 @@ written (Distances count) n bytes b = record {
 -- there is room for a record
 abbrev pub RecordFits : Item → Numbers → List ℕ → Buffers → Type 0
 RecordFits (Header h) n bytes b = Unit
+RecordFits Balanced n bytes b = Unit
 RecordFits Contour n bytes b = n .contours < length (b .lengths)
 RecordFits (Edge kind) n bytes b =
     (0 < n .contours) × (n .contours ≤ length (b .lengths)) × (getD (b .lengths) (n .contours - 1) 0 < 65535)

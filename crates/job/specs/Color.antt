@@ -4,7 +4,6 @@ use mathlib.Core.Path.{_≡_}
 use mathlib.Core.Bool.{Bool}
 use mathlib.Core.List.{List, [], _∷_, map}
 use lib.Dec.{leb, eqb}
-use lib.Ieee.{Float}
 use lib.ListN.{length}
 use Rattle.geometry.specs.declared.edge_segment.EdgeSegment.{EdgeSegment}
 use Rattle.coloring.specs.Limits.{maxContours, maxEdges, maxResultEdges, maxSplines, maxDistances}
@@ -12,13 +11,14 @@ use Rattle.coloring.specs.declared.outline.Counts.{Counts}
 use Rattle.coloring.specs.declared.settings.Strategy.the-variants.{Simple, InkTrap}
 use Rattle.coloring.specs.declared.settings.Marking.{Marking}
 use Rattle.coloring.specs.declared.settings.Marking.the-variants.{Colors, Distances}
+use Rattle.coloring.specs.declared.settings.Settings.{Settings}
 use Rattle.coloring.specs.Corners.{Cornered, Found, findCorners, edgesIn, flagsIn}
 use Rattle.coloring.specs.Layout.{layout}
 use Rattle.coloring.specs.Splines.{splineTotal, paintContours}
 use Rattle.coloring.specs.Values.{splineValues, middleValue, checkMarking}
 use Rattle.coloring.specs.Outline.{Outline, Result, Outcome, outcome, encode, deliver}
 use Rattle.coloring.specs.Shape.{countsOf}
-use Rattle.coloring.specs.EdgeColoring.{edgeColoring, edgeColoringSimple, edgeColoringInkTrap, edgeColoringByDistance}
+use Rattle.coloring.specs.EdgeColoring.{settingsOf}
 use Rattle.coloring.specs.Answers.{Answer, gives, refusal, succeeds, Check, unless, inOrder}
 use Rattle.job.specs.declared.progress.Numbers as Numbers
 use Rattle.job.specs.declared.records.Strategy.{Strategy}
@@ -30,15 +30,15 @@ use Rattle.job.specs.Limits.{maxPlaces, maxResultPlaces}
 
 -- ---- a job
 
-abbrev pub byStrategy : {A : Type 0} → Strategy → A → A → A → A
-byStrategy strategy.Simple simple inkTrap distance = simple
-byStrategy strategy.InkTrap simple inkTrap distance = inkTrap
-byStrategy strategy.ByDistance simple inkTrap distance = distance
+-- how edges are marked by a strategy, with a seed
+abbrev pub markingBy : Strategy → ℕ → Marking
+markingBy strategy.Simple seed = Colors Simple seed
+markingBy strategy.InkTrap seed = Colors InkTrap seed
+markingBy strategy.ByDistance seed = Distances seed
 
 -- how its edges are marked
 abbrev pub markingOf : Job → Marking
-markingOf job =
-    byStrategy (job .header .strategy) (Colors Simple (job .header .seed)) (Colors InkTrap (job .header .seed)) (Distances (job .header .seed))
+markingOf job = markingBy (job .header .strategy) (job .header .seed)
 
 -- the corners and the stand-ins of its contours
 abbrev pub cornersIn : Job → Found
@@ -66,7 +66,8 @@ coloredEdges job = edgesIn (laidIn job)
 -- the colour of each of them, as a byte
 unfoldable pub edgeColors : Job → List (List ℕ)
 unfolding laidIn splineValues paintContours
-edgeColors job = paintContours (middleValue (markingOf job)) (splineValues (markingOf job) (job .distances) (laidIn job)) (flagsIn (laidIn job))
+edgeColors job =
+    paintContours (job .division) (middleValue (markingOf job)) (splineValues (markingOf job) (job .distances) (laidIn job)) (flagsIn (laidIn job))
 
 -- the coloured shape as it is stored
 unfoldable pub colored : Job → Result
@@ -118,14 +119,9 @@ accepted file = succeeds (acceptJob file)
 abbrev pub outlineOf : Buffers → Outline
 outlineOf b = record { lengths = b .lengths; kinds = b .kinds; points = b .points }
 
--- the colouring of buffers by a strategy
-unfoldable pub colorStored : Strategy → ℕ → Float → Buffers → Result → Outcome
-unfolding edgeColoring
-colorStored by seed threshold b old =
-    byStrategy by
-    (edgeColoringSimple (outlineOf b) threshold seed old)
-    (edgeColoringInkTrap (outlineOf b) threshold seed old)
-    (edgeColoringByDistance (outlineOf b) threshold seed (b .distances) old)
+-- what a job with these numbers asks of the colouring of its outline
+abbrev pub jobSettings : Numbers.Numbers → Settings
+jobSettings n = settingsOf (n .division) (markingBy (n .header .strategy) (n .header .seed)) (thresholdOf (n .header))
 
 -- what was counted, where it has few enough splines and a distance for each pair of them
 unfoldable pub paired : Answer Counts → ℕ → Answer Counts

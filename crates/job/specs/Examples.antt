@@ -4,13 +4,16 @@ use Prim.Native.Nat.{ℕ}
 use mathlib.Core.Path.{_≡_, refl}
 use mathlib.Core.Bool.{true, false}
 use mathlib.Core.List.{List, [], _∷_, _++_}
+use lib.ListN.{take, drop, replicate}
 use lib.Ieee as Ieee
-use lib.Ieee.{ofBits, toBits}
+use lib.Ieee.{Float, ofBits, toBits}
 use Rattle.math.specs.Scalar.{f0, f1}
 use Rattle.math.specs.Sqrt.{sqrtOf}
-use Rattle.math.specs.Vector2.{new, sub, divScalar, dot, cross, squaredLength, lengthOf, normalize}
-use Rattle.geometry.specs.EdgeSegment.{direction, toStored}
-use Rattle.geometry.specs.declared.edge_segment.EdgeSegment.the-variants.{Line}
+use Rattle.math.specs.Vector2.{new, add, sub, mulScalar, divScalar, dot, cross, squaredLength, lengthOf, isNonzero, normalize}
+use Rattle.geometry.specs.EdgeSegment.{vmix, quadraticTangent, quadraticDirection, direction, toStored}
+use Rattle.geometry.specs.declared.edge_segment.EdgeSegment.the-variants.{Line, Quadratic}
+use Rattle.coloring.specs.declared.settings.Division.{Division}
+use Rattle.coloring.specs.declared.settings.Division.the-variants.{Source, Balanced}
 use Rattle.coloring.specs.Corners.{findCorners, cornerCount, firstCorner}
 use Rattle.coloring.specs.Outline.{Result, result, outcome}
 use Rattle.coloring.specs.Answers.{gives, refusal}
@@ -20,9 +23,10 @@ use Rattle.job.specs.declared.records.Strategy.the-variants.{Simple, Ink
 use Rattle.job.specs.declared.records.Header.{Header}
 use Rattle.job.specs.Job.{Job, readJob, fileOf}
 use Rattle.job.specs.Part.{contourPart}
-use Rattle.job.specs.Color.{colorFile, checkFile, acceptJob, accepted}
+use Rattle.job.specs.Color.{edgeColors, colorFile, checkFile, acceptJob, accepted}
 use Rattle.coloring.specs.PairOrder.{validDistance}
 use Rattle.coloring.specs.SplineColors.{offerSplines}
+use Rattle.coloring.specs.SplineTable.{offer}
 use Rattle.job.specs.Listing.{decimal, wordLine, listing, refusalLine, fileText, listFile}
 
 -- ---- files in bytes
@@ -43,6 +47,9 @@ noNumber = 0 ∷ 0 ∷ 0 ∷ 0 ∷ 0 ∷ 0 ∷ 0xF8 ∷ 0x7F ∷ []
 -- the marks before what follows them
 abbrev JB : List ℕ → List ℕ
 JB rest = 0x4A ∷ 0x42 ∷ rest
+
+abbrev BL : List ℕ → List ℕ
+BL rest = 0x42 ∷ 0x4C ∷ rest
 
 abbrev CT : List ℕ → List ℕ
 CT rest = 0x43 ∷ 0x54 ∷ rest
@@ -79,6 +86,7 @@ headerOf by = record { strategy = by; seed = 0; threshold = 0x3FC0_0000_0000_000
 abbrev pub squareJob : Job
 squareJob = record {
   header = headerOf Simple;
+  division = Source;
   contours = (Line (new f0 f0) (new f1 f0) ∷ Line (new f1 f0) (new f1 f1) ∷ Line (new f1 f1) (new f0 f1) ∷ Line (new f0 f1) (new f0 f0) ∷ []) ∷ [];
   distances = [];
 }
@@ -88,18 +96,19 @@ unfolding readJob ofBits
 square-read = refl
 
 -- a job without contours
-pub no-contours : readJob (opening 1 (EN [])) ≡ gives (record { header = headerOf Simple; contours = []; distances = [] })
+pub no-contours : readJob (opening 1 (EN [])) ≡ gives (record { header = headerOf Simple; division = Source; contours = []; distances = [] })
 unfolding readJob ofBits
 no-contours = refl
 
 -- the same by distance: DS stands there with the count 0
-pub no-distances : readJob (opening 3 (DS (0 ∷ 0 ∷ EN []))) ≡ gives (record { header = headerOf ByDistance; contours = []; distances = [] })
+pub no-distances : readJob (opening 3 (DS (0 ∷ 0 ∷ EN []))) ≡ gives
+    (record { header = headerOf ByDistance; division = Source; contours = []; distances = [] })
 unfolding readJob ofBits
 no-distances = refl
 
 -- two contours, the first empty; an edge goes to the last
 pub empty-contour : readJob (opening 2 (CT (CT (lineRecord zeros zeros one one (EN []))))) ≡ gives
-    (record { header = headerOf InkTrap; contours = [] ∷ (Line (new f0 f0) (new f1 f1) ∷ []) ∷ []; distances = [] })
+    (record { header = headerOf InkTrap; division = Source; contours = [] ∷ (Line (new f0 f0) (new f1 f1) ∷ []) ∷ []; distances = [] })
 unfolding readJob ofBits
 empty-contour = refl
 
@@ -175,6 +184,41 @@ pub coordinate : readJob (opening 1 (CT (lineRecord zeros zeros noNumber zeros [
 unfolding readJob
 coordinate = refl
 
+-- ---- BL
+
+-- the square's file and job with balanced teardrops
+abbrev balancedFile : List ℕ
+balancedFile = opening 1 (BL (squareContour (EN [])))
+
+abbrev balancedJob : Job
+balancedJob = record { header = squareJob .header; division = Balanced; contours = squareJob .contours; distances = squareJob .distances }
+
+-- refutes one that passes over BL
+pub balanced-read : readJob balancedFile ≡ gives balancedJob
+unfolding readJob ofBits
+balanced-read = refl
+
+-- refutes one that knows BL in jobs without distances only
+pub balanced-by-distance :
+    readJob (opening 3 (BL (DS (0 ∷ 0 ∷ EN [])))) ≡ gives (record { header = headerOf ByDistance; division = Balanced; contours = []; distances = [] })
+unfolding readJob ofBits
+balanced-by-distance = refl
+
+-- a second time, before JB, in a contour, after an edge, after DS: refutes one that takes BL anywhere
+pub balanced-misplaced :
+    (readJob (opening 1 (BL (BL (EN [])))) ≡ refusal 3)
+    × (readJob (BL (opening 1 (EN []))) ≡ refusal 3)
+    × (readJob (opening 1 (CT (BL (EN [])))) ≡ refusal 3)
+    × (readJob (opening 1 (CT (lineRecord zeros zeros one one (BL (EN []))))) ≡ refusal 3)
+    × (readJob (opening 3 (DS (0 ∷ 0 ∷ BL (EN [])))) ≡ refusal 3)
+unfolding readJob ofBits
+balanced-misplaced = (refl, refl, refl, refl, refl)
+
+-- BX, and a file that ends after the B: refutes one that looks at the first letter alone
+pub nearly-balanced : (readJob (opening 1 (0x42 ∷ 0x58 ∷ EN [])) ≡ refusal 2) × (readJob (opening 1 (0x42 ∷ [])) ≡ refusal 1)
+unfolding readJob ofBits
+nearly-balanced = (refl, refl)
+
 -- ---- DS
 
 pub misplaced-before-count : readJob (opening 1 (DS [])) ≡ refusal 3
@@ -215,11 +259,21 @@ pub square-again : fileOf squareJob ≡ squareFile
 unfolding fileOf toBits ofBits
 square-again = refl
 
+-- BL stands at byte 19: refutes a writer that drops it, or puts it before EN
+pub balanced-again : (fileOf balancedJob ≡ balancedFile) × (take 2 (drop 19 (fileOf balancedJob)) ≡ BL [])
+unfolding fileOf toBits ofBits
+balanced-again = (refl, refl)
+
 -- ---- the part of one contour
 
 pub square-part : contourPart squareFile 0 ≡ squareContour []
 unfolding contourPart ofBits
 square-part = refl
+
+-- refutes one that counts from JB on without BL
+pub balanced-part : contourPart balancedFile 0 ≡ squareContour []
+unfolding contourPart ofBits
+balanced-part = refl
 
 -- up to the next CT, up to EN and up to DS
 abbrev twoContours : List ℕ
@@ -280,6 +334,34 @@ pub square-checked : checkFile squareFile ≡ gives (record { contours = 1; edge
 unfolding checkFile ofBits findCorners cornerCount firstCorner direction sub dot cross divScalar squaredLength lengthOf normalize sqrtOf
     Ieee.add Ieee.sub Ieee.mul Ieee.div Ieee.ne Ieee.le Ieee.lt
 square-checked = refl
+
+-- ---- the colours of a teardrop
+
+-- 46 times the line (0, 0) to (1, 0), and a quadratic that ends straight up: one corner, at the first edge
+abbrev dropJob : Strategy → Division → List Float → Job
+dropJob by division distances = record {
+  header = headerOf by;
+  division = division;
+  contours = (replicate 46 (Line (new f0 f0) (new f1 f0)) ++ (Quadratic (new f0 f0) (new f1 f0) (new f1 f1) ∷ [])) ∷ [];
+  distances = distances;
+}
+
+-- 15 edges of a, then so many White ones and so many of b
+abbrev inRuns : ℕ → ℕ → ℕ → ℕ → List (List ℕ)
+inRuns a middle b last = (replicate 15 a ++ (replicate middle 7 ++ replicate last b)) ∷ []
+
+-- refutes one that leaves the division aside, in every strategy or in one of them
+pub drop-colored :
+    (edgeColors (dropJob Simple Source []) ≡ inRuns 5 16 3 16)
+    × (edgeColors (dropJob Simple Balanced []) ≡ inRuns 5 17 3 15)
+    × (edgeColors (dropJob InkTrap Source []) ≡ inRuns 5 16 3 16)
+    × (edgeColors (dropJob InkTrap Balanced []) ≡ inRuns 5 17 3 15)
+    × (edgeColors (dropJob ByDistance Source (f0 ∷ [])) ≡ inRuns 3 16 6 16)
+    × (edgeColors (dropJob ByDistance Balanced (f0 ∷ [])) ≡ inRuns 3 17 6 15)
+unfolding edgeColors ofBits findCorners cornerCount firstCorner offerSplines offer validDistance vmix quadraticTangent quadraticDirection direction add sub
+    mulScalar divScalar isNonzero dot cross squaredLength lengthOf normalize sqrtOf Ieee.add Ieee.sub Ieee.mul Ieee.div Ieee.neg Ieee.ne Ieee.le Ieee.lt
+    Ieee.eq
+drop-colored = (refl, refl, refl, refl, refl, refl)
 
 -- ---- the text of an answer
 

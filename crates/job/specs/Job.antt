@@ -7,19 +7,22 @@ use lib.Ieee.{Float, binary64, fits, ofBits}
 use Rattle.geometry.specs.declared.edge_segment.EdgeSegment.{EdgeSegment}
 use Rattle.coloring.specs.Answers.{Answer, gives, refusal}
 use Rattle.coloring.specs.Lists.{all}
+use Rattle.coloring.specs.declared.settings.Division.{Division}
+use Rattle.coloring.specs.declared.settings.Division.the-variants.{Source, Balanced}
 use Rattle.job.specs.declared.records.Mark.the-variants.{End}
 use Rattle.job.specs.declared.records.Header.{Header}
-use Rattle.job.specs.Records.{noHeader, byDistance, marked, bytesOf, coordinates, Record, header, contour, edge, distances, Records, complete}
-use Rattle.job.specs.Records.{fault, _then_, start, recordsFrom}
+use Rattle.job.specs.Records.{noHeader, byDistance, marked, bytesOf, coordinates, Record, header, balanced, contour, edge, distances}
+use Rattle.job.specs.Records.{Records, complete, fault, _then_, start, recordsFrom}
 
 pub record Job : Type 0 where
   pub header : Header
+  pub division : Division
   pub contours : List (List EdgeSegment)
   pub distances : List Float
 
 -- what a file begins with
 abbrev pub noJob : Job
-noJob = record { header = noHeader; contours = []; distances = [] }
+noJob = record { header = noHeader; division = Source; contours = []; distances = [] }
 
 -- the threshold of a header, which holds its bit pattern
 abbrev pub thresholdOf : Header → Float
@@ -34,10 +37,11 @@ withEdge (c ∷ d ∷ contours) e = c ∷ withEdge (d ∷ contours) e
 -- a job with a record more
 unfoldable pub withRecord : Job → Record → Job
 unfolding withEdge
-withRecord job (header h) = record { header = h; contours = job .contours; distances = job .distances }
-withRecord job contour = record { header = job .header; contours = job .contours ++ ([] ∷ []); distances = job .distances }
-withRecord job (edge e) = record { header = job .header; contours = withEdge (job .contours) e; distances = job .distances }
-withRecord job (distances ds) = record { header = job .header; contours = job .contours; distances = ds }
+withRecord job (header h) = record { header = h; division = job .division; contours = job .contours; distances = job .distances }
+withRecord job balanced = record { header = job .header; division = Balanced; contours = job .contours; distances = job .distances }
+withRecord job contour = record { header = job .header; division = job .division; contours = job .contours ++ ([] ∷ []); distances = job .distances }
+withRecord job (edge e) = record { header = job .header; division = job .division; contours = withEdge (job .contours) e; distances = job .distances }
+withRecord job (distances ds) = record { header = job .header; division = job .division; contours = job .contours; distances = ds }
 
 -- what reading a file gives: its job, or the number of its first refusal
 abbrev pub Reading : Type 0
@@ -59,14 +63,20 @@ readJob file = jobFrom noJob (recordsFrom start file)
 abbrev pub contourRecords : List EdgeSegment → List Record
 contourRecords edges = contour ∷ map edge edges
 
-unfoldable pub outlineRecords : Header → List (List EdgeSegment) → List Record
+-- BL where the division is balanced
+abbrev pub divisionRecords : Division → List Record
+divisionRecords Source = []
+divisionRecords Balanced = balanced ∷ []
+
+unfoldable pub outlineRecords : Header → Division → List (List EdgeSegment) → List Record
 unfolding flatten
-outlineRecords h contours = header h ∷ flatten (map contourRecords contours)
+outlineRecords h division contours = header h ∷ (divisionRecords division ++ flatten (map contourRecords contours))
 
 -- DS for strategy 3 only
 unfoldable pub recordsOf : Job → List Record
 unfolding outlineRecords
-recordsOf job = outlineRecords (job .header) (job .contours) ++ cond (byDistance (job .header .strategy)) (distances (job .distances) ∷ []) []
+recordsOf job =
+    outlineRecords (job .header) (job .division) (job .contours) ++ cond (byDistance (job .header .strategy)) (distances (job .distances) ∷ []) []
 
 unfoldable pub recordBytes : List Record → List ℕ
 unfolding bytesOf

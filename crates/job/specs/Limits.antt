@@ -8,9 +8,9 @@ maxPlaces = 2048
 abbrev pub maxResultPlaces : ℕ
 maxResultPlaces = 4064
 
--- bytes of an accepted file: 19 + 64 · 2 + 256 · 66 + 4 + 2,016 · 8 + 2
+-- bytes of an accepted file: 19 + 2 + 64 · 2 + 256 · 66 + 4 + 2,016 · 8 + 2
 abbrev pub maxFile : ℕ
-maxFile = 33177
+maxFile = 33179
 
 -- the first bytes of a file that decide how it is read, and a few to spare
 abbrev pub decidingBytes : ℕ

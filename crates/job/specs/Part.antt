@@ -6,7 +6,7 @@ use lib.Dec.{ltb}
 use lib.ListN.{length, take, drop, getD}
 use Rattle.coloring.specs.Answers.{gives, refusal}
 use Rattle.job.specs.declared.records.Item.{Item}
-use Rattle.job.specs.declared.records.Item.the-variants.{Header, Contour, Edge, Distances}
+use Rattle.job.specs.declared.records.Item.the-variants.{Header, Balanced, Contour, Edge, Distances}
 use Rattle.job.specs.declared.part.Span.{Span}
 use Rattle.job.specs.declared.part.Seek.{Seek}
 use Rattle.job.specs.declared.part.Seek.the-variants.{Passing, Open, Done}
@@ -16,11 +16,11 @@ use Rattle.job.specs.Color.{acceptJob}
 abbrev pub nowhere : Span
 nowhere = record { start = 0; end = 0 }
 
--- the records of a contour stand after those of JB and of the contours before it
+-- the records of a contour stand after those of JB, of BL and of the contours before it
 unfoldable pub spanIn : Job → ℕ → Span
 unfolding outlineRecords recordBytes
 spanIn job number =
-    let start = length (recordBytes (outlineRecords (job .header) (take number (job .contours)))) in
+    let start = length (recordBytes (outlineRecords (job .header) (job .division) (take number (job .contours)))) in
     record { start = start; end = start + length (recordBytes (contourRecords (getD (job .contours) number []))) }
 
 abbrev pub placeIn : Reading → ℕ → Span
@@ -46,10 +46,12 @@ unfoldable pub sought : Seek → ℕ → Item → Seek
 sought (Passing zero) at Contour = Open at
 sought (Passing (suc left)) at Contour = Passing left
 sought (Passing left) at (Header h) = Passing left
+sought (Passing left) at Balanced = Passing left
 sought (Passing left) at (Edge kind) = Passing left
 sought (Passing left) at (Distances count) = Passing left
 sought (Open from) at (Edge kind) = Open from
 sought (Open from) at (Header h) = Done (record { start = from; end = at })
+sought (Open from) at Balanced = Done (record { start = from; end = at })
 sought (Open from) at Contour = Done (record { start = from; end = at })
 sought (Open from) at (Distances count) = Done (record { start = from; end = at })
 sought (Done span) at item = Done span

@@ -21,6 +21,7 @@ edgeCount contours = length (flatten contours)
 abbrev pub numbersOf : Job → Numbers
 numbersOf job = record {
   header = job .header;
+  division = job .division;
   contours = length (job .contours);
   edges = edgeCount (job .contours);
   distances = length (job .distances);

@@ -11,17 +11,18 @@ use Rattle.geometry.specs.declared.edge_segment.EdgeSegment.the-variants as seg
 use Rattle.coloring.specs.Refusal.{refusalNumber}
 use Rattle.coloring.specs.Lists.{all}
 use Rattle.coloring.specs.Limits.{maxContours, maxEdges, maxDistances}
+use Rattle.coloring.specs.declared.settings.Division.the-variants as division
 use Rattle.job.specs.declared.records.Strategy.{Strategy}
 use Rattle.job.specs.declared.records.Strategy.the-variants.{Simple, InkTrap, ByDistance}
 use Rattle.job.specs.declared.records.Header as fields
 use Rattle.job.specs.declared.records.Kind.{Kind}
 use Rattle.job.specs.declared.records.Kind.the-variants.{Line, Quadratic, Cubic}
 use Rattle.job.specs.declared.records.Mark.{Mark}
-use Rattle.job.specs.declared.records.Mark.the-variants.{Header, Contour, Edge, Distances, End}
+use Rattle.job.specs.declared.records.Mark.the-variants.{Header, Balanced, Contour, Edge, Distances, End}
 use Rattle.job.specs.declared.records.Marked.{Marked}
 use Rattle.job.specs.declared.records.Marked.the-variants.{Known, Unknown}
 use Rattle.job.specs.declared.records.Phase.{Phase}
-use Rattle.job.specs.declared.records.Phase.the-variants.{Start, Outside, Inside, Closing}
+use Rattle.job.specs.declared.records.Phase.the-variants.{Start, Headed, Outside, Inside, Closing}
 use Rattle.job.specs.declared.records.State.{State}
 use Rattle.job.specs.declared.progress.Numbers.{Numbers}
 use Rattle.job.specs.declared.records.Item.{Item}
@@ -32,9 +33,10 @@ use Rattle.job.specs.Patterns.{number, little, words, floats, floatBytes
 
 -- ---- marks
 
--- JB, CT, LN, QD, CB, DS, EN
+-- JB, BL, CT, LN, QD, CB, DS, EN
 abbrev pub letters : Mark → ℕ × ℕ
 letters Header = (0x4A, 0x42)
+letters Balanced = (0x42, 0x4C)
 letters Contour = (0x43, 0x54)
 letters (Edge Line) = (0x4C, 0x4E)
 letters (Edge Quadratic) = (0x51, 0x44)
@@ -43,7 +45,7 @@ letters Distances = (0x44, 0x53)
 letters End = (0x45, 0x4E)
 
 abbrev pub marks : List Mark
-marks = Header ∷ Contour ∷ Edge Line ∷ Edge Quadratic ∷ Edge Cubic ∷ Distances ∷ End ∷ []
+marks = Header ∷ Balanced ∷ Contour ∷ Edge Line ∷ Edge Quadratic ∷ Edge Cubic ∷ Distances ∷ End ∷ []
 
 -- the mark of these that has the two letters
 unfoldable pub markAmong : List Mark → ℕ → ℕ → Marked
@@ -67,6 +69,7 @@ headerSize = 17
 -- how many bytes follow the mark; of DS, the count's
 abbrev pub bodySize : Mark → ℕ
 bodySize Header = headerSize
+bodySize Balanced = 0
 bodySize Contour = 0
 bodySize (Edge kind) = 16 * controls kind
 bodySize Distances = 2
@@ -99,17 +102,27 @@ abbrev pub noHeader : fields.Header
 noHeader = record { strategy = Simple; seed = 0; threshold = 0 }
 
 abbrev pub start : State
-start = record { phase = Start; numbers = record { header = noHeader; contours = 0; edges = 0; distances = 0 } }
+start = record { phase = Start; numbers = record { header = noHeader; division = division.Source; contours = 0; edges = 0; distances = 0 } }
 
 abbrev pub atStart : Phase → Bool
 atStart Start = true
+atStart Headed = false
 atStart Outside = false
 atStart Inside = false
 atStart Closing = false
 
+-- directly after JB
+abbrev pub headed : Phase → Bool
+headed Start = false
+headed Headed = true
+headed Outside = false
+headed Inside = false
+headed Closing = false
+
 -- in a contour
 abbrev pub inside : Phase → Bool
 inside Start = false
+inside Headed = false
 inside Outside = false
 inside Inside = true
 inside Closing = false
@@ -117,6 +130,7 @@ inside Closing = false
 -- among the contours: after JB, before DS
 abbrev pub among : Phase → Bool
 among Start = false
+among Headed = true
 among Outside = true
 among Inside = true
 among Closing = false
@@ -124,12 +138,14 @@ among Closing = false
 -- after DS
 abbrev pub closing : Phase → Bool
 closing Start = false
+closing Headed = false
 closing Outside = false
 closing Inside = false
 closing Closing = true
 
 abbrev pub allowed : Phase → Strategy → Mark → Bool
 allowed phase strategy Header = atStart phase
+allowed phase strategy Balanced = headed phase
 allowed phase strategy Contour = among phase
 allowed phase strategy (Edge kind) = inside phase
 allowed phase strategy Distances = among phase && byDistance strategy
@@ -138,6 +154,7 @@ allowed phase strategy End = closing phase || among phase && not (byDistance str
 -- whether one more is within the maximum; distances are counted in their record
 abbrev pub belowMaximum : Numbers → Mark → Bool
 belowMaximum n Header = true
+belowMaximum n Balanced = true
 belowMaximum n Contour = ltb (n .contours) maxContours
 belowMaximum n (Edge kind) = ltb (n .edges) maxEdges
 belowMaximum n Distances = true
@@ -147,6 +164,7 @@ belowMaximum n End = true
 
 pub data Record : Type 0 where
   header : fields.Header → Record
+  balanced : Record
   contour : Record
   edge : EdgeSegment → Record
   distances : List Float → Record
@@ -209,6 +227,7 @@ readEnd (b ∷ rest) = fails 3
 unfoldable pub readBody : Mark → List ℕ → List ℕ → Step
 unfolding readHeader readEdge readDistances readEnd
 readBody Header body rest = readHeader body rest
+readBody Balanced body rest = next balanced rest
 readBody Contour body rest = next contour rest
 readBody (Edge kind) body rest = readEdge kind body rest
 readBody Distances body rest = readDistances body rest
@@ -235,6 +254,7 @@ readRecord s (a ∷ b ∷ bytes) = readMarked s (markOf a b) bytes
 
 abbrev pub recordMark : Record → Mark
 recordMark (header h) = Header
+recordMark balanced = Balanced
 recordMark contour = Contour
 recordMark (edge e) = Edge (kindOf e)
 recordMark (distances ds) = Distances
@@ -246,6 +266,7 @@ coordinates e = take (2 * controls (kindOf e)) (toStored e .points)
 unfoldable pub fieldsOf : Record → List ℕ
 unfolding little floatBytes toStored
 fieldsOf (header h) = strategyNumber (h .strategy) ∷ (little 8 (h .seed) ++ little 8 (h .threshold))
+fieldsOf balanced = []
 fieldsOf contour = []
 fieldsOf (edge e) = floatBytes (coordinates e)
 fieldsOf (distances ds) = little 2 (length ds) ++ floatBytes ds
@@ -262,22 +283,25 @@ bytesOf r = marked (recordMark r) (fieldsOf r)
 -- a record without its floats: of an edge its kind, of DS how many distances
 abbrev pub itemOf : Record → Item
 itemOf (header h) = item.Header h
+itemOf balanced = item.Balanced
 itemOf contour = item.Contour
 itemOf (edge e) = item.Edge (kindOf e)
 itemOf (distances ds) = item.Distances (length ds)
 
 abbrev pub phaseAfter : Phase → Item → Phase
-phaseAfter phase (item.Header h) = Outside
+phaseAfter phase (item.Header h) = Headed
+phaseAfter phase item.Balanced = Outside
 phaseAfter phase item.Contour = Inside
 phaseAfter phase (item.Edge kind) = phase
 phaseAfter phase (item.Distances count) = Closing
 
 -- the numbers with a record more
 abbrev pub counted : Numbers → Item → Numbers
-counted n (item.Header h) = record { header = h; contours = n .contours; edges = n .edges; distances = n .distances }
-counted n item.Contour = record { header = n .header; contours = n .contours + 1; edges = n .edges; distances = n .distances }
-counted n (item.Edge kind) = record { header = n .header; contours = n .contours; edges = n .edges + 1; distances = n .distances }
-counted n (item.Distances count) = record { header = n .header; contours = n .contours; edges = n .edges; distances = count }
+counted n (item.Header h) = record { header = h; division = n .division; contours = n .contours; edges = n .edges; distances = n .distances }
+counted n item.Balanced = record { header = n .header; division = division.Balanced; contours = n .contours; edges = n .edges; distances = n .distances }
+counted n item.Contour = record { header = n .header; division = n .division; contours = n .contours + 1; edges = n .edges; distances = n .distances }
+counted n (item.Edge kind) = record { header = n .header; division = n .division; contours = n .contours; edges = n .edges + 1; distances = n .distances }
+counted n (item.Distances count) = record { header = n .header; division = n .division; contours = n .contours; edges = n .edges; distances = count }
 
 abbrev pub after : State → Item → State
 after s item = record { phase = phaseAfter (s .phase) item; numbers = counted (s .numbers) item }

@@ -77,6 +77,7 @@ pub(crate) fn write_item(
 {
     match item {
         Item::Header(_) => {}
+        Item::Balanced => {}
         Item::Contour => {
             let contours = n.contours;
             lengths[contours] = 0;

@@ -8,9 +8,7 @@ use crate::reader;
 use crate::records;
 use crate::records::Strategy;
 use coloring::by_distance::collect_splines;
-use coloring::by_distance::edge_coloring_by_distance;
-use coloring::edge_coloring::edge_coloring_ink_trap;
-use coloring::edge_coloring::edge_coloring_simple;
+use coloring::edge_coloring::edge_coloring;
 use coloring::limits::MAX_CONTOURS;
 use coloring::limits::MAX_DISTANCES;
 use coloring::limits::MAX_EDGES;
@@ -18,6 +16,9 @@ use coloring::limits::MAX_RESULT_EDGES;
 use coloring::limits::MAX_SPLINES;
 use coloring::outline::Colored;
 use coloring::refusal::Refusal;
+use coloring::settings::Marking;
+use coloring::settings::Settings;
+use coloring::settings::Strategy as Pen;
 use math::bits::float;
 ghost use mathlib.Core.Path.{_≡_};
 ghost use Prim.Native.Nat.{_-_, _*_, _/_, _≤_};
@@ -25,67 +26,36 @@ ghost use Rattle.coloring.specs.Limits.{maxSplines};
 ghost use Rattle.coloring.specs.Outline.{result, atEntry, atExit, coloredAnswer, outcome};
 ghost use Rattle.job.specs.Job.{readJob};
 ghost use Rattle.job.specs.Buffers.{buffers};
-ghost use Rattle.job.specs.Reader.{jobAtEntry};
 ghost use Rattle.job.specs.Progress.{readAnswer, answerOf};
-ghost use Rattle.job.specs.Color.{colorStored, colorFile, checkFile, acceptJob, paired, AsksDistances, HoldsJobs, HoldsResults};
+ghost use Rattle.job.specs.Color.{markingBy, jobSettings, colorFile, checkFile, acceptJob, paired, AsksDistances, HoldsJobs, HoldsResults};
 
-// The colouring of an outline by a strategy.
-fn color_stored(
-    strategy: Strategy,
-    seed: u64,
-    threshold: f64,
-    lengths: &[u16],
-    kinds: &[u8],
-    points: &[f64],
-    distances: &[f64],
-    out_lengths: &mut [u16],
-    out_kinds: &mut [u8],
-    out_points: &mut [f64],
-    out_colors: &mut [u8],
-) -> Colored
-    ensures { λ r. ⌜ outcome (coloredAnswer r) (atExit «out_lengths» «out_kinds» «out_points» «out_colors»)
-        ≡ colorStored strategy seed threshold (jobAtEntry lengths kinds points distances)
-        (atEntry «out_lengths» «out_kinds» «out_points» «out_colors») ⌝ }
+fn marking_by(strategy: Strategy, seed: u64) -> Marking
+    ensures { λ r. ⌜ r ≡ markingBy strategy seed ⌝ }
 {
     match strategy {
-        Strategy::Simple => edge_coloring_simple(
-            lengths,
-            kinds,
-            points,
-            threshold,
-            seed,
-            out_lengths,
-            out_kinds,
-            out_points,
-            out_colors,
-        ),
-        Strategy::InkTrap => edge_coloring_ink_trap(
-            lengths,
-            kinds,
-            points,
-            threshold,
-            seed,
-            out_lengths,
-            out_kinds,
-            out_points,
-            out_colors,
-        ),
-        Strategy::ByDistance => edge_coloring_by_distance(
-            lengths,
-            kinds,
-            points,
-            threshold,
-            seed,
-            distances,
-            out_lengths,
-            out_kinds,
-            out_points,
-            out_colors,
-        ),
+        Strategy::Simple => Marking::Colors(Pen::Simple, seed),
+        Strategy::InkTrap => Marking::Colors(Pen::InkTrap, seed),
+        Strategy::ByDistance => Marking::Distances(seed),
     }
 }
 
-// The same for a file, with places for a job.
+// What a job asks of the colouring of its outline.
+fn job_settings(n: Numbers) -> Settings
+    ensures { λ r. ⌜ r ≡ jobSettings n ⌝ }
+{
+    let header = n.header;
+    let strategy = header.strategy;
+    let marking = marking_by(strategy, header.seed);
+    let threshold = float(header.threshold);
+    let division = n.division;
+    Settings {
+        marking,
+        threshold,
+        division,
+    }
+}
+
+// Reads and colours a file, with places for its job.
 fn color_in(
     file: &[u8],
     lengths: &mut [u16],
@@ -108,13 +78,9 @@ fn color_in(
             let edges = n.edges;
             let places = 8 * edges;
             let count = n.distances;
-            let header = n.header;
-            let strategy = header.strategy;
-            let threshold = float(header.threshold);
-            color_stored(
-                strategy,
-                header.seed,
-                threshold,
+            let settings = job_settings(n);
+            edge_coloring(
+                settings,
                 &lengths[..contours],
                 &kinds[..edges],
                 &points[..places],
@@ -267,7 +233,7 @@ pub fn check(file: &[u8]) -> Colored
 
 // The numbers of an accepted file's job, or the first refusal of reading and checking it. A job without distances has
 // nothing left to check.
-pub(crate) fn accept(file: &[u8]) -> Read
+pub fn accept(file: &[u8]) -> Read
     ensures { λ r. ⌜ readAnswer r ≡ answerOf (acceptJob (now (file .entry))) ⌝ }
 {
     match progress::scan(file) {

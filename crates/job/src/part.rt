@@ -42,12 +42,14 @@ fn sought(q: Seek, at: usize, item: Item) -> Seek
                 }
             }
             Item::Header(_) => Seek::Passing(left),
+            Item::Balanced => Seek::Passing(left),
             Item::Edge(_) => Seek::Passing(left),
             Item::Distances(_) => Seek::Passing(left),
         },
         Seek::Open(start) => match item {
             Item::Edge(_) => Seek::Open(start),
             Item::Header(_) => Seek::Done(Span { start, end: at }),
+            Item::Balanced => Seek::Done(Span { start, end: at }),
             Item::Contour => Seek::Done(Span { start, end: at }),
             Item::Distances(_) => Seek::Done(Span { start, end: at }),
         },

@@ -7,15 +7,17 @@ use crate::records::Phase;
 use crate::records::State;
 use crate::records::Strategy;
 use coloring::refusal::Refusal;
+use coloring::settings::Division;
 ghost use mathlib.Core.Path.{_≡_};
 ghost use Rattle.job.specs.Job.{readJob};
 ghost use Prim.Native.Nat.{_<_};
 ghost use Rattle.job.specs.Records.{phaseAfter, counted};
 ghost use Rattle.job.specs.Progress.{readAnswer, begin, advanced, answerOf, CanAdvance};
 
-// The numbers of a job: its header, and how many contours, edges and distances it has.
+// The numbers of a job: its header, the division of its teardrops, and how many contours, edges and distances it has.
 pub struct Numbers {
     pub header: Header,
+    pub division: Division,
     pub contours: usize,
     pub edges: usize,
     pub distances: usize,
@@ -43,6 +45,7 @@ pub(crate) fn begin() -> Progress
     };
     let numbers = Numbers {
         header,
+        division: Division::Source,
         contours: 0,
         edges: 0,
         distances: 0,
@@ -58,7 +61,8 @@ fn phase_after(phase: Phase, item: Item) -> Phase
     ensures { λ r. ⌜ r ≡ phaseAfter phase item ⌝ }
 {
     match item {
-        Item::Header(_) => Phase::Outside,
+        Item::Header(_) => Phase::Headed,
+        Item::Balanced => Phase::Outside,
         Item::Contour => Phase::Inside,
         Item::Edge(_) => phase,
         Item::Distances(_) => Phase::Closing,
@@ -71,27 +75,39 @@ fn counted(n: Numbers, item: Item) -> Numbers
     ensures { λ r. ⌜ r ≡ counted n item ⌝ }
 {
     let header = n.header;
+    let division = n.division;
     match item {
         Item::Header(h) => Numbers {
             header: h,
+            division,
+            contours: n.contours,
+            edges: n.edges,
+            distances: n.distances,
+        },
+        Item::Balanced => Numbers {
+            header,
+            division: Division::Balanced,
             contours: n.contours,
             edges: n.edges,
             distances: n.distances,
         },
         Item::Contour => Numbers {
             header,
+            division,
             contours: n.contours + 1,
             edges: n.edges,
             distances: n.distances,
         },
         Item::Edge(_) => Numbers {
             header,
+            division,
             contours: n.contours,
             edges: n.edges + 1,
             distances: n.distances,
         },
         Item::Distances(count) => Numbers {
             header,
+            division,
             contours: n.contours,
             edges: n.edges,
             distances: count,

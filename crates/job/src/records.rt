@@ -11,8 +11,8 @@ ghost use mathlib.Core.List.{[]};
 ghost use lib.ListN.{length};
 ghost use Rattle.job.specs.declared.records.Mark.the-variants.{Edge, Distances};
 ghost use Rattle.job.specs.declared.records.Marked.the-variants.{Known};
-ghost use Rattle.job.specs.Records.{strategyNumber, strategyOf, byDistance, markOf, controls, headerSize, bodySize, atStart, inside, among, closing};
-ghost use Rattle.job.specs.Records.{allowed, belowMaximum, foundAnswer, foundOf};
+ghost use Rattle.job.specs.Records.{strategyNumber, strategyOf, byDistance, markOf, controls, headerSize, bodySize};
+ghost use Rattle.job.specs.Records.{atStart, headed, inside, among, closing, allowed, belowMaximum, foundAnswer, foundOf};
 ghost use Rattle.job.specs.Records.{readHeader, readEdge, readDistances, readEnd, readBody, readMarked, readRecord};
 
 pub enum Strategy {
@@ -43,6 +43,8 @@ pub enum Kind {
 pub enum Mark {
     // JB
     Header,
+    // BL
+    Balanced,
     // CT
     Contour,
     // LN, QD, CB
@@ -63,7 +65,9 @@ pub enum Marked {
 pub enum Phase {
     // before JB
     Start,
-    // after JB, no contour yet
+    // directly after JB
+    Headed,
+    // after BL, no contour yet
     Outside,
     // in a contour
     Inside,
@@ -87,6 +91,7 @@ pub struct State {
 // A record without its floats: of an edge its kind, of DS how many distances.
 pub enum Item {
     Header(Header),
+    Balanced,
     Contour,
     Edge(Kind),
     Distances(usize),
@@ -105,6 +110,12 @@ pub(crate) fn mark_of(a: u8, b: u8) -> Marked
     if a == b'J' {
         if b == b'B' {
             return Marked::Known(Mark::Header);
+        }
+        return Marked::Unknown;
+    }
+    if a == b'B' {
+        if b == b'L' {
+            return Marked::Known(Mark::Balanced);
         }
         return Marked::Unknown;
     }
@@ -161,6 +172,7 @@ pub(crate) fn body_size(mark: Mark) -> usize
 {
     match mark {
         Mark::Header => 17,
+        Mark::Balanced => 0,
         Mark::Contour => 0,
         Mark::Edge(kind) => 16 * controls(kind),
         Mark::Distances => 2,
@@ -173,6 +185,19 @@ fn at_start(phase: Phase) -> bool
 {
     match phase {
         Phase::Start => true,
+        Phase::Headed => false,
+        Phase::Outside => false,
+        Phase::Inside => false,
+        Phase::Closing => false,
+    }
+}
+
+fn headed(phase: Phase) -> bool
+    ensures { λ r. ⌜ r ≡ headed phase ⌝ }
+{
+    match phase {
+        Phase::Start => false,
+        Phase::Headed => true,
         Phase::Outside => false,
         Phase::Inside => false,
         Phase::Closing => false,
@@ -184,6 +209,7 @@ fn inside(phase: Phase) -> bool
 {
     match phase {
         Phase::Start => false,
+        Phase::Headed => false,
         Phase::Outside => false,
         Phase::Inside => true,
         Phase::Closing => false,
@@ -196,6 +222,7 @@ fn among(phase: Phase) -> bool
 {
     match phase {
         Phase::Start => false,
+        Phase::Headed => true,
         Phase::Outside => true,
         Phase::Inside => true,
         Phase::Closing => false,
@@ -207,6 +234,7 @@ fn closing(phase: Phase) -> bool
 {
     match phase {
         Phase::Start => false,
+        Phase::Headed => false,
         Phase::Outside => false,
         Phase::Inside => false,
         Phase::Closing => true,
@@ -230,6 +258,7 @@ fn allowed(phase: Phase, strategy: Strategy, mark: Mark) -> bool
 {
     match mark {
         Mark::Header => at_start(phase),
+        Mark::Balanced => headed(phase),
         Mark::Contour => among(phase),
         Mark::Edge(_) => inside(phase),
         Mark::Distances => among(phase) && by_distance(strategy),
@@ -243,6 +272,7 @@ fn below_maximum(n: Numbers, mark: Mark) -> bool
 {
     match mark {
         Mark::Header => true,
+        Mark::Balanced => true,
         Mark::Contour => n.contours < MAX_CONTOURS,
         Mark::Edge(_) => n.edges < MAX_EDGES,
         Mark::Distances => true,
@@ -330,6 +360,7 @@ fn read_body(mark: Mark, body: &[u8], rest: &[u8]) -> Found
 {
     match mark {
         Mark::Header => read_header(body),
+        Mark::Balanced => Found::Item(Item::Balanced, 2 + body.len()),
         Mark::Contour => Found::Item(Item::Contour, 2 + body.len()),
         Mark::Edge(kind) => read_edge(kind, body),
         Mark::Distances => read_distances(body, rest),

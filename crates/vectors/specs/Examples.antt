@@ -24,3 +24,12 @@ cut-is-no-record = refl
 pub heading-is-no-record : isRecord (replicate 24 255) ≡ false
 unfolding isRecord known wordAt recordBytes
 heading-is-no-record = refl
+
+-- the last number of a function, and the next
+pub last-is-known : known 76 ≡ true
+unfolding known
+last-is-known = refl
+
+pub next-is-unknown : known 77 ≡ false
+unfolding known
+next-is-unknown = refl

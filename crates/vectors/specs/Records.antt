@@ -12,7 +12,7 @@ recordBytes s = cond (headed s) 24 (cond (ltb (wordAt s 0) 32) 64 (cond (ltb (wo
 
 -- math, geometry, and what a host calls
 unfoldable pub known : ℕ → Bool
-known f = (ltb f 29 || (leb 32 f && ltb f 47)) || (leb 64 f && ltb f 73)
+known f = (ltb f 29 || (leb 32 f && ltb f 47)) || (leb 64 f && ltb f 77)
 
 -- a record and nothing else
 unfoldable pub isRecord : List ℕ → Bool

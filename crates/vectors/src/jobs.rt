@@ -1,10 +1,11 @@
-// Records of job files (69): six words (the number, the record's bytes, how many bytes the file and its listing have,
-// how many contours are asked for, what checking answers), two words for each contour (the place of its part and how
-// many bytes it has), the file, and its listing, each filled up to words.
+// Records of job files (69): seven words (the number, the record's bytes, how many bytes the file and its listing have,
+// how many contours are asked for, what checking answers, whether teardrops are balanced), two words for each contour
+// (the place of its part and how many bytes it has), the file, and its listing, each filled up to words.
 use crate::words::load;
 use crate::words::part;
 use crate::words::size;
 use crate::words::word;
+use capi::job_file::merelsplum_job_balanced;
 use capi::job_file::merelsplum_job_check;
 use capi::job_file::merelsplum_job_contour_part;
 use capi::job_file::merelsplum_job_listing;
@@ -68,12 +69,15 @@ pub(crate) fn is_right(s: &[u8]) -> bool {
     let n = size(s, 16, 65536);
     let m = size(s, 24, 5611);
     let contours = size(s, 32, 300);
-    let from = 48 + 16 * contours;
+    let from = 56 + 16 * contours;
     let file = part(s, from, n);
     if merelsplum_job_check(file) != word(s, 40) {
         return false;
     }
-    if !are_parts(file, part(s, 48, 16 * contours)) {
+    if merelsplum_job_balanced(file) != word(s, 48) {
+        return false;
+    }
+    if !are_parts(file, part(s, 56, 16 * contours)) {
         return false;
     }
     is_listing(file, part(s, from + padded(n), m))

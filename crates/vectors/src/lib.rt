@@ -1,8 +1,8 @@
 // Recorded calls of the library, and whether it answers as recorded. A record begins with the number of a function:
 // 0 to 28 are those of math, 32 to 46 those of geometry, 64 a run of offers to a spline table, 65 to 68 the colourings,
 // 69 a job file that is checked, listed and parted, 70 one that is read, 71 one that is coloured, 72 the directions of
-// an outline. Numbers are words of eight bytes, the lowest byte first. The program `replay` reads records; the
-// comparison with the Rust makes them one by one.
+// an outline, 73 to 76 the colourings by the balanced division. Numbers are words of eight bytes, the lowest byte
+// first. The program `replay` reads records; the comparison with the Rust makes them one by one.
 mod edges;
 mod jobs;
 mod leaves;
@@ -43,7 +43,7 @@ pub fn record_bytes(s: &[u8]) -> u64
 fn is_known(f: u64) -> bool
     ensures { λ r. ⌜ r ≡ known f ⌝ }
 {
-    (f < 29) | ((32 <= f) & (f < 47)) | ((64 <= f) & (f < 73))
+    (f < 29) | ((32 <= f) & (f < 47)) | ((64 <= f) & (f < 77))
 }
 
 // Whether s is a record, and nothing else.

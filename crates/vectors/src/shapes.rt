@@ -4,13 +4,17 @@
 // places, distances; and the result: lengths, kinds, colours, point places. A length is a word. Of the colouring of a
 // job file (71) the threshold's word has the bytes of the file, and what goes in is the file. The directions of an
 // outline (72) go to the buffer of point places, four an edge, and the marks of stand-ins to that of colours, two an
-// edge; they are the whole result.
+// edge; they are the whole result. 73 to 76 are 65 to 68 by the balanced division.
 use crate::words::load;
 use crate::words::number;
 use crate::words::part;
 use crate::words::same;
 use crate::words::size;
 use crate::words::word;
+use capi::balanced::merelsplum_collect_splines_balanced;
+use capi::balanced::merelsplum_edge_coloring_by_distance_balanced;
+use capi::balanced::merelsplum_edge_coloring_ink_trap_balanced;
+use capi::balanced::merelsplum_edge_coloring_simple_balanced;
 use capi::by_distance::merelsplum_collect_splines;
 use capi::by_distance::merelsplum_edge_coloring_by_distance;
 use capi::directions::merelsplum_edge_directions;
@@ -78,6 +82,73 @@ fn within(n: usize, most: usize) -> usize
 
 // ---- the call
 
+// Makes the call of the record at the start of s by the balanced division, on these buffers.
+fn call_balanced(
+    s: &[u8],
+    lengths: &[u16],
+    kinds: &[u8],
+    points: &[f64],
+    distances: &[f64],
+    out_lengths: &mut [u16],
+    out_kinds: &mut [u8],
+    out_points: &mut [f64],
+    out_colors: &mut [u8],
+) -> u64 {
+    let threshold = number(s, 16);
+    let seed = word(s, 24);
+    let f = word(s, 0);
+    if f == 73 {
+        return merelsplum_edge_coloring_simple_balanced(
+            lengths,
+            kinds,
+            points,
+            threshold,
+            seed,
+            out_lengths,
+            out_kinds,
+            out_points,
+            out_colors,
+        );
+    }
+    if f == 74 {
+        return merelsplum_edge_coloring_ink_trap_balanced(
+            lengths,
+            kinds,
+            points,
+            threshold,
+            seed,
+            out_lengths,
+            out_kinds,
+            out_points,
+            out_colors,
+        );
+    }
+    if f == 75 {
+        return merelsplum_collect_splines_balanced(
+            lengths,
+            kinds,
+            points,
+            threshold,
+            out_lengths,
+            out_kinds,
+            out_points,
+            out_colors,
+        );
+    }
+    merelsplum_edge_coloring_by_distance_balanced(
+        lengths,
+        kinds,
+        points,
+        threshold,
+        seed,
+        distances,
+        out_lengths,
+        out_kinds,
+        out_points,
+        out_colors,
+    )
+}
+
 // Makes the call of the record at the start of s, on these buffers.
 fn call(
     s: &[u8],
@@ -133,6 +204,19 @@ fn call(
     }
     if f == 72 {
         return merelsplum_edge_directions(lengths, kinds, points, out_points, out_colors);
+    }
+    if 72 < f {
+        return call_balanced(
+            s,
+            lengths,
+            kinds,
+            points,
+            distances,
+            out_lengths,
+            out_kinds,
+            out_points,
+            out_colors,
+        );
     }
     merelsplum_edge_coloring_by_distance(
         lengths,

@@ -83,7 +83,7 @@ module _ (settings : Settings) (o : Outline) where
     checks = (unless 4 (leb (length distances) maxDistances) ∷ check o (settings .threshold)) ++ checkMarking (settings .marking) (splineTotal laid) distances
 
     abbrev written : Result
-    written = painted (middleValue (settings .marking)) (splineValues (settings .marking) distances laid) laid
+    written = painted (settings .division) (middleValue (settings .marking)) (splineValues (settings .marking) distances laid) laid
 
     passed : firstRefusal (checks ++ (unless 11 (resultFits written old) ∷ [])) ≡ allPass → Agrees o
     unfolding check

@@ -14,6 +14,8 @@ use Rattle.coloring.specs.DeliverLaws.{deliver-fits}
 use Rattle.coloring.specs.Bools.{and-left, and-right}
 use Rattle.coloring.specs.Lists.{over}
 use Rattle.coloring.specs.declared.outline.Counts.{Counts}
+use Rattle.coloring.specs.declared.settings.Division.{Division}
+use Rattle.coloring.specs.declared.settings.Division.the-variants.{Source}
 use Rattle.coloring.specs.Places.{total}
 use Rattle.coloring.specs.Corners.{Cornered, edgesIn, flagsIn, cornered}
 use Rattle.coloring.specs.Layout.{layout, resultEdges}
@@ -110,14 +112,14 @@ module _ (lengths : List ℕ) (xs : List EdgeSegment) (flags : List Bool) (count
   pub splines-counted : splineTotal laid ≡ counts .splines
   splines-counted = total-laid found found-flagged ∙ splines-cut lengths xs flags ∙ sym (counted .splines-are)
 
-  pub counted-sized : (middle : ℕ) (values : List ℕ) → Sized (painted middle values laid) (counts .contours) (counts .edges)
-  counted-sized middle values =
-      rw (cornered-length lengths xs flags, edges-counted, ← counted .contours-are) at (painted-sized found found-flagged middle values)
+  pub counted-sized : (division : Division) (middle : ℕ) (values : List ℕ) → Sized (painted division middle values laid) (counts .contours) (counts .edges)
+  counted-sized division middle values =
+      rw (cornered-length lengths xs flags, edges-counted, ← counted .contours-are) at (painted-sized found found-flagged division middle values)
 
   pub counts-laid : counts ≡ countsOf laid (counts .«stand_ins»)
   unfolding countsOf painted encode
   counts-laid =
-      let s = counted-sized 0 [] in
+      let s = counted-sized Source 0 [] in
       rw (s .lengths-long, s .kinds-long, splines-counted)
 
   -- the flags of the result
@@ -154,15 +156,15 @@ module _ (lengths : List ℕ) (xs : List EdgeSegment) (flags : List Bool) (count
     front-splines = rw front-contours (sym splines-counted)
 
     -- laid out and painted
-    pub painted-delivered : (middle : ℕ) (values colors₀ : List ℕ) {middle' : ℕ} {bytes colors : List ℕ}
-        → resultFits (painted middle values laid) (result lengths₀ kinds₀ points₀ colors₀) ≡ true
-        → middle' ≡ middle → bytes ≡ flatten (paintContours middle' values (cut (take (counts .contours) outLengths) (take (counts .edges) outFlags)))
+    pub painted-delivered : (division : Division) (middle : ℕ) (values colors₀ : List ℕ) {middle' : ℕ} {bytes colors : List ℕ}
+        → resultFits (painted division middle values laid) (result lengths₀ kinds₀ points₀ colors₀) ≡ true
+        → middle' ≡ middle → bytes ≡ flatten (paintContours division middle' values (cut (take (counts .contours) outLengths) (take (counts .edges) outFlags)))
         → colors ≡ bytes ++ drop (counts .edges) colors₀
         → outcome (gives counts) (result outLengths outKinds outPoints colors)
-        ≡ deliver [] (countsOf laid (counts .«stand_ins»)) (painted middle values laid) (result lengths₀ kinds₀ points₀ colors₀)
+        ≡ deliver [] (countsOf laid (counts .«stand_ins»)) (painted division middle values laid) (result lengths₀ kinds₀ points₀ colors₀)
     unfolding delivered painted encode over
-    painted-delivered middle values colors₀ fit middle-is bytes-are colors-are =
-        let bytes = paintContours middle values (flagsIn laid) in
-        let long : length (flatten bytes) ≡ counts .edges = counted-sized middle values .colors-long in
-        rw (deliver-fits (countsOf laid (counts .«stand_ins»)) (painted middle values laid) (result lengths₀ kinds₀ points₀ colors₀) fit)
+    painted-delivered division middle values colors₀ fit middle-is bytes-are colors-are =
+        let bytes = paintContours division middle values (flagsIn laid) in
+        let long : length (flatten bytes) ≡ counts .edges = counted-sized division middle values .colors-long in
+        rw (deliver-fits (countsOf laid (counts .«stand_ins»)) (painted division middle values laid) (result lengths₀ kinds₀ points₀ colors₀) fit)
         (rw (colors-are, bytes-are, middle-is, front-contours, out .lengths-are, out .kinds-are, out .points-are, long, ← counts-laid))

@@ -15,8 +15,6 @@ use Rattle.coloring.specs.Outline.{Outline, Result, Outcome, resultFits, delive
 use Rattle.coloring.specs.Shape.{countsOf}
 use Rattle.coloring.specs.Splines.{splineTotal}
 use Rattle.coloring.specs.EdgeColoring.{collectSplines}
-use Rattle.coloring.specs.declared.settings.Strategy.the-variants as pen
-use Rattle.coloring.specs.declared.settings.Marking.the-variants.{Colors, Distances}
 use Rattle.coloring.specs.Values.{checkMarking}
 use Rattle.coloring.specs.Answers.{Answer, gives, refusal, succeeds, Check, unless, inOrder, firstRefusal, all-passed, one-failed}
 use Rattle.job.specs.declared.records.Strategy.{Strategy}
@@ -27,7 +25,7 @@ use Rattle.job.specs.Job.{thresholdOf, Job, Reading, readJob}
 use Rattle.job.specs.Progress.{numbersOf, answerOf}
 use Rattle.job.specs.Buffers.{Buffers, storedJob}
 use Rattle.job.specs.Reader.{readInto}
-use Rattle.job.specs.Color.{byStrategy, laidIn, jobCounts, checkJob, checkReading, checkFile, acceptReading}
+use Rattle.job.specs.Color.{markingBy, laidIn, jobCounts, checkJob, checkReading, checkFile, acceptReading}
 use Rattle.job.specs.Color.{acceptJob, accepted, paired, outlineOf, HoldsJobs, HoldsResults}
 use Rattle.job.proofs.progress.ProgressLaws.{job-sound, contours-few, edges-few}
 use Rattle.job.proofs.reader.DeliverLaws.{As-job}
@@ -104,11 +102,8 @@ accept-plain (gives job) n told h =
     let numbers : n ≡ numbersOf job = cc in
     go (job .header .strategy) (sym (ap (λ (m : Numbers). byDistance (m .header .strategy)) numbers) ∙ h)
   where
-    seed : ℕ
-    seed = job .header .seed
-
     checks : Strategy → List Check
-    checks by = checkMarking (byStrategy by (Colors pen.Simple seed) (Colors pen.InkTrap seed) (Distances seed)) (splineTotal (laidIn job)) (job .distances)
+    checks by = checkMarking (markingBy by (job .header .seed)) (splineTotal (laidIn job)) (job .distances)
 
     go : (by : Strategy) → byDistance by ≡ false → gives n ≡ answerOf (inOrder (checks by) refusal (gives job))
     go Simple k = told

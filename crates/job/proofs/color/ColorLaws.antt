@@ -15,27 +15,27 @@ use Rattle.geometry.specs.declared.edge_segment.EdgeSegment.{EdgeSegment}
 use Rattle.geometry.specs.declared.edge_segment.EdgeSegment.the-variants as segment
 use Rattle.coloring.specs.Limits.{maxContours, maxEdges, maxSplines, maxDistances}
 use Rattle.coloring.specs.Lists.{all, over}
-use Rattle.coloring.specs.declared.settings.Strategy.the-variants.{Simple, InkTrap}
 use Rattle.coloring.specs.declared.settings.Marking.{Marking}
-use Rattle.coloring.specs.declared.settings.Marking.the-variants.{Colors, Numbers, Distances}
+use Rattle.coloring.specs.declared.settings.Marking.the-variants.{Numbers}
+use Rattle.coloring.specs.declared.settings.Division.{Division}
+use Rattle.coloring.specs.declared.settings.Division.the-variants.{Source}
+use Rattle.coloring.specs.declared.settings.Settings.{Settings}
 use Rattle.coloring.specs.Values.{splineValues, middleValue}
 use Rattle.coloring.specs.Splines.{splineTotal}
 use Rattle.coloring.specs.Outline as outline
-use Rattle.coloring.specs.Outline.{Outline, Result, Outcome, outcome, edgeStored, contours, knownKind, coordinatesFit, check, deliver}
+use Rattle.coloring.specs.Outline.{Outline, Result, outcome, edgeStored, contours, knownKind, coordinatesFit, check, deliver}
 use Rattle.coloring.specs.Shape.{painted, deliverFound}
 use Rattle.coloring.specs.Sizes.{sizes, cut-again, flatten-length, points-length}
-use Rattle.coloring.specs.EdgeColoring.{edgeColoring, collectSplines}
+use Rattle.coloring.specs.EdgeColoring.{edgeColoring, settingsOf, collectSplines}
 use Rattle.coloring.specs.DeliverLaws.{found-passed}
 use Rattle.coloring.specs.Answers.{gives, refusal, allPass, unless, firstRefusal}
 use Rattle.job.specs.declared.progress.Numbers.{Numbers as JobNumbers}
-use Rattle.job.specs.declared.records.Strategy as strategies
-use Rattle.job.specs.declared.records.Strategy.the-variants as by
 use Rattle.job.specs.Job.{thresholdOf, Job, readJob}
 use Rattle.job.specs.Progress.{edgeCount, numbersOf, answerOf}
 use Rattle.job.specs.Buffers.{Buffers, buffers, kindsStored, pointsStored, storedJob, overEach, roomFor, hasRoom, Hold}
 use Rattle.job.specs.Reader.{Fits, filled}
-use Rattle.job.specs.Color.{byStrategy, cornersIn, laidIn, jobCounts, checkJob, coloredEdges, edgeColors, colored, colorJob}
-use Rattle.job.specs.Color.{colorReading, colorFile, outlineOf, colorStored, HoldsJobs}
+use Rattle.job.specs.Color.{markingOf, cornersIn, laidIn, jobCounts, checkJob, coloredEdges, edgeColors, colored, colorJob}
+use Rattle.job.specs.Color.{colorReading, colorFile, outlineOf, jobSettings, HoldsJobs}
 use Rattle.job.proofs.records.ReadingLaws.{edgeFits}
 use Rattle.job.proofs.progress.ProgressLaws.{Sound, job-sound, contours-few, edges-few}
 use Rattle.job.proofs.reader.DeliverLaws.{answer-job, answer-refused}
@@ -82,7 +82,7 @@ coordinates-pass (segment.Cubic p0 p1 p2 p3 ∷ edges) h = and-next (edgeFits (s
 
 -- the laid out shape of a job with its splines' numbers
 abbrev pub numbered : Job → Result
-numbered job = painted (middleValue Numbers) (splineValues Numbers [] (laidIn job)) (laidIn job)
+numbered job = painted Source (middleValue Numbers) (splineValues Numbers [] (laidIn job)) (laidIn job)
 
 module _ (job : Job) (so : Sound job) (contours-fit : length (job .contours) ≤ maxContours) (edges-fit : edgeCount (job .contours) ≤ maxEdges) where
   pub passes : firstRefusal (check (outlineOf (storedJob job)) (thresholdOf (job .header))) ≡ allPass
@@ -107,48 +107,25 @@ module _ (job : Job) (so : Sound job) (contours-fit : length (job .contours) ≤
   -- ---- so each colouring of the buffers is that of the job
 
   module _ (old : Result) where
-    -- by a marking, and with distances or without
-    abbrev marked : Marking → List Float → Outcome
-    marked marking distances = deliverFound [] marking distances (cornersIn job) old
-
-    abbrev colored-by : Marking → List Float → Outcome
-    colored-by marking distances = edgeColoring (record { marking = marking; threshold = thresholdOf (job .header) }) (outlineOf (storedJob job)) distances old
-
-    by-marking : (marking : Marking) (distances : List Float) → length distances ≤ maxDistances → colored-by marking distances ≡ marked marking distances
+    -- by any marking and division, and with distances or without
+    by-settings : (division : Division) (marking : Marking) (distances : List Float) → length distances ≤ maxDistances
+        → let settings = settingsOf division marking (thresholdOf (job .header)) in
+        edgeColoring settings (outlineOf (storedJob job)) distances old ≡ deliverFound [] settings distances (cornersIn job) old
     unfolding edgeColoring firstRefusal
-    by-marking marking distances few =
+    by-settings division marking distances few =
         let checks = unless 4 (leb (length distances) maxDistances) ∷ check (outlineOf (storedJob job)) (thresholdOf (job .header)) in
         let all : firstRefusal checks ≡ allPass = rw (le-leb (length distances) maxDistances few) passes in
-        rw (contours-again job) (found-passed marking distances (cornersIn job) old checks all)
-
-    without : (marking : Marking) → colored-by marking [] ≡ marked marking []
-    without marking = by-marking marking [] (omega arith)
+        rw (contours-again job) (found-passed (settingsOf division marking (thresholdOf (job .header))) distances (cornersIn job) old checks all)
 
     -- collecting its splines counts the edges and splines of its result
     pub collected : collectSplines (outlineOf (storedJob job)) (thresholdOf (job .header)) old
         ≡ deliver (unless 4 (leb (splineTotal (laidIn job)) maxSplines) ∷ []) (jobCounts job) (numbered job) old
     unfolding laidIn
-    collected = without Numbers
+    collected = by-settings Source Numbers [] (omega arith)
 
-    stored-is : storedJob job .distances ≡ job .distances
-    unfolding storedJob
-    stored-is = refl
-
-    stored-colored : colorStored (job .header .strategy) (job .header .seed) (thresholdOf (job .header)) (storedJob job) old ≡ colorJob job old
-    unfolding colorStored colorJob checkJob colored edgeColors coloredEdges laidIn painted splineValues
-    stored-colored =
-        rw (stored-is, without (Colors Simple seed), without (Colors InkTrap seed), by-marking (Distances seed) (job .distances) (so .distances-few))
-        (go (job .header .strategy))
-      where
-        seed : ℕ
-        seed = job .header .seed
-
-        go : (by : strategies.Strategy)
-            → byStrategy by (marked (Colors Simple seed) []) (marked (Colors InkTrap seed) []) (marked (Distances seed) (job .distances))
-            ≡ marked (byStrategy by (Colors Simple seed) (Colors InkTrap seed) (Distances seed)) (job .distances)
-        go by.Simple = refl
-        go by.InkTrap = refl
-        go by.ByDistance = refl
+    stored-colored : edgeColoring (jobSettings (numbersOf job)) (outlineOf (storedJob job)) (storedJob job .distances) old ≡ colorJob job old
+    unfolding storedJob colorJob checkJob colored edgeColors coloredEdges laidIn painted splineValues
+    stored-colored = by-settings (job .division) (markingOf job) (job .distances) (so .distances-few)
 
 -- ---- from what the reader delivers
 
@@ -225,14 +202,15 @@ module _ {file : List ℕ} {n : JobNumbers} {old : Buffers} {lengths kinds : Lis
   pub held-is-outline : held-outline ≡ outlineOf (storedJob (h .job))
   held-is-outline = ap outlineOf held-is
 
-  pub held-colored : (threshold : Float) (out : Result) → threshold ≡ thresholdOf (n .header)
-      → colorStored (n .header .strategy) (n .header .seed) threshold held out ≡ colorFile file out
+  pub held-colored : (settings : Settings) (out : Result) → settings ≡ jobSettings n
+      → edgeColoring settings held-outline (held .distances) out ≡ colorFile file out
   unfolding colorFile colorReading
-  held-colored threshold out e =
+  held-colored settings out e =
       let job = h .job in
       let so = job-sound file job (h .is-read) in
-      rw (held-is, e, h .numbers, h .is-read)
-      (stored-colored job so (contours-few file job (h .is-read)) (edges-few file job (h .is-read)) out)
+      ap (λ (s : Settings). edgeColoring s held-outline (held .distances) out) e
+      ∙ ap (λ (b : Buffers). edgeColoring (jobSettings n) (outlineOf b) (b .distances) out) held-is
+      ∙ rw (h .numbers, h .is-read) (stored-colored job so (contours-few file job (h .is-read)) (edges-few file job (h .is-read)) out)
 
   -- and they lie within the buffers
   pub edges-most : n .edges ≤ maxEdges

@@ -12,6 +12,7 @@ use Rattle.geometry.specs.declared.edge_segment.EdgeSegment.{EdgeSegment}
 use Rattle.coloring.specs.SplineColors.{colorSplines}
 use Rattle.coloring.specs.declared.settings.Strategy.{Strategy}
 use Rattle.coloring.specs.declared.settings.Strategy.the-variants.{Simple, InkTrap}
+use Rattle.coloring.specs.declared.settings.Division.the-variants.{Source}
 use Rattle.coloring.specs.declared.settings.Marking.{Marking}
 use Rattle.coloring.specs.declared.settings.Marking.the-variants.{Colors, Numbers, Distances}
 use Rattle.coloring.specs.Places.{total}
@@ -29,7 +30,7 @@ use Rattle.job.specs.declared.records.Strategy as strategies
 use Rattle.job.specs.declared.records.Strategy.the-variants as by
 use Rattle.job.specs.Job.{thresholdOf, Job, readJob}
 use Rattle.job.specs.Progress.{edgeCount}
-use Rattle.job.specs.Color.{byStrategy, cornersIn, laidIn, coloredEdges, edgeColors, colored}
+use Rattle.job.specs.Color.{markingBy, cornersIn, laidIn, coloredEdges, edgeColors, colored}
 use Rattle.job.proofs.progress.ProgressLaws.{contours-few, edges-few}
 use Rattle.job.proofs.color.ColorLaws.{numbered}
 use Rattle.job.proofs.listing.ListingLaws.{AreColors, EachColors}
@@ -71,22 +72,22 @@ module _ (job : Job) where
   found-flagged : Flagged found
   found-flagged = search-flagged (thresholdOf (job .header)) (job .contours)
 
+  -- the bytes of its edges by a marking
+  abbrev bytesBy : Marking → List (List ℕ)
+  bytesBy marking = paintContours (job .division) (middleValue marking) (splineValues marking (job .distances) (laidIn job)) (flagsIn (laidIn job))
+
   -- what the splines get are colours, and the middle run of a teardrop gets one
   painted-colors : (marking : Marking) (colors : List EdgeColor) → middleValue marking ≡ bitsOf White
-      → splineValues marking (job .distances) (laidIn job) ≡ map bitsOf colors
-      → EachColors (paintContours (middleValue marking) (splineValues marking (job .distances) (laidIn job)) (flagsIn (laidIn job)))
+      → splineValues marking (job .distances) (laidIn job) ≡ map bitsOf colors → EachColors (bytesBy marking)
   painted-colors marking colors middle values =
-      rw (middle, values, ← contours-map bitsOf White colors (flagsIn (laidIn job)))
-      (colors-each (λ (c : EdgeColor). c) (paintContours White colors (flagsIn (laidIn job))))
+      rw (middle, values, ← contours-map bitsOf (job .division) White colors (flagsIn (laidIn job)))
+      (colors-each (λ (c : EdgeColor). c) (paintContours (job .division) White colors (flagsIn (laidIn job))))
 
-  colors-by : (strategy : Strategy)
-      → let marking = Colors strategy (job .header .seed) in
-      EachColors (paintContours (middleValue marking) (splineValues marking (job .distances) (laidIn job)) (flagsIn (laidIn job)))
+  colors-by : (strategy : Strategy) → EachColors (bytesBy (Colors strategy (job .header .seed)))
   unfolding splineValues
   colors-by strategy = painted-colors (Colors strategy (job .header .seed)) (shapeColors strategy (initColor (job .header .seed)) (laidIn job)) refl refl
 
-  colors-by-distance : let marking = Distances (job .header .seed) in
-      EachColors (paintContours (middleValue marking) (splineValues marking (job .distances) (laidIn job)) (flagsIn (laidIn job)))
+  colors-by-distance : EachColors (bytesBy (Distances (job .header .seed)))
   unfolding splineValues
   colors-by-distance =
       let coloring = colorSplines (splineTotal (laidIn job)) (job .distances) (job .header .seed) in
@@ -96,12 +97,7 @@ module _ (job : Job) where
   unfolding edgeColors
   are-colors-all = go (job .header .strategy)
     where
-      seed : ℕ
-      seed = job .header .seed
-
-      go : (by : strategies.Strategy)
-          → let marking = byStrategy by (Colors Simple seed) (Colors InkTrap seed) (Distances seed) in
-          EachColors (paintContours (middleValue marking) (splineValues marking (job .distances) (laidIn job)) (flagsIn (laidIn job)))
+      go : (by : strategies.Strategy) → EachColors (bytesBy (markingBy by (job .header .seed)))
       go by.Simple = colors-by Simple
       go by.InkTrap = colors-by InkTrap
       go by.ByDistance = colors-by-distance
@@ -109,15 +105,15 @@ module _ (job : Job) where
   -- a byte for each edge
   bytes-each : sizes (edgeColors job) ≡ sizes (coloredEdges job)
   unfolding edgeColors coloredEdges laidIn
-  bytes-each = painted-sizes found found-flagged _ _
+  bytes-each = painted-sizes found found-flagged _ _ _
 
   -- and a number
   abbrev edgeNumbers : List (List ℕ)
-  edgeNumbers = paintContours (middleValue Numbers) (splineValues Numbers [] (laidIn job)) (flagsIn (laidIn job))
+  edgeNumbers = paintContours Source (middleValue Numbers) (splineValues Numbers [] (laidIn job)) (flagsIn (laidIn job))
 
   numbers-each : sizes edgeNumbers ≡ sizes (coloredEdges job)
   unfolding coloredEdges laidIn
-  numbers-each = painted-sizes found found-flagged _ _
+  numbers-each = painted-sizes found found-flagged _ _ _
 
   contours-kept : length (coloredEdges job) ≡ length (job .contours)
   unfolding coloredEdges laidIn

@@ -12,25 +12,25 @@ use lib.Seq.{take-all, take-suc, take-append-le}
 use borrow.Author.Tests.{lt-ltb, le-ltb}
 use Rattle.geometry.specs.declared.edge_segment.EdgeSegment.{EdgeSegment}
 use Rattle.coloring.specs.Answers.{gives, refusal, succeeds}
+use Rattle.coloring.specs.declared.settings.Division.{Division}
 use Rattle.job.specs.declared.records.Header as fields
 use Rattle.job.specs.declared.records.Item.{Item}
-use Rattle.job.specs.declared.records.Item.the-variants.{Header, Contour, Edge, Distances}
+use Rattle.job.specs.declared.records.Item.the-variants.{Header, Balanced, Contour, Edge, Distances}
 use Rattle.job.specs.declared.records.Phase.{Phase}
-use Rattle.job.specs.declared.records.Phase.the-variants as phases
 use Rattle.job.specs.declared.records.Strategy.{Strategy}
 use Rattle.job.specs.declared.records.Strategy.the-variants.{Simple}
 use Rattle.job.specs.declared.progress.Progress.{Progress}
 use Rattle.job.specs.declared.part.Span.{Span}
 use Rattle.job.specs.declared.part.Seek.{Seek}
 use Rattle.job.specs.declared.part.Seek.the-variants.{Passing, Open, Done}
-use Rattle.job.specs.Records.{Record, header, contour, edge, distances, ends, fails, atStart, among, inside, closing, allowed, recordMark}
+use Rattle.job.specs.Records.{Record, header, balanced, contour, edge, distances, ends, fails, among, inside, closing, allowed, recordMark}
 use Rattle.job.specs.Records.{itemOf, phaseAfter, readRecord}
 use Rattle.job.specs.Job.{Job, withEdge, withRecord, Reading, readJob, contourRecords, outlineRecords, recordBytes}
 use Rattle.job.specs.Progress.{begin, advanced}
 use Rattle.job.specs.Color.{acceptJob, accepted}
 use Rattle.job.specs.Part.{nowhere, spanIn, placeIn, sought, spanOf, contourPlace, contourPart, Inside}
 use Rattle.job.proofs.records.ReadingLaws.{Read-as}
-use Rattle.job.proofs.progress.SoFarLaws.{soFar, bytes-append}
+use Rattle.job.proofs.progress.SoFarLaws.{outlined, soFar, among-so-far, inside-among, Fresh, Bare, bytes-append, outline-more}
 use Rattle.job.proofs.progress.ProgressLaws.{Reached, reached-begin, begin-job, reached-next, next-job, reached-end, reached-fault}
 use Rattle.job.proofs.progress.ProgressLaws.{record-taken, not-closing, with-edge-length, further}
 
@@ -45,10 +45,12 @@ unfolding sought
 before-next (Passing zero) at next Contour h b = h
 before-next (Passing (suc left)) at next Contour h b = tt
 before-next (Passing left) at next (Header x) h b = tt
+before-next (Passing left) at next Balanced h b = tt
 before-next (Passing left) at next (Edge kind) h b = tt
 before-next (Passing left) at next (Distances count) h b = tt
 before-next (Open from) at next (Edge kind) h b = omega arith
 before-next (Open from) at next (Header x) h b = (b, h)
+before-next (Open from) at next Balanced h b = (b, h)
 before-next (Open from) at next Contour h b = (b, h)
 before-next (Open from) at next (Distances count) h b = (b, h)
 before-next (Done span) at next item h b = (b .0, omega (arith, b .1))
@@ -77,25 +79,18 @@ with-edge-get (c ∷ d ∷ contours) e (suc n) h = with-edge-get (d ∷ contours
 
 -- the bytes before the contour
 abbrev startIn : Job → ℕ → ℕ
-startIn job number = length (recordBytes (outlineRecords (job .header) (take number (job .contours))))
+startIn job number = length (recordBytes (outlineRecords (job .header) (job .division) (take number (job .contours))))
 
-abbrev spanFrom : fields.Header → List (List EdgeSegment) → List EdgeSegment → Span
-spanFrom h before own =
-    let start = length (recordBytes (outlineRecords h before)) in
-    record { start = start; end = start + length (recordBytes (contourRecords own)) }
+abbrev spanFrom : ℕ → List EdgeSegment → Span
+spanFrom start own = record { start = start; end = start + length (recordBytes (contourRecords own)) }
 
-span-is : (job : Job) (number : ℕ) → spanIn job number ≡ spanFrom (job .header) (take number (job .contours)) (getD (job .contours) number [])
+span-is : (job : Job) (number : ℕ) → spanIn job number ≡ spanFrom (startIn job number) (getD (job .contours) number [])
 unfolding spanIn
 span-is job number = refl
 
-span-same : (job other : Job) (number : ℕ) → job .header ≡ other .header → take number (job .contours) ≡ take number (other .contours)
+span-same : (job other : Job) (number : ℕ) → startIn job number ≡ startIn other number
     → getD (job .contours) number [] ≡ getD (other .contours) number [] → spanIn job number ≡ spanIn other number
-span-same job other number h t g =
-    span-is job number
-    ∙ ap (λ (x : fields.Header). spanFrom x (take number (job .contours)) (getD (job .contours) number [])) h
-    ∙ ap (λ (x : List (List EdgeSegment)). spanFrom (other .header) x (getD (job .contours) number [])) t
-    ∙ ap (spanFrom (other .header) (take number (other .contours))) g
-    ∙ sym (span-is other number)
+span-same job other number s g = span-is job number ∙ rw (s, g) (sym (span-is other number))
 
 concat-last : (contours : List (List EdgeSegment)) (c : List EdgeSegment)
     → flatten (map contourRecords (contours ++ (c ∷ []))) ≡ flatten (map contourRecords contours) ++ contourRecords c
@@ -103,26 +98,24 @@ unfolding flatten
 concat-last [] c = append-nil (contourRecords c)
 concat-last (d ∷ contours) c = rw (concat-last contours c) (sym (append-assoc (contourRecords d) (flatten (map contourRecords contours)) (contourRecords c)))
 
-outline-last : (h : fields.Header) (contours : List (List EdgeSegment)) (n : ℕ) → suc n ≡ length contours
-    → outlineRecords h contours ≡ outlineRecords h (take n contours) ++ contourRecords (getD contours n [])
-unfolding outlineRecords
-outline-last h contours n e =
+outline-last : (h : fields.Header) (division : Division) (contours : List (List EdgeSegment)) (n : ℕ) → suc n ≡ length contours
+    → outlineRecords h division contours ≡ outlineRecords h division (take n contours) ++ contourRecords (getD contours n [])
+outline-last h division contours n e =
     let split : take n contours ++ (getD contours n [] ∷ []) ≡ contours =
     sym (take-suc contours n [] (omega arith)) ∙ take-all (suc n) contours (omega arith) in
-    ap (λ (x : List (List EdgeSegment)). header h ∷ flatten (map contourRecords x)) (sym split)
-    ∙ ap (λ (x : List Record). header h ∷ x) (concat-last (take n contours) (getD contours n []))
+    outline-more h division (take n contours) contours (contourRecords (getD contours n []))
+    (ap (λ (x : List (List EdgeSegment)). flatten (map contourRecords x)) (sym split) ∙ concat-last (take n contours) (getD contours n []))
 
 -- from the start of the last contour up to the end of the outline
-span-last : (job : Job) (number at : ℕ) → suc number ≡ length (job .contours) → at ≡ length (recordBytes (outlineRecords (job .header) (job .contours)))
+span-last : (job : Job) (number at : ℕ) → suc number ≡ length (job .contours) → at ≡ length (recordBytes (outlined job))
     → record { start = startIn job number; end = at } ≡ spanIn job number
 unfolding spanIn
 span-last job number at e placed =
-    let h = job .header in
-    let before = outlineRecords h (take number (job .contours)) in
+    let before = outlineRecords (job .header) (job .division) (take number (job .contours)) in
     let own = contourRecords (getD (job .contours) number []) in
     let size : at ≡ length (recordBytes before) + length (recordBytes own) =
-    placed ∙ ap (λ (x : List Record). length (recordBytes x)) (outline-last h (job .contours) number e) ∙ ap length (bytes-append before own)
-    ∙ length-append (recordBytes before) (recordBytes own) in
+    placed ∙ ap (λ (x : List Record). length (recordBytes x)) (outline-last (job .header) (job .division) (job .contours) number e)
+    ∙ ap length (bytes-append before own) ∙ length-append (recordBytes before) (recordBytes own) in
     rw size
 
 -- ---- what was found so far
@@ -147,8 +140,7 @@ module _ (job : Job) (number : ℕ) where
 
   span-more : number < length (job .contours) → spanIn more number ≡ spanIn job number
   unfolding withRecord
-  span-more h = span-same more job number refl (take-append-le number (job .contours) ([] ∷ []) (omega arith))
-      (List·getD-append (job .contours) ([] ∷ []) [] number h)
+  span-more h = span-same more job number (start-more (omega arith)) (List·getD-append (job .contours) ([] ∷ []) [] number h)
 
   module _ (ds : List Float) where
     closed-length : length (withRecord job (distances ds) .contours) ≡ length (job .contours)
@@ -157,7 +149,7 @@ module _ (job : Job) (number : ℕ) where
 
     span-closed : spanIn (withRecord job (distances ds)) number ≡ spanIn job number
     unfolding withRecord
-    span-closed = span-same (withRecord job (distances ds)) job number refl refl refl
+    span-closed = span-same (withRecord job (distances ds)) job number refl refl
 
   module _ (e : EdgeSegment) where
     abbrev with : Job
@@ -173,39 +165,29 @@ module _ (job : Job) (number : ℕ) where
 
     span-with : number + 2 ≤ length (job .contours) → spanIn with number ≡ spanIn job number
     unfolding withRecord
-    span-with h = span-same with job number refl (with-edge-take (job .contours) e number (omega arith)) (with-edge-get (job .contours) e number h)
-
-among-so-far : (phase : Phase) (job : Job) → among phase ≡ true → soFar phase job ≡ outlineRecords (job .header) (job .contours)
-among-so-far phases.Start job h = cc
-among-so-far phases.Outside job h = refl
-among-so-far phases.Inside job h = refl
-among-so-far phases.Closing job h = cc
-
-inside-among : (phase : Phase) → inside phase ≡ true → among phase ≡ true
-inside-among phases.Start h = cc
-inside-among phases.Outside h = cc
-inside-among phases.Inside h = refl
-inside-among phases.Closing h = cc
+    span-with h = span-same with job number (start-with (omega arith)) (with-edge-get (job .contours) e number h)
 
 -- a record more, which starts at a place
 module _ (number : ℕ) (job : Job) (phase : Phase) (by : Strategy) (at : ℕ) (placed : at ≡ length (recordBytes (soFar phase job)))
-    (none : atStart phase ≡ true → job .contours ≡ []) where
-  placed-outline : among phase ≡ true → at ≡ length (recordBytes (outlineRecords (job .header) (job .contours)))
+    (fresh : Fresh phase → Bare job) where
+  placed-outline : among phase ≡ true → at ≡ length (recordBytes (outlined job))
   placed-outline h = placed ∙ ap (λ (x : List Record). length (recordBytes x)) (among-so-far phase job h)
 
-  all-before : length (job .contours) ≤ number → startIn job number ≡ length (recordBytes (outlineRecords (job .header) (job .contours)))
+  all-before : length (job .contours) ≤ number → startIn job number ≡ length (recordBytes (outlined job))
   all-before h = rw (take-all number (job .contours) h)
 
   found-next : (q : Seek) (r : Record) → allowed phase by (recordMark r) ≡ true → closing phase ≡ false → FoundSoFar number job phase q
       → FoundSoFar number (withRecord job r) (phaseAfter phase (itemOf r)) (sought q at (itemOf r))
   unfolding sought
   found-next (Passing left) (header h) may still f = unfold withRecord in f
+  found-next (Passing left) balanced may still f = unfold withRecord in f
   found-next (Passing zero) contour may still f =
       (omega (arith, more-length job number), refl, placed-outline may ∙ sym (start-more job number (omega arith) ∙ all-before (omega arith)))
   found-next (Passing (suc left)) contour may still f = omega (arith, more-length job number)
   found-next (Passing left) (edge e) may still f = omega (arith, with-length job number e)
   found-next (Passing left) (distances ds) may still f = unfold withRecord in f
-  found-next (Open from) (header h) may still f = absurd (omega (arith, ap length (none may)))
+  found-next (Open from) (header h) may still f = absurd (omega (arith, ap length (fresh (inl may) .0)))
+  found-next (Open from) balanced may still f = absurd (omega (arith, ap length (fresh (inr may) .0)))
   found-next (Open from) contour may still f = (
     omega (arith, more-length job number),
     ap (λ (n : ℕ). record { start = n; end = at }) (f .2) ∙ span-last job number at (f .0) (placed-outline may)
@@ -219,7 +201,8 @@ module _ (number : ℕ) (job : Job) (phase : Phase) (by : Strategy) (at : ℕ) (
         ∙ sym (span-closed job number ds),
     inr refl,
   )
-  found-next (Done span) (header h) may still f = absurd (omega (arith, ap length (none may)))
+  found-next (Done span) (header h) may still f = absurd (omega (arith, ap length (fresh (inl may) .0)))
+  found-next (Done span) balanced may still f = absurd (omega (arith, ap length (fresh (inr may) .0)))
   found-next (Done span) contour may still f = (
     omega (arith, more-length job number),
     f .1 ∙ sym (span-more job number (f .0)),
@@ -256,7 +239,7 @@ module _ (file : List ℕ) (number : ℕ) (p : Progress) (q : Seek) (here : Seek
       let at = here .at in
       let r = read .r in
       let may = record-taken file p at r (read .rest) (read .is-next) .may in
-      let found = found-next number (at .job) (p .state .phase) _ (p .at) (at .placed) (at .nothing-yet) q r may (not-closing (p .state) r may) (here .found) in
+      let found = found-next number (at .job) (p .state .phase) _ (p .at) (at .placed) (at .fresh) q r may (not-closing (p .state) r may) (here .found) in
       rw (← read .is-item, ← read .is-size)
       (record {
         at = reached-next file p at r (read .rest) (read .is-next);
@@ -267,7 +250,7 @@ module _ (file : List ℕ) (number : ℕ) (p : Progress) (q : Seek) (here : Seek
 
   pub seeking-end : readRecord (p .state) (drop (p .at) file) ≡ ends → spanOf q (p .at) ≡ placeIn (readJob file) number
   seeking-end e =
-      found-end number (here .at .job) (p .state .phase) Simple (p .at) (here .at .placed) (here .at .nothing-yet) q (here .found)
+      found-end number (here .at .job) (p .state .phase) Simple (p .at) (here .at .placed) (here .at .fresh) q (here .found)
       ∙ ap (λ (r : Reading). placeIn r number) (reached-end file p (here .at) e)
 
   pub seeking-inside : Inside (spanOf q (p .at)) (length file)

@@ -20,19 +20,20 @@ use Rattle.coloring.specs.Limits.{maxContours, maxEdges, maxDistances}
 use Rattle.coloring.specs.Answers.{gives, refusal}
 use Rattle.job.specs.Limits.{maxFile}
 use Rattle.job.specs.declared.records.Phase.{Phase}
-use Rattle.job.specs.declared.records.Phase.the-variants.{Start, Outside, Inside, Closing}
+use Rattle.job.specs.declared.records.Phase.the-variants.{Start, Headed, Outside, Inside, Closing}
 use Rattle.job.specs.declared.records.State.{State}
 use Rattle.job.specs.declared.records.Item.{Item}
 use Rattle.job.specs.declared.progress.Progress.{Progress}
 use Rattle.job.specs.declared.progress.Numbers.{Numbers}
-use Rattle.job.specs.Records.{Record, header, contour, edge, distances, Step, next, ends, fails, atStart, kindOf, inside, among, closing}
-use Rattle.job.specs.Records.{byDistance, recordMark, coordinates, bytesOf, belowMaximum, start, recordSize, itemOf, phaseAfter, counted, readRecord}
-use Rattle.job.specs.Records.{after, _then_, recordsFrom}
+use Rattle.job.specs.Records.{Record, header, balanced, contour, edge, distances, Step, next, ends, fails, atStart, headed, kindOf, inside}
+use Rattle.job.specs.Records.{among, closing, byDistance, recordMark, coordinates, bytesOf, belowMaximum, start, recordSize, itemOf, phaseAfter}
+use Rattle.job.specs.Records.{counted, readRecord, after, recordsFrom}
 use Rattle.job.specs.Job.{Holdable, doubles, recordsOf, recordBytes, fileOf, thresholdOf, Job}
 use Rattle.job.specs.Job.{noJob, withEdge, withRecord, jobFrom, readJob}
 use Rattle.job.specs.Progress.{edgeCount, begin, advanced, numbersOf, CanAdvance}
 use Rattle.job.proofs.progress.ReadyLaws.{Ready}
-use Rattle.job.proofs.progress.SoFarLaws.{bytes-more, soFar, so-far-next, so-far-end, asked-next, nothing-next, floats-doubles, edge-doubles}
+use Rattle.job.proofs.progress.SoFarLaws.{bytes-more, soFar, headed-among, inside-among, Fresh, Bare, so-far-next, so-far-end, asked-next}
+use Rattle.job.proofs.progress.SoFarLaws.{fresh-next, floats-doubles, edge-doubles}
 use Rattle.job.proofs.patterns.PatternLaws.{AreBytes}
 use Rattle.job.proofs.patterns.ByteLaws.{are-dropped}
 use Rattle.job.proofs.records.RecordLaws.{Allowed, controls-few, size-is, size-some}
@@ -65,6 +66,7 @@ more-concat (c ∷ contours) = ap (λ (x : List EdgeSegment). c ++ x) (more-conc
 numbers-next : (job : Job) (r : Record) → Ready job r → counted (numbersOf job) (itemOf r) ≡ numbersOf (withRecord job r)
 unfolding withRecord flatten
 numbers-next job (header h) ready = refl
+numbers-next job balanced ready = refl
 numbers-next job contour ready = rw (length-append (job .contours) ([] ∷ []), more-concat (job .contours))
 numbers-next job (edge e) ready =
     rw (with-edge-length (job .contours) e, with-edge-concat (job .contours) e ready, length-append (flatten (job .contours)) (e ∷ []))
@@ -95,6 +97,12 @@ sound-next : (job : Job) (r : Record) (bytes : List ℕ) → Ready job r → Hel
 unfolding withRecord
 sound-next job (header h) bytes is-ready held fits so =
     record { threshold-fits = fits; coordinates-fit = so .coordinates-fit; distances-few = so .distances-few; distances-valid = so .distances-valid }
+sound-next job balanced bytes is-ready held fits so = record {
+  threshold-fits = so .threshold-fits;
+  coordinates-fit = so .coordinates-fit;
+  distances-few = so .distances-few;
+  distances-valid = so .distances-valid;
+}
 sound-next job contour bytes is-ready held fits so =
     record {
       threshold-fits = so .threshold-fits;
@@ -118,6 +126,8 @@ holdable-next : (job : Job) (r : Record) (bytes : List ℕ) → Ready job r → 
 unfolding withRecord
 holdable-next job (header h) bytes is-ready held are so =
     record { seed = held are .0; threshold = held are .1; coordinates-are = so .coordinates-are; distances-are = so .distances-are }
+holdable-next job balanced bytes is-ready held are so =
+    record { seed = so .seed; threshold = so .threshold; coordinates-are = so .coordinates-are; distances-are = so .distances-are }
 holdable-next job contour bytes is-ready held are so =
     record {
       seed = so .seed;
@@ -139,12 +149,20 @@ holdable-next job (distances ds) bytes is-ready held are so =
 
 -- ---- a place that reading reaches
 
--- the bytes of JB and DS, where they are read
-abbrev pub besides : Phase → ℕ
+-- the most bytes that JB, BL and DS have up to a phase
+abbrev besides : Phase → ℕ
 besides Start = 0
-besides Outside = 19
-besides Inside = 19
-besides Closing = 19 + (4 + 8 * maxDistances)
+besides Headed = 19
+besides Outside = 21
+besides Inside = 21
+besides Closing = 21 + (4 + 8 * maxDistances)
+
+pub besides-most : (phase : Phase) → (besides phase ≤ 16153) × (closing phase ≡ false → besides phase ≤ 21)
+besides-most Start = (omega arith, λ h. omega arith)
+besides-most Headed = (omega arith, λ h. omega arith)
+besides-most Outside = (omega arith, λ h. omega arith)
+besides-most Inside = (omega arith, λ h. omega arith)
+besides-most Closing = (omega arith, λ h. let z : _≡_ {A = ℕ} 0 1 = cc in absurd (omega arith))
 
 pub record Reached (file : List ℕ) (p : Progress) : Type 0 where
   pub job : Job
@@ -157,7 +175,7 @@ pub record Reached (file : List ℕ) (p : Progress) : Type 0 where
   pub contours-fit : length (job .contours) ≤ maxContours
   pub edges-fit : edgeCount (job .contours) ≤ maxEdges
   pub sound : Sound job
-  pub nothing-yet : atStart (p .state .phase) ≡ true → job .contours ≡ []
+  pub fresh : Fresh (p .state .phase) → Bare job
   pub asked : closing (p .state .phase) ≡ true → byDistance (job .header .strategy) ≡ true
   pub placed : p .at ≡ length (recordBytes (soFar (p .state .phase) job))
   pub passed : AreBytes file → take (p .at) file ≡ recordBytes (soFar (p .state .phase) job)
@@ -176,7 +194,7 @@ reached-begin file = record {
   contours-fit = omega arith;
   edges-fit = omega arith;
   sound = sound-begin;
-  nothing-yet = λ h. refl;
+  fresh = λ h. (refl, refl);
   asked = λ h. let z : _≡_ {A = ℕ} 0 1 = cc in absurd (omega arith);
   placed = refl;
   passed = λ are. refl;
@@ -189,6 +207,7 @@ begin-job file = refl
 
 ready : (job : Job) (s : State) (r : Record) → Allowed s (recordMark r) → (inside (s .phase) ≡ true → 0 < length (job .contours)) → Ready job r
 ready job s (header h) may opened = tt
+ready job s balanced may opened = tt
 ready job s contour may opened = tt
 ready job s (edge e) may opened = opened may
 ready job s (distances ds) may opened = tt
@@ -196,31 +215,32 @@ ready job s (distances ds) may opened = tt
 opened-after : (job : Job) (s : State) (r : Record) → Ready job r → inside (phaseAfter (s .phase) (itemOf r)) ≡ true → 0 < length (withRecord job r .contours)
 unfolding withRecord
 opened-after job s (header x) is-ready h = let z : _≡_ {A = ℕ} 0 1 = cc in absurd (omega arith)
+opened-after job s balanced is-ready h = let z : _≡_ {A = ℕ} 0 1 = cc in absurd (omega arith)
 opened-after job s contour is-ready h = rw (length-append (job .contours) ([] ∷ [])) (omega arith)
 opened-after job s (edge e) is-ready h = rw (with-edge-length (job .contours) e) is-ready
 opened-after job s (distances ds) is-ready h = let z : _≡_ {A = ℕ} 0 1 = cc in absurd (omega arith)
 
 pub among-contours : (phase : Phase) → among phase ≡ true → closing phase ≡ false
 among-contours Start h = cc
+among-contours Headed h = refl
 among-contours Outside h = refl
 among-contours Inside h = refl
 among-contours Closing h = cc
 
 pub at-start : (phase : Phase) → atStart phase ≡ true → closing phase ≡ false
 at-start Start h = refl
+at-start Headed h = cc
 at-start Outside h = cc
 at-start Inside h = cc
 at-start Closing h = cc
 
 pub in-contour : (phase : Phase) → inside phase ≡ true → closing phase ≡ false
-in-contour Start h = cc
-in-contour Outside h = cc
-in-contour Inside h = refl
-in-contour Closing h = cc
+in-contour phase h = among-contours phase (inside-among phase h)
 
 -- no record comes after the distances
 pub not-closing : (s : State) (r : Record) → Allowed s (recordMark r) → closing (s .phase) ≡ false
 not-closing s (header x) h = at-start (s .phase) h
+not-closing s balanced h = among-contours (s .phase) (headed-among (s .phase) h)
 not-closing s contour h = among-contours (s .phase) h
 not-closing s (edge e) h = in-contour (s .phase) h
 not-closing s (distances ds) h = among-contours (s .phase) (and-left (among (s .phase)) (byDistance (s .numbers .header .strategy)) h)
@@ -229,6 +249,7 @@ none-after : (job : Job) (s : State) (r : Record) → Allowed s (recordMark r) �
     → closing (phaseAfter (s .phase) (itemOf r)) ≡ false → withRecord job r .distances ≡ []
 unfolding withRecord
 none-after job s (header x) may none h = none (not-closing s (header x) may)
+none-after job s balanced may none h = none (not-closing s balanced may)
 none-after job s contour may none h = none (not-closing s contour may)
 none-after job s (edge e) may none h = none h
 none-after job s (distances ds) may none h = cc
@@ -237,6 +258,7 @@ contours-after : (job : Job) (s : State) (r : Record) → s .numbers .contours �
     → length (job .contours) ≤ maxContours → length (withRecord job r .contours) ≤ maxContours
 unfolding withRecord
 contours-after job s (header x) e h few = few
+contours-after job s balanced e h few = few
 contours-after job s contour e h few = rw (length-append (job .contours) ([] ∷ [])) (omega (arith, ltb-true (s .numbers .contours) 64 h))
 contours-after job s (edge x) e h few = rw (with-edge-length (job .contours) x) few
 contours-after job s (distances ds) e h few = few
@@ -245,6 +267,7 @@ edges-after : (job : Job) (s : State) (r : Record) → Ready job r → s .number
     → belowMaximum (s .numbers) (recordMark r) ≡ true → edgeCount (job .contours) ≤ maxEdges → edgeCount (withRecord job r .contours) ≤ maxEdges
 unfolding withRecord flatten
 edges-after job s (header x) is-ready e h few = few
+edges-after job s balanced is-ready e h few = few
 edges-after job s contour is-ready e h few = rw (more-concat (job .contours)) few
 edges-after job s (edge x) is-ready e h few =
     rw (with-edge-concat (job .contours) x is-ready, length-append (flatten (job .contours)) (x ∷ [])) (omega (arith, ltb-true (s .numbers .edges) 256 h))
@@ -252,15 +275,13 @@ edges-after job s (distances ds) is-ready e h few = few
 
 record-few : (bytes : List ℕ) (r : Record) → Held r bytes → recordSize r ≤ 4 + 8 * maxDistances
 record-few bytes (header h) k = omega (arith, size-is (header h))
+record-few bytes balanced k = omega (arith, size-is balanced)
 record-few bytes contour k = omega (arith, size-is contour)
 record-few bytes (edge e) k = omega (arith, size-is (edge e), controls-few (kindOf e))
 record-few bytes (distances ds) k = omega (arith, size-is (distances ds), k .0)
 
-among-besides : (phase : Phase) → among phase ≡ true → besides phase ≡ 19
-among-besides Start h = cc
-among-besides Outside h = refl
-among-besides Inside h = refl
-among-besides Closing h = cc
+among-besides : (phase : Phase) → among phase ≡ true → besides phase ≤ 21
+among-besides phase h = besides-most phase .1 (among-contours phase h)
 
 size-after : (job : Job) (s : State) (at : ℕ) (r : Record) → Ready job r → Allowed s (recordMark r) → recordSize r ≤ 4 + 8 * maxDistances
     → at ≤ besides (s .phase) + 2 * length (job .contours) + 66 * edgeCount (job .contours)
@@ -270,9 +291,18 @@ size-after job s at (header x) is-ready may few h = omega (arith, size-is (heade
   where
     start : (phase : Phase) → atStart phase ≡ true → besides phase ≡ 0
     start Start h = refl
+    start Headed h = cc
     start Outside h = cc
     start Inside h = cc
     start Closing h = cc
+size-after job s at balanced is-ready may few h = omega (arith, size-is balanced, header-only (s .phase) may)
+  where
+    header-only : (phase : Phase) → headed phase ≡ true → besides phase ≡ 19
+    header-only Start h = cc
+    header-only Headed h = refl
+    header-only Outside h = cc
+    header-only Inside h = cc
+    header-only Closing h = cc
 size-after job s at contour is-ready may few h = rw (length-append (job .contours) ([] ∷ []), more-concat (job .contours))
     (omega (arith, size-is contour, among-besides (s .phase) may))
 size-after job s at (edge e) is-ready may few h =
@@ -319,17 +349,11 @@ module _ (file : List ℕ) (p : Progress) (at : Reached file p) (r : Record) (re
   abbrev pub onward : Progress
   onward = advanced p (itemOf r) (recordSize r)
 
-  -- the records from here are this one and those from the next place
-  pub records-ahead : recordsFrom (p .state) (drop (p .at) file) ≡ r then recordsFrom (onward .state) (drop (onward .at) file)
-  records-ahead =
-      let beyond : rest ≡ drop (p .at + recordSize r) file = record-taken .beyond ∙ drop-drop (recordSize r) (p .at) file in
-      records-next (p .state) (drop (p .at) file) r rest e ∙ rw beyond
-
   strategy-is : p .state .numbers .header .strategy ≡ at .job .header .strategy
   strategy-is = ap (λ (n : Numbers). n .header .strategy) (at .numbers-are)
 
   further-records : soFar (phaseAfter (p .state .phase) (itemOf r)) (withRecord (at .job) r) ≡ soFar (p .state .phase) (at .job) ++ (r ∷ [])
-  further-records = so-far-next (at .job) (p .state .phase) _ r (record-taken .may) is-ready (at .nothing-yet)
+  further-records = so-far-next (at .job) (p .state .phase) _ r (record-taken .may) is-ready (at .fresh)
 
   -- what is taken off is the bytes of the record
   here-bytes : AreBytes file → take (recordSize r) (drop (p .at) file) ≡ bytesOf r
@@ -347,7 +371,7 @@ module _ (file : List ℕ) (p : Progress) (at : Reached file p) (r : Record) (re
     contours-fit = contours-after (at .job) (p .state) r contours-are (record-taken .room) (at .contours-fit);
     edges-fit = edges-after (at .job) (p .state) r is-ready edges-are (record-taken .room) (at .edges-fit);
     sound = sound-next (at .job) r (drop (p .at) file) is-ready (record-taken .held) (record-taken .in-range) (at .sound);
-    nothing-yet = nothing-next (p .state .phase) _ r _ (record-taken .may);
+    fresh = fresh-next (at .job) (p .state .phase) _ r (record-taken .may) is-ready (at .fresh);
     asked = asked-next (at .job) (p .state .phase) _ r strategy-is (record-taken .may) (at .asked);
     placed = rw (further-records, bytes-more (soFar (p .state .phase) (at .job)) r, length-append) (ap (λ (n : ℕ). n + recordSize r) (at .placed));
     passed = λ are. take-add (p .at) (recordSize r) file ∙ rw
@@ -437,18 +461,12 @@ bytes-few file job e =
     omega (
       arith,
       end .at .sized,
-      most (p .state .phase),
+      besides-most (p .state .phase) .0,
       end .at .contours-fit,
       end .at .edges-fit,
       end-size (p .state) (drop (p .at) file) (end .at-end),
       length-drop (p .at) file,
     )
-  where
-    most : (phase : Phase) → besides phase ≤ 16151
-    most Start = omega arith
-    most Outside = omega arith
-    most Inside = omega arith
-    most Closing = omega arith
 
 -- ---- a file that is read is the file of its job, which it can hold
 

@@ -18,8 +18,8 @@ use Rattle.job.specs.declared.records.State.{State}
 use Rattle.job.specs.declared.records.Item.{Item}
 use Rattle.job.specs.declared.progress.Progress.{Progress}
 use Rattle.job.specs.Patterns.{words, floats}
-use Rattle.job.specs.Records.{Record, header, contour, edge, distances, Step, next, ends, fails, controls, kindOf, edgeOf, itemOf, closing}
-use Rattle.job.specs.Records.{recordMark, recordSize, readRecord, after, Records, complete, fault, _then_, recordsFrom}
+use Rattle.job.specs.Records.{Record, header, balanced, contour, edge, distances, Step, next, ends, fails, controls, kindOf, edgeOf, itemOf}
+use Rattle.job.specs.Records.{closing, recordMark, recordSize, readRecord, after, Records, complete, fault, _then_, recordsFrom}
 use Rattle.job.specs.Job.{Job, withEdge, withRecord, Reading, jobFrom, readJob}
 use Rattle.job.specs.Progress.{edgeCount, numbersOf, begin, advanced}
 use Rattle.job.specs.Reader.{Fits, filled}
@@ -40,6 +40,7 @@ with-record-grows : (job : Job) (r : Record)
     → (length (job .contours) ≤ length (withRecord job r .contours)) × (edgeCount (job .contours) ≤ edgeCount (withRecord job r .contours))
 unfolding withRecord withEdge flatten
 with-record-grows job (header h) = (omega arith, omega arith)
+with-record-grows job balanced = (omega arith, omega arith)
 with-record-grows job contour = (omega (arith, length-append (job .contours) ([] ∷ [])), omega (arith, ap length (more-concat (job .contours))))
 with-record-grows job (edge e) = (omega (arith, with-edge-length (job .contours) e), more (job .contours))
   where
@@ -189,6 +190,7 @@ module _ (job : Job) (old : Buffers) (s : State) (bytes : List ℕ)
       → Fitting (storedJob (withRecord job r)) old
       → written (itemOf r) (s .numbers) bytes (overEach (storedJob job) old) ≡ overEach (storedJob (withRecord job r)) old
   written-next (header h) rest t ready none fit = unfold written overEach storedJob withRecord in refl
+  written-next balanced rest t ready none fit = unfold written overEach storedJob withRecord in refl
   written-next contour rest t ready none fit = written-contour fit
   written-next (edge e) rest t ready none fit = written-edge e ready fit (t .held)
   written-next (distances ds) rest t ready none fit = written-distances ds (none (not-closing s (distances ds) (t .may))) (t .held .1)
@@ -230,6 +232,7 @@ module _ (job : Job) (old : Buffers) (s : State) (bytes : List ℕ)
       → edgeCount contours ≤ maxEdges → Fitting (storedJob (withRecord job r)) old
       → RecordFits (itemOf r) (s .numbers) bytes (overEach (storedJob job) old)
   room-next (header h) rest t ready none few fit = tt
+  room-next balanced rest t ready none few fit = tt
   room-next contour rest t ready none few fit = room-contour fit
   room-next (edge e) rest t ready none few fit = room-edge e ready few (omega (arith, t .whole, size-is (edge e))) fit
   room-next (distances ds) rest t ready none few fit = room-distances ds (none (not-closing s (distances ds) (t .may)))
@@ -241,6 +244,7 @@ distances-so-far : (job whole : Job) (s : State) (bytes rest : List ℕ) (r : Re
     → jobFrom (withRecord job r) (recordsFrom (after s (itemOf r)) rest) ≡ gives whole → length (withRecord job r .distances) ≤ length (whole .distances)
 unfolding withRecord
 distances-so-far job whole s bytes rest (header h) may none e = omega (arith, ap length (none (not-closing s (header h) may)))
+distances-so-far job whole s bytes rest balanced may none e = omega (arith, ap length (none (not-closing s balanced may)))
 distances-so-far job whole s bytes rest contour may none e = omega (arith, ap length (none (not-closing s contour may)))
 distances-so-far job whole s bytes rest (edge x) may none e = omega (arith, ap length (none (not-closing s (edge x) may)))
 distances-so-far job whole s bytes rest (distances ds) may none e =

@@ -17,7 +17,7 @@ use Rattle.job.specs.declared.records.Kind.the-variants.{Line, Quadratic
 use Rattle.job.specs.declared.records.Mark.{Mark}
 use Rattle.job.specs.declared.records.Marked.the-variants.{Known}
 use Rattle.job.specs.Patterns.{number, little, words, floats, floatBytes, isCoordinate, isDistance}
-use Rattle.job.specs.Records.{Record, header, contour, edge, distances, letters, markAmong, marks, markOf, strategyNumber, strategyOf}
+use Rattle.job.specs.Records.{Record, header, edge, distances, letters, markAmong, marks, markOf, strategyNumber, strategyOf}
 use Rattle.job.specs.Records.{knownStrategy, controls, edgeOf, recordMark, fieldsOf, bytesOf}
 use Rattle.job.proofs.patterns.PatternLaws.{AreBytes, number-below, floats-length}
 use Rattle.job.proofs.patterns.ByteLaws.{are-taken, are-dropped, little-taken, coordinates-back, distances-back}
@@ -105,10 +105,6 @@ module _ (bytes : List ℕ) (are : AreBytes bytes) where
       let all : getD body 0 0 ∷ drop 1 body ≡ body = sym (drop-cons body 0 0 (omega arith)) in
       rw (header-fields, strategy-back (getD body 0 0) known, seed, threshold, last, split)
       (ap (λ (x : List ℕ). x ++ drop 17 bytes) all ∙ take-append-drop 17 bytes)
-
-  pub contour-bytes : fieldsOf contour ++ bytes ≡ bytes
-  unfolding fieldsOf
-  contour-bytes = refl
 
   floats-fields : (n : ℕ) → 8 * n ≤ length bytes → all isCoordinate (words n (take (8 * n) bytes)) ≡ true
       → floatBytes (floats (words n (take (8 * n) bytes))) ++ drop (8 * n) bytes ≡ bytes

@@ -21,22 +21,22 @@ use Rattle.coloring.specs.Limits.{maxDistances}
 use Rattle.job.specs.declared.records.Kind.{Kind}
 use Rattle.job.specs.declared.records.Kind.the-variants.{Line, Quadratic, Cubic}
 use Rattle.job.specs.declared.records.Mark.{Mark}
-use Rattle.job.specs.declared.records.Mark.the-variants.{Header, Contour, Edge, Distances, End}
+use Rattle.job.specs.declared.records.Mark.the-variants.{Header, Balanced, Contour, Edge, Distances, End}
 use Rattle.job.specs.declared.records.Marked.{Marked}
 use Rattle.job.specs.declared.records.Marked.the-variants.{Known, Unknown}
 use Rattle.job.specs.declared.records.Header as fields
 use Rattle.job.specs.declared.records.State.{State}
 use Rattle.job.specs.declared.records.Item.{Item}
 use Rattle.job.specs.Patterns.{number, words, floats, isThreshold, isCoordinate, isDistance}
-use Rattle.job.specs.Records.{strategyOf, recordMark, marked, bytesOf, Record, header, contour, edge, distances, Step, next, ends, fails}
-use Rattle.job.specs.Records.{stepIf, knownStrategy, controls, bodySize, allowed, belowMaximum, kindOf, edgeOf, recordSize, itemOf, markOf}
+use Rattle.job.specs.Records.{strategyOf, recordMark, marked, fieldsOf, bytesOf, Record, header, balanced, contour, edge, distances, Step, next, ends}
+use Rattle.job.specs.Records.{fails, stepIf, knownStrategy, controls, bodySize, allowed, belowMaximum, kindOf, edgeOf, recordSize, itemOf, markOf}
 use Rattle.job.specs.Records.{finds, finished, faulty, foundOf}
 use Rattle.job.specs.Records.{readHeader, readEdge, readDistances, readEnd, readBody, readMarked, readRecord, after, Records, complete, fault}
 use Rattle.job.specs.Records.{_then_, recordsWithin, recordsFrom}
 use Rattle.job.specs.Job.{thresholdOf}
 use Rattle.job.proofs.patterns.PatternLaws.{AreBytes, floats-length}
 use Rattle.job.proofs.patterns.PatternMeaning.{threshold-means, coordinate-means, distance-below, distance-means}
-use Rattle.job.proofs.records.BytesLaws.{Lettered, letters-of, marked-bytes, header-below, header-bytes, contour-bytes, edge-bytes, distances-bytes}
+use Rattle.job.proofs.records.BytesLaws.{Lettered, letters-of, marked-bytes, header-below, header-bytes, edge-bytes, distances-bytes}
 use Rattle.job.proofs.records.RecordLaws.{Allowed, kind-of-edge, size-is, size-some}
 
 -- ---- a record that was read
@@ -44,6 +44,7 @@ use Rattle.job.proofs.records.RecordLaws.{Allowed, kind-of-edge, size-i
 -- the floats of a record are those of its bytes, and its distances are not too many
 abbrev pub Held : Record → List ℕ → Type 0
 Held (header h) bytes = AreBytes bytes → (h .seed < 2 ^ 64) × (h .threshold < 2 ^ 64)
+Held balanced bytes = Unit
 Held contour bytes = Unit
 Held (edge e) bytes = e ≡ edgeOf (kindOf e) (floats (words (2 * controls (kindOf e)) (take (16 * controls (kindOf e)) (drop 2 bytes))))
 Held (distances ds) bytes = (length ds ≤ maxDistances) × (ds ≡ floats (words (length ds) (drop 4 bytes)))
@@ -55,6 +56,7 @@ edgeFits e = all inRange (take (usedPlaces (toStored e .kind)) (toStored e .poin
 -- the floats of a record lie within their ranges
 abbrev pub InRange : Record → Type 0
 InRange (header h) = between (Ieee.neg f1) (thresholdOf h) f1 ≡ true
+InRange balanced = Unit
 InRange contour = Unit
 InRange (edge e) = edgeFits e ≡ true
 InRange (distances ds) = distancesValid ds ≡ true
@@ -142,6 +144,19 @@ module _ (s : State) (a b : ℕ) (bytes : List ℕ) where
         in-range = threshold-fits h within;
       }))
 
+  -- a mark alone
+  alone-taken : (r : Record) → Lettered a b (recordMark r) → Allowed s (recordMark r) → belowMaximum (s .numbers) (recordMark r) ≡ true
+      → fieldsOf r ≡ [] → recordSize r ≡ 2 → Held r all-bytes → InRange r → Taken s all-bytes r bytes
+  alone-taken r l may room none takes held fits = record {
+    may = may;
+    room = room;
+    whole = omega (arith, takes);
+    beyond = rw takes;
+    held = held;
+    is-bytes = λ are. marked-bytes a b bytes bytes r l (rw none);
+    in-range = fits;
+  }
+
   edge-taken : (kind : Kind) → Lettered a b (Edge kind) → Allowed s (Edge kind) → belowMaximum (s .numbers) (Edge kind) ≡ true
       → 16 * controls kind ≤ length bytes
       → OfStep s all-bytes (readEdge kind (take (16 * controls kind) bytes) (drop (16 * controls kind) bytes))
@@ -189,17 +204,10 @@ module _ (s : State) (a b : ℕ) (bytes : List ℕ) where
 
   body-taken : (mark : Mark) → Lettered a b mark → Allowed s mark → belowMaximum (s .numbers) mark ≡ true → bodySize mark ≤ length bytes
       → OfStep s all-bytes (readBody mark (take (bodySize mark) bytes) (drop (bodySize mark) bytes))
-  unfolding readBody
+  unfolding readBody fieldsOf
   body-taken Header l may room whole = header-taken l may room whole
-  body-taken Contour l may room whole = record {
-    may = may;
-    room = room;
-    whole = omega (arith, size-is contour);
-    beyond = rw (size-is contour);
-    held = tt;
-    is-bytes = λ are. marked-bytes a b bytes bytes contour l (contour-bytes bytes (after-letters are));
-    in-range = tt;
-  }
+  body-taken Balanced l may room whole = alone-taken balanced l may room refl (size-is balanced) tt tt
+  body-taken Contour l may room whole = alone-taken contour l may room refl (size-is contour) tt tt
   body-taken (Edge kind) l may room whole = edge-taken kind l may room whole
   body-taken Distances l may room whole = distances-taken l may whole
   body-taken End l may room whole = end-taken s a b bytes l may

@@ -19,8 +19,8 @@ use Rattle.job.specs.declared.records.Marked.the-variants.{Known}
 use borrow.Author.Tests.{le-leb}
 use Rattle.job.specs.declared.records.Item.the-variants as item
 use Rattle.job.specs.Patterns.{number, words, floats, isThreshold, isCoordinate, isDistance}
-use Rattle.job.specs.Records.{Record, header, contour, edge, distances, next, fails, stepIf, knownStrategy, strategyOf, recordMark}
-use Rattle.job.specs.Records.{coordinates, bytesOf, recordSize, controls, allowed, belowMaximum, headerSize, bodySize}
+use Rattle.job.specs.Records.{Record, header, balanced, contour, edge, distances, next, fails, stepIf, knownStrategy, strategyOf}
+use Rattle.job.specs.Records.{recordMark, coordinates, bytesOf, recordSize, controls, allowed, belowMaximum, headerSize, bodySize}
 use Rattle.job.specs.Records.{markOf, readBody, readMarked, readRecord}
 use Rattle.job.specs.Records.{finds, finished, faulty, foundOf, readHeader, readEdge, readDistances, readEnd, kindOf, edgeOf}
 use Rattle.job.proofs.patterns.PatternLaws.{floats-length, float-bytes-length}
@@ -86,6 +86,7 @@ controls-few Cubic = omega arith
 -- how many of a record's bytes come after those that its mark asks for
 abbrev pub beyondBody : Record → ℕ
 beyondBody (header h) = 0
+beyondBody balanced = 0
 beyondBody contour = 0
 beyondBody (edge e) = 0
 beyondBody (distances ds) = 8 * length ds
@@ -93,6 +94,7 @@ beyondBody (distances ds) = 8 * length ds
 pub size-is : (r : Record) → recordSize r ≡ 2 + (bodySize (recordMark r) + beyondBody r)
 unfolding bytesOf
 size-is (header h) = refl
+size-is balanced = refl
 size-is contour = refl
 size-is (edge (segment.Line p0 p1)) = refl
 size-is (edge (segment.Quadratic p0 p1 p2)) = refl

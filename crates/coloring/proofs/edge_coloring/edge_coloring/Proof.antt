@@ -47,12 +47,12 @@ module _ (settings : Settings) (o : Outline) (distances : List Float) where
 
   refused : (old : Result) {number : ℕ} → firstRefusal checks ≡ refusal number → outcome (refusal number) old ≡ edgeColoring settings o distances old
   unfolding edgeColoring
-  refused old e = found-failed (settings .marking) distances found old checks e
+  refused old e = found-failed settings distances found old checks e
 
   goes-on : (old : Result) {flagged : Found} → firstRefusal checks ≡ allPass → flagged ≡ found
-      → deliverFound [] (settings .marking) distances flagged old ≡ edgeColoring settings o distances old
+      → deliverFound [] settings distances flagged old ≡ edgeColoring settings o distances old
   unfolding edgeColoring
-  goes-on old e found-are = rw found-are (sym (found-passed (settings .marking) distances found old checks e))
+  goes-on old e found-are = rw found-are (sym (found-passed settings distances found old checks e))
 
 abbrev old : tie.Start → Result
 old s = result (s .args .out-lengths .now) (s .args .out-kinds .now) (s .args .out-points .now) (s .args .out-colors .now)

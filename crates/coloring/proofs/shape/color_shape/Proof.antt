@@ -111,7 +111,7 @@ returns : tie.Need-returns
 returns c =
     let valued = c .before .before .before .before in
     let s = s valued in
-    values-failed (marking valued) (s .args .distances .now) (given s) (old s) (sym (answer valued) ∙ ap checkedAnswer (c .before .checked .given .1))
+    values-failed (s .args .settings) (s .args .distances .now) (given s) (old s) (sym (answer valued) ∙ ap checkedAnswer (c .before .checked .given .1))
 
 array-share-prefix-values : tie.Need-array-share-prefix-values
 array-share-prefix-values c = within (c .before .before .before)
@@ -139,7 +139,7 @@ returns-2 c =
     let split =
     values-laid (marking valued) (s .args .distances .now) (found s) (cut-flagged (s .args .lengths .now) (edges s) (s .args .flags .now) (flagged s)) in
     (rw (counted valued .count-shape .ensures .1) at (painted .paint-shape .ensures))
-    ∙ values-passed (marking valued) (s .args .distances .now) (given s) (old s) (sym (answer valued) ∙ ap checkedAnswer passed)
+    ∙ values-passed (s .args .settings) (s .args .distances .now) (given s) (old s) (sym (answer valued) ∙ ap checkedAnswer passed)
     (front valued ∙ valued .spline-values .ensures .1 passed ∙ sym split)
 
 pub color-shape-spec : {M : Type 1} → statement M

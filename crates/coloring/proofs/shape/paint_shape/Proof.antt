@@ -32,7 +32,8 @@ flagged c = c .pre .0 .matching .flagged ∙ sym (edges-length (c .args .kinds .
 
 abbrev written : tie.Start → Result
 written c =
-    painted (middleValue (c .args .settings .marking)) (c .args .values .now) (laidOut (c .args .lengths .now) (edges c) (c .args .flags .now))
+    let a = c .args in
+    painted (a .settings .division) (middleValue (a .settings .marking)) (a .values .now) (laidOut (a .lengths .now) (edges c) (a .flags .now))
 
 module _ (c : tie.After-has-room) where
   abbrev known : tie.After-slice-known
@@ -48,7 +49,7 @@ module _ (c : tie.After-has-room) where
   fit : resultFits (written start) (old start) ≡ c .has-room .result
   fit =
       let a = start .args in
-      sized-fits (old start) (counted-sized (a .lengths .now) (edges start) (a .flags .now) (a .counts) (flagged start) (start .pre .1 .0) _ _)
+      sized-fits (old start) (counted-sized (a .lengths .now) (edges start) (a .flags .now) (a .counts) (flagged start) (start .pre .1 .0) _ _ _)
       ∙ sym (c .has-room .ensures)
 
 -- there is room
@@ -168,7 +169,7 @@ returns-2 c =
     let b = began laid in
     let a = b .args in
     painted-delivered (a .lengths .now) (edges b) (a .flags .now) (a .counts) (flagged b) (b .pre .1 .0) (laid .lay-out .ensures)
-    (middleValue (a .settings .marking)) (a .values .now) (a .out-colors .now) (fitting (branch laid)) (middle .middle-value .ensures)
+    (a .settings .division) (middleValue (a .settings .marking)) (a .values .now) (a .out-colors .now) (fitting (branch laid)) (middle .middle-value .ensures)
     (paint .paint-contours .ensures) refl
 
 pub paint-shape-spec : {M : Type 1} → statement M

@@ -40,7 +40,7 @@ returns : tie.Need-returns
 returns c =
     let start = c .before .before .before .before in
     let none = c .if1 .taken in
-    length-zero (start .args .out .now) (start .pre .room ∙ none) ∙ sym (length-zero _ (paint-length _ _ (start .args .flags .now) ∙ none))
+    length-zero (start .args .out .now) (start .pre .room ∙ none) ∙ sym (length-zero _ (paint-length _ _ _ (start .args .flags .now) ∙ none))
 
 shared-slice-read-paint-runs : tie.Need-shared-slice-read-paint-runs
 shared-slice-read-paint-runs c = omega (arith, two (c .before .before))
@@ -64,7 +64,7 @@ returns-2 c =
     let values = start .args .values .now in
     let h = two branch in
     rw (
-      paint-one _ _ _ (eq-eqb _ _ (one branch)),
+      paint-one _ _ _ _ (eq-eqb _ _ (one branch)),
       getD-any values 0 (start .args .middle) 0 (omega arith),
       getD-any values 1 (start .args .middle) 0 (omega arith),
     )
@@ -78,7 +78,7 @@ returns-3 c =
     let branch = c .before .before .before .before in
     let start = start (branch .before) in
     let values = start .args .values .now in
-    rw (paint-spread _ _ _ (not-one branch), getD-any values (length values - 1) (start .args .middle) 0 (omega (arith, values-some branch)))
+    rw (paint-spread _ _ _ _ (not-one branch), getD-any values (length values - 1) (start .args .middle) 0 (omega (arith, values-some branch)))
     (c .before .before .spread .ensures)
 
 pub paint-spec : {M : Type 1} → statement M

@@ -6,6 +6,7 @@ use mathlib.Core.List.{List, _++_, flatten, append-assoc, append-nil}
 use Prim.Native.Nat.{ℕ, _+_, _-_, _≤_, _<_}
 use lib.ListN.{length, getD, take, drop}
 use lib.Seq.{take-all, drop-drop}
+use Rattle.coloring.specs.declared.settings.Division.{Division}
 use Rattle.coloring.specs.Splines.{splineCount, paint, paintContours}
 use Rattle.coloring.specs.Outline.{cut}
 use Rattle.coloring.proofs.outline.CheckLaws.{total-end}
@@ -15,22 +16,22 @@ use Rattle.coloring.proofs.splines.paint_contours.Tie as tie
 
 -- i contours are painted: the places before `at` hold their bytes, and the values from place `from` on are those of the
 -- others
-record Painting (lengths : List ℕ) (flags : List Bool) (middle : ℕ) (values out : List ℕ) (at from i : ℕ) : Type 0 where
+record Painting (division : Division) (lengths : List ℕ) (flags : List Bool) (middle : ℕ) (values out : List ℕ) (at from i : ℕ) : Type 0 where
   pub passed : ContoursPassed lengths (length flags) at i
   pub long : length out ≡ length flags
   pub splines : from + left splineCount lengths flags i at ≡ length values
-  pub bytes : flatten (paintContours middle values (cut lengths flags))
-      ≡ take at out ++ flatten (paintContours middle (drop from values) (cut (drop i lengths) (drop at flags)))
+  pub bytes : flatten (paintContours division middle values (cut lengths flags))
+      ≡ take at out ++ flatten (paintContours division middle (drop from values) (cut (drop i lengths) (drop at flags)))
 
-module _ (lengths : List ℕ) (flags : List Bool) (middle : ℕ) (values out : List ℕ) (at from i : ℕ)
-    (s : Painting lengths flags middle values out at from i) (h : i < length lengths) where
+module _ (division : Division) (lengths : List ℕ) (flags : List Bool) (middle : ℕ) (values out : List ℕ) (at from i : ℕ)
+    (s : Painting division lengths flags middle values out at from i) (h : i < length lengths) where
   abbrev next-part : List Bool
   next-part = take (getD lengths i 0) (drop at flags)
 
   -- the next contour, with k splines, is painted
   painting-next : {k : ℕ} {out' : List ℕ} → k ≡ splineCount next-part → length out' ≡ length out
-      → take (at + getD lengths i 0) out' ≡ take at out ++ paint middle (take (from + k - from) (drop from values)) next-part
-      → Painting lengths flags middle values out' (at + getD lengths i 0) (from + k) (i + 1)
+      → take (at + getD lengths i 0) out' ≡ take at out ++ paint division middle (take (from + k - from) (drop from values)) next-part
+      → Painting division lengths flags middle values out' (at + getD lengths i 0) (from + k) (i + 1)
   unfolding paintContours flatten
   painting-next {k} counted same painted =
       let own : from + k - from ≡ k = omega arith in
@@ -42,10 +43,10 @@ module _ (lengths : List ℕ) (flags : List Bool) (middle : ℕ) (values out : L
       }
 
 abbrev Inv-loop : tie.InvT-loop
-Inv-loop lengths flags middle values out₀ at₀ from₀ i₀ out at from i = Painting lengths flags middle values out at from i
+Inv-loop division lengths flags middle values out₀ at₀ from₀ i₀ out at from i = Painting division lengths flags middle values out at from i
 
 abbrev μ-loop : tie.MeasureT-loop
-μ-loop lengths flags middle values out₀ at₀ from₀ i₀ out at from i = length lengths - i
+μ-loop division lengths flags middle values out₀ at₀ from₀ i₀ out at from i = length lengths - i
 
 abbrev begun : tie.At-loop Inv-loop μ-loop → tie.Start Inv-loop μ-loop
 begun c = c .before .before .before .before .before
@@ -129,7 +130,7 @@ loop-again c =
     let splines = done .before .before in
     let turn = turn splines in
     let s = turn .before .loop in
-    painting-next _ _ _ _ _ _ _ _ (s .inv) (turn .loop-test .taken) (counted splines) (done .paint-part .kept .1 .1 .1 .1 .1 .1 .1 .0)
+    painting-next _ _ _ _ _ _ _ _ _ (s .inv) (turn .loop-test .taken) (counted splines) (done .paint-part .kept .1 .1 .1 .1 .1 .1 .1 .1 .0)
     (rw (whole turn) at (done .paint-part .ensures))
 
 same-length : tie.Need-same-length Inv-loop μ-loop

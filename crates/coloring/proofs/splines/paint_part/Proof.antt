@@ -30,8 +30,8 @@ returns c =
     let start = start (painted .before .before .before .before) in
     let a = start .args in
     let flags = take (a .end - a .at) (drop (a .at) (a .flags .now)) in
-    let bytes = paint (a .middle) (take (a .to - a .from) (drop (a .from) (a .values .now))) flags in
-    let long : length bytes ≡ a .end - a .at = paint-length _ _ flags ∙ simp (length-take, length-drop) (omega arith) in
+    let bytes = paint (a .division) (a .middle) (take (a .to - a .from) (drop (a .from) (a .values .now))) flags in
+    let long : length bytes ≡ a .end - a .at = paint-length _ _ _ flags ∙ simp (length-take, length-drop) (omega arith) in
     rw (painted .paint .ensures) (part-front (a .at) (a .end - a .at) (a .end) bytes _ (a .out .now) long (omega (arith, start .pre .0 .3)) (omega arith))
 
 pub paint-part-spec : {M : Type 1} → statement M

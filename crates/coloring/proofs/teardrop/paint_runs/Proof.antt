@@ -10,29 +10,30 @@ use mir.Val.{toZ, ofZ}
 use mir.Facts.{toZ-ofZ}
 use Rattle.coloring.specs.Lists.{range, length-range}
 use Rattle.coloring.proofs.Lists.{getD-range}
-use Rattle.coloring.specs.Trichotomy.{symmetricalTrichotomy}
+use Rattle.coloring.specs.declared.settings.Division.{Division}
+use Rattle.coloring.specs.Trichotomy.{thirdBy}
 use Rattle.coloring.specs.Teardrop.{thirdOf, runs}
 use Rattle.coloring.proofs.Lists.{getD-mapped}
 use Rattle.coloring.proofs.Places.{Walked, walked-none, walked-more, walked-all}
 use Rattle.coloring.proofs.teardrop.paint_runs.Statement.{statement}
 use Rattle.coloring.proofs.teardrop.paint_runs.Tie as tie
 
-module _ (first middle last m : ℕ) where
-  size : length (runs first middle last m) ≡ m
+module _ (division : Division) (first middle last m : ℕ) where
+  size : length (runs division first middle last m) ≡ m
   unfolding runs
   size = length-map (range 0 m) _ ∙ length-range 0 m
 
-  at : (i : ℕ) → i < m → getD (runs first middle last m) i 0 ≡ thirdOf first middle last (symmetricalTrichotomy i m)
+  at : (i : ℕ) → i < m → getD (runs division first middle last m) i 0 ≡ thirdOf first middle last (thirdBy division i m)
   unfolding runs
   at i h =
-      getD-mapped (λ i. thirdOf first middle last (symmetricalTrichotomy i m)) (range 0 m) i 0 0 (rw length-range h)
-      ∙ ap (λ (j : ℕ). thirdOf first middle last (symmetricalTrichotomy j m)) (getD-range 0 m i 0 h ∙ zero-add i)
+      getD-mapped (λ i. thirdOf first middle last (thirdBy division i m)) (range 0 m) i 0 0 (rw length-range h)
+      ∙ ap (λ (j : ℕ). thirdOf first middle last (thirdBy division j m)) (getD-range 0 m i 0 h ∙ zero-add i)
 
 abbrev Inv-loop : tie.InvT-loop
-Inv-loop corner first middle last out₀ m i₀ out i = (i ≤ m) × Walked corner m (runs first middle last m) 0 out i
+Inv-loop division corner first middle last out₀ m i₀ out i = (i ≤ m) × Walked corner m (runs division first middle last m) 0 out i
 
 abbrev μ-loop : tie.MeasureT-loop
-μ-loop corner first middle last out₀ m i₀ out i = m - i
+μ-loop division corner first middle last out₀ m i₀ out i = m - i
 
 loop-holds : tie.Need-loop-holds Inv-loop μ-loop
 loop-holds c = (omega arith, walked-none _ _ _ _ refl)
@@ -57,13 +58,13 @@ loop-again c =
     let a = c .before .before .before .before .before .args in
     let i = c .before .before .before .loop .i in
     let m = length (a .out .now) in
-    let third = c .before .symmetrical-trichotomy in
+    let third = c .before .third-by in
     let thirds : c .third-of .result ≡ thirdOf (a .first) (a .middle) (a .last) (toZ w32 (ofZ w32 (third .result))) = c .third-of .ensures in
-    let value : c .third-of .result ≡ thirdOf (a .first) (a .middle) (a .last) (symmetricalTrichotomy i m) =
+    let value : c .third-of .result ≡ thirdOf (a .first) (a .middle) (a .last) (thirdBy (a .division) i m) =
     thirds ∙ ap (thirdOf (a .first) (a .middle) (a .last)) (toZ-ofZ {w = w32} (record { sfits = third .ok }) ∙ third .ensures) in (
       omega arith,
       walked-more (a .corner) m _ 0 (omega arith) (omega arith) (c .before .before .before .loop .inv .1) (c .third-of .result)
-          (value ∙ sym (at (a .first) (a .middle) (a .last) m i (omega arith))),
+          (value ∙ sym (at (a .division) (a .first) (a .middle) (a .last) m i (omega arith))),
     )
 
 same-length : tie.Need-same-length Inv-loop μ-loop
@@ -74,7 +75,7 @@ returns c =
     let a = c .before .before .before .args in
     let m = length (a .out .now) in
     let all : c .before .loop .i ≡ m = omega arith in
-    walked-all (a .corner) m (runs (a .first) (a .middle) (a .last) m) 0 (size (a .first) (a .middle) (a .last) m) (omega arith)
+    walked-all (a .corner) m (runs (a .division) (a .first) (a .middle) (a .last) m) 0 (size (a .division) (a .first) (a .middle) (a .last) m) (omega arith)
     (rw all at (c .before .loop .inv .1))
 
 pub paint-runs-spec : {M : Type 1} → statement M

@@ -57,10 +57,10 @@ module _ (c : tie.After-item2) where
   distances-room = room entry2 (Distances (c .item2 .given .0 .0)) (c .item2 .given .1)
 
 mul-lengths : tie.Need-mul-lengths
-mul-lengths c = omega (arith, room (begun (c .before .before)) Contour (c .enum-told2 .given .1))
+mul-lengths c = omega (arith, room (begun (c .before .before)) Contour (c .enum-told3 .given .1))
 
 slice-write-lengths : tie.Need-slice-write-lengths
-slice-write-lengths c = omega (arith, room (begun (c .before .before)) Contour (c .enum-told2 .given .1))
+slice-write-lengths c = omega (arith, room (begun (c .before .before)) Contour (c .enum-told3 .given .1))
 
 sub-last : tie.Need-sub-last
 sub-last c = last-room (c .before .before) .0
@@ -123,7 +123,11 @@ returns-2 c = rw (c .enum-told2 .given .1) (record { lengths-are = refl; kinds-a
 
 returns-3 : tie.Need-returns-3
 unfolding written
-returns-3 c =
+returns-3 c = rw (c .enum-told3 .given .1) (record { lengths-are = refl; kinds-are = refl; points-are = refl; distances-are = refl })
+
+returns-4 : tie.Need-returns-4
+unfolding written
+returns-4 c =
     let made = c .before .before .before .before .before in
     let i = entry (chosen made) .args .n .edges in
     let eight : 8 * i + 8 - 8 * i ≡ 8 = omega arith in
@@ -136,9 +140,9 @@ returns-3 c =
       distances-are = refl;
     })
 
-returns-4 : tie.Need-returns-4
+returns-5 : tie.Need-returns-5
 unfolding written
-returns-4 c =
+returns-5 c =
     let floats = c .before .before in
     let matched = floats .before .before .before .before in
     let bytes = entry2 matched .args .bytes .now in
@@ -153,9 +157,9 @@ returns-4 c =
 pub write-item-spec : {M : Type 1} → statement M
 write-item-spec =
     tie.close
-    (tie.spec (λ c. search needs) (λ c. search needs) mul-lengths slice-write-lengths (λ c. search needs) sub-last mul-lengths-2
-    slice-read-lengths add-lengths mul-lengths-3 slice-write-lengths-2 (λ c κs. search needs) slice-write-kinds
+    (tie.spec (λ c. search needs) (λ c. search needs) (λ c. search needs) mul-lengths slice-write-lengths (λ c. search needs) sub-last
+    mul-lengths-2 slice-read-lengths add-lengths mul-lengths-3 slice-write-lengths-2 (λ c κs. search needs) slice-write-kinds
     (λ c κs. search needs) add-end mul-from add-to (λ c. search needs) (λ c. search needs) part-write-points-end mul-write-points
     (λ c. search needs) (λ c. search needs) part-write-points-end-2 (λ c κs. search needs) (λ c. search needs) sub-write-floats
-    part-write-floats-start (λ c. search needs) write-floats-requires returns (λ c. search needs) returns-2 (λ c. search needs)
-    (λ c. search needs) (λ c. search needs) returns-3 (λ c. search needs) returns-4)
+    part-write-floats-start (λ c. search needs) write-floats-requires returns returns-2 (λ c. search needs) returns-3
+    (λ c. search needs) (λ c. search needs) (λ c. search needs) returns-4 (λ c. search needs) returns-5)

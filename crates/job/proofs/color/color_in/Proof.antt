@@ -61,8 +61,8 @@ module _ (c : tie.After-slice-known12) where
       (wrote .fill .last .1 .1 .1 .1 .0)
   holding = holding-of _ _ _ (numbers-are chosen) _ _ _ _ (wrote .fill .ensures)
 
-abbrev stored-at : tie.After-float → tie.After-slice-known12
-stored-at c = c .before .before
+abbrev stored-at : tie.After-job-settings → tie.After-slice-known12
+stored-at c = c .before
 
 fill-requires : tie.Need-fill-requires
 fill-requires c κs = fits-jobs _ _ _ (numbers-are (numbered c)) (begun (numbered c) .pre)
@@ -70,37 +70,38 @@ fill-requires c κs = fits-jobs _ _ _ (numbers-are (numbered c)) (begun (numbere
 mul-places : tie.Need-mul-places
 mul-places c = omega (arith, edges-most (holding c))
 
-slice-reshare-prefix-color-stored : tie.Need-slice-reshare-prefix-color-stored
-slice-reshare-prefix-color-stored c = contours-within (holding (stored-at c))
+slice-reshare-prefix-edge-coloring : tie.Need-slice-reshare-prefix-edge-coloring
+slice-reshare-prefix-edge-coloring c = contours-within (holding (stored-at c))
 
-slice-aggregate-color-stored : tie.Need-slice-aggregate-color-stored
-slice-aggregate-color-stored c = sym (length-take-le _ _ (contours-within (holding (stored-at (c .before)))))
+slice-aggregate-edge-coloring : tie.Need-slice-aggregate-edge-coloring
+slice-aggregate-edge-coloring c = sym (length-take-le _ _ (contours-within (holding (stored-at (c .before)))))
 
-slice-reshare-prefix-color-stored-2 : tie.Need-slice-reshare-prefix-color-stored-2
-slice-reshare-prefix-color-stored-2 c = kinds-within (holding (stored-at (c .before)))
+slice-reshare-prefix-edge-coloring-2 : tie.Need-slice-reshare-prefix-edge-coloring-2
+slice-reshare-prefix-edge-coloring-2 c = kinds-within (holding (stored-at (c .before)))
 
-slice-aggregate-color-stored-2 : tie.Need-slice-aggregate-color-stored-2
-slice-aggregate-color-stored-2 c = sym (length-take-le _ _ (kinds-within (holding (stored-at (c .before .before)))))
+slice-aggregate-edge-coloring-2 : tie.Need-slice-aggregate-edge-coloring-2
+slice-aggregate-edge-coloring-2 c = sym (length-take-le _ _ (kinds-within (holding (stored-at (c .before .before)))))
 
-slice-reshare-prefix-color-stored-3 : tie.Need-slice-reshare-prefix-color-stored-3
-slice-reshare-prefix-color-stored-3 c = places-within (holding (stored-at (c .before .before)))
+slice-reshare-prefix-edge-coloring-3 : tie.Need-slice-reshare-prefix-edge-coloring-3
+slice-reshare-prefix-edge-coloring-3 c = places-within (holding (stored-at (c .before .before)))
 
-slice-aggregate-color-stored-3 : tie.Need-slice-aggregate-color-stored-3
-slice-aggregate-color-stored-3 c = sym (length-take-le _ _ (places-within (holding (stored-at (c .before .before .before)))))
+slice-aggregate-edge-coloring-3 : tie.Need-slice-aggregate-edge-coloring-3
+slice-aggregate-edge-coloring-3 c = sym (length-take-le _ _ (places-within (holding (stored-at (c .before .before .before)))))
 
-slice-reshare-prefix-color-stored-4 : tie.Need-slice-reshare-prefix-color-stored-4
-slice-reshare-prefix-color-stored-4 c = distances-within (holding (stored-at (c .before .before .before)))
+slice-reshare-prefix-edge-coloring-4 : tie.Need-slice-reshare-prefix-edge-coloring-4
+slice-reshare-prefix-edge-coloring-4 c = distances-within (holding (stored-at (c .before .before .before)))
 
-slice-aggregate-color-stored-4 : tie.Need-slice-aggregate-color-stored-4
-slice-aggregate-color-stored-4 c = sym (length-take-le _ _ (distances-within (holding (stored-at (c .before .before .before .before)))))
+slice-aggregate-edge-coloring-4 : tie.Need-slice-aggregate-edge-coloring-4
+slice-aggregate-edge-coloring-4 c = sym (length-take-le _ _ (distances-within (holding (stored-at (c .before .before .before .before)))))
 
 returns : tie.Need-returns
 returns c =
     let kinds-back = c .before .before .before .before in
     let colored = kinds-back .before .before .before .before in
     let job-borrowed = colored .before .before .before .before .before in
-    let float = job-borrowed .before .before .before .before in
-    colored .color-stored .ensures ∙ held-colored (holding (stored-at float)) (float .float .result) (out (start (stored-at float))) (float .float .ensures)
+    let asked = job-borrowed .before .before .before .before in
+    colored .edge-coloring .ensures
+    ∙ held-colored (holding (stored-at asked)) (asked .job-settings .result) (out (start (stored-at asked))) (asked .job-settings .ensures)
 
 returns-2 : tie.Need-returns-2
 returns-2 c = color-refused _ _ _ (sym (ap readAnswer (c .before .refusal .given .1)) ∙ c .before .before .before .scan .ensures)
@@ -109,8 +110,8 @@ pub color-in-spec : {M : Type 1} → statement M
 color-in-spec =
     tie.close
     (tie.spec (λ c κs. search needs) (λ c. search needs) fill-requires mul-places (λ c κs. search needs)
-    slice-reshare-prefix-color-stored slice-aggregate-color-stored slice-reshare-prefix-color-stored-2
-    slice-aggregate-color-stored-2 slice-reshare-prefix-color-stored-3 slice-aggregate-color-stored-3
-    slice-reshare-prefix-color-stored-4 slice-aggregate-color-stored-4 (λ c κs. search needs) (λ c. search needs)
+    slice-reshare-prefix-edge-coloring slice-aggregate-edge-coloring slice-reshare-prefix-edge-coloring-2
+    slice-aggregate-edge-coloring-2 slice-reshare-prefix-edge-coloring-3 slice-aggregate-edge-coloring-3
+    slice-reshare-prefix-edge-coloring-4 slice-aggregate-edge-coloring-4 (λ c κs. search needs) (λ c. search needs)
     (λ c. search needs) (λ c. search needs) (λ c. search needs) (λ c. search needs) (λ c. search needs) (λ c. search needs)
     (λ c. search needs) (λ c. search needs) returns returns-2)

@@ -36,7 +36,7 @@ returns-5 c = rw (c .before .before .before .q .given .1, c .enum-told4 .given .
 
 returns-6 : tie.Need-returns-6
 unfolding sought
-returns-6 c = rw (c .before .before .before .q2 .given .1, c .enum-told5 .given .1)
+returns-6 c = rw (c .before .before .before .q .given .1, c .enum-told5 .given .1)
 
 returns-7 : tie.Need-returns-7
 unfolding sought
@@ -52,11 +52,20 @@ returns-9 c = rw (c .before .before .before .q2 .given .1, c .enum-told8 .given 
 
 returns-10 : tie.Need-returns-10
 unfolding sought
-returns-10 c = rw (c .before .q3 .given .1)
+returns-10 c = rw (c .before .before .before .q2 .given .1, c .enum-told9 .given .1)
+
+returns-11 : tie.Need-returns-11
+unfolding sought
+returns-11 c = rw (c .before .before .before .q2 .given .1, c .enum-told10 .given .1)
+
+returns-12 : tie.Need-returns-12
+unfolding sought
+returns-12 c = rw (c .before .q3 .given .1)
 
 pub sought-spec : {M : Type 1} → statement M
 sought-spec =
     tie.close
     (tie.spec (λ c. search needs) (λ c. search needs) (λ c. search needs) (λ c. search needs) (λ c. search needs)
     (λ c. search needs) (λ c. search needs) (λ c. search needs) (λ c. search needs) (λ c. search needs) (λ c. search needs)
-    (λ c. search needs) returns returns-2 returns-3 returns-4 returns-5 returns-6 returns-7 returns-8 returns-9 returns-10)
+    (λ c. search needs) (λ c. search needs) (λ c. search needs) returns returns-2 returns-3 returns-4 returns-5 returns-6 returns-7
+    returns-8 returns-9 returns-10 returns-11 returns-12)

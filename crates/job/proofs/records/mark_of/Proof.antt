@@ -18,19 +18,19 @@ returns-3 c = rw (c .before .if3 .taken, c .if4 .taken)
 
 returns-4 : tie.Need-returns-4
 unfolding markOf
-returns-4 c = rw (c .before .before .if3 .taken, c .if5 .taken)
+returns-4 c = rw (c .before .if3 .taken, ne-eqb _ _ (c .if4 .left))
 
 returns-5 : tie.Need-returns-5
 unfolding markOf
-returns-5 c = rw (c .before .before .if3 .taken, ne-eqb _ _ (c .before .if4 .left), ne-eqb _ _ (c .if5 .left))
+returns-5 c = rw (c .before .if5 .taken, c .if6 .taken)
 
 returns-6 : tie.Need-returns-6
 unfolding markOf
-returns-6 c = rw (c .before .if6 .taken, c .if7 .taken)
+returns-6 c = rw (c .before .before .if5 .taken, c .if7 .taken)
 
 returns-7 : tie.Need-returns-7
 unfolding markOf
-returns-7 c = rw (c .before .if6 .taken, ne-eqb _ _ (c .if7 .left))
+returns-7 c = rw (c .before .before .if5 .taken, ne-eqb _ _ (c .before .if6 .left), ne-eqb _ _ (c .if7 .left))
 
 returns-8 : tie.Need-returns-8
 unfolding markOf
@@ -58,17 +58,29 @@ returns-13 c = rw (c .before .if12 .taken, ne-eqb _ _ (c .if13 .left))
 
 returns-14 : tie.Need-returns-14
 unfolding markOf
-returns-14 c = rw (
-  ne-eqb _ _ (c .before .before .before .before .before .if1 .left),
-  ne-eqb _ _ (c .before .before .before .before .if3 .left),
-  ne-eqb _ _ (c .before .before .before .if6 .left),
-  ne-eqb _ _ (c .before .before .if8 .left),
-  ne-eqb _ _ (c .before .if10 .left),
-  ne-eqb _ _ (c .if12 .left),
-)
+returns-14 c = rw (c .before .if14 .taken, c .if15 .taken)
+
+returns-15 : tie.Need-returns-15
+unfolding markOf
+returns-15 c = rw (c .before .if14 .taken, ne-eqb _ _ (c .if15 .left))
+
+returns-16 : tie.Need-returns-16
+unfolding markOf
+returns-16 c =
+    let no-line = c .before .before .before in
+    let no-curve = no-line .before in
+    rw (
+      ne-eqb _ _ (no-curve .before .before .if1 .left),
+      ne-eqb _ _ (no-curve .before .if3 .left),
+      ne-eqb _ _ (no-curve .if5 .left),
+      ne-eqb _ _ (no-line .if8 .left),
+      ne-eqb _ _ (c .before .before .if10 .left),
+      ne-eqb _ _ (c .before .if12 .left),
+      ne-eqb _ _ (c .if14 .left),
+    )
 
 pub mark-of-spec : {M : Type 1} → statement M
 mark-of-spec =
     tie.close
     (tie.spec returns returns-2 returns-3 returns-4 returns-5 returns-6 returns-7 returns-8 returns-9 returns-10 returns-11
-    returns-12 returns-13 returns-14)
+    returns-12 returns-13 returns-14 returns-15 returns-16)
