@@ -101,6 +101,26 @@ const NOTED: &str = "use crate::stand_ins::noted;
 pub mod by_distance_collected;
 ";
 
+// The source's division of a contour with one corner, which nothing else calls than the teardrop and the collecting
+// pass. The balanced one has its tie in the middle; every other place is still what the source's expression says.
+const DIVISION: &str = "fn symmetrical_trichotomy(position: i32, n: i32) -> i32 {\n";
+const TIE: &str = "    if 46 * position == 31 * (n - 1) {
+        return 0;
+    }
+";
+const DIVIDED: &str = "symmetrical_trichotomy(";
+const ITS_OWN: &str = "use super::{identify_corners, symmetrical_trichotomy};\n";
+const BALANCED: &str = "
+pub mod by_distance_collected;
+pub mod by_distance_given;
+
+pub mod probe {
+    pub fn trichotomy(position: i32, n: i32) -> i32 {
+        super::symmetrical_trichotomy(position, n)
+    }
+}
+";
+
 const MATRIX: &str = "    // Distance matrix between splines.\n";
 
 const COUNT: &str = "    let spline_count = spline_starts.len() - 1;\n";
@@ -170,9 +190,21 @@ fn noted(coloring: &str) -> String {
     let t = replace(coloring, 2, "prev_direction.normalize(false)", "noted(prev_direction)");
     let t = replace(&t, 2, "edge.direction(0.0).normalize(false)", "noted(edge.direction(0.0))");
     assert!(!t.contains(".normalize("));
-    assert_eq!(t.matches(VARIANT).count(), 1);
-    let (colorings, _) = t.split_once(VARIANT).unwrap();
-    format!("{colorings}{NOTED}")
+    instead_of_variant(&t, NOTED)
+}
+
+// Simple and ink-trap colouring with the balanced division. What is by distance calls that of its parent module.
+fn balanced(coloring: &str, by_distance: &str) -> String {
+    let count = |text: &str, part: &str| text.matches(part).count();
+    assert_eq!([count(coloring, DIVIDED), count(by_distance, DIVIDED), count(by_distance, ITS_OWN)], [2, 1, 1]);
+    let t = replace(coloring, 1, DIVISION, &format!("{DIVISION}{TIE}"));
+    instead_of_variant(&t, BALANCED)
+}
+
+fn instead_of_variant(coloring: &str, other: &str) -> String {
+    assert_eq!(coloring.matches(VARIANT).count(), 1);
+    let (colorings, _) = coloring.split_once(VARIANT).unwrap();
+    format!("{colorings}{other}")
 }
 
 // By-distance colouring up to its matrix: the source's own distances of the splines, by i then j.
@@ -203,8 +235,15 @@ fn main() {
     let by_distance = replace(&read("by_distance.rs"), 1, SINE, GIVEN);
 
     let copy = out.join("coloring");
+    let balanced_copy = out.join("balanced");
     fs::create_dir_all(copy.join("noted")).unwrap();
-    let write = |name: &str, text: String| fs::write(Path::join(&copy, name), text).unwrap();
+    fs::create_dir_all(&balanced_copy).unwrap();
+    let write_to =
+        |folder: &Path, name: &str, text: String| fs::write(folder.join(name), text).unwrap();
+    write_to(&balanced_copy, "mod.rs", balanced(&coloring, &by_distance));
+    write_to(&balanced_copy, "by_distance_given.rs", given(&by_distance));
+    write_to(&balanced_copy, "by_distance_collected.rs", collected(&by_distance));
+    let write = |name: &str, text: String| write_to(&copy, name, text);
     write("noted.rs", noted(&coloring));
     write("noted/by_distance_collected.rs", collected(&by_distance));
     write("mod.rs", coloring + PROBE);
@@ -216,9 +255,12 @@ fn main() {
     write("by_distance_counted.rs", counted);
     write("by_distance.rs", by_distance + OFFER);
     // the shortened copies have functions that nothing calls any more
-    let path = copy.join("mod.rs");
-    let module = format!("#[allow(dead_code)]\n#[path = {path:?}]\npub mod given;\n");
-    fs::write(out.join("given.rs"), module).unwrap();
+    let module = |folder: &Path, name: &str| {
+        let path = folder.join("mod.rs");
+        format!("#[allow(dead_code)]\n#[path = {path:?}]\npub mod {name};\n")
+    };
+    let modules = module(&copy, "given") + &module(&balanced_copy, "balanced");
+    fs::write(out.join("copies.rs"), modules).unwrap();
 
     let library = here.join("../target/staticlib");
     println!("cargo:rustc-link-search=native={}", library.display());

@@ -32,7 +32,7 @@ fn longer(shape: &[Edges], places: usize, bytes: usize) -> Call {
     let outline = outline(r, shape);
     let edges = outline.edges();
     let out = buffers(r, 3, 5, PLACES * edges + places, FLAGS * edges + bytes);
-    Call { outline, threshold: 0.0, seed: 0, out }
+    Call { outline, threshold: 0.0, seed: 0, balanced: false, out }
 }
 
 fn on(shape: &[Edges]) -> Call {

@@ -101,7 +101,7 @@ fn room(r: &mut Random, edges: usize) -> Buffers {
 /// A call on an outline, with buffers that hold the list and its flags.
 pub fn on(r: &mut Random, outline: Outline, threshold: f64) -> Call {
     let out = room(r, outline.edges());
-    Call { outline, threshold, seed: 0, out }
+    Call { outline, threshold, seed: 0, balanced: false, out }
 }
 
 /// A call that is not refused.

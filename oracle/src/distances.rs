@@ -1,13 +1,13 @@
-//! By-distance colouring with given distances, and its collecting pass: SCOPE's refusals, the source's outcomes, calls
-//! to try and what can be wrong with them.
+//! By-distance colouring with given distances, and its collecting pass: SCOPE's refusals, the source's outcomes by
+//! either division of teardrops, calls to try and what can be wrong with them.
 
 use crate::contours::{self, Edges, KINDS};
-use crate::given::by_distance_collected::collect_splines;
-use crate::given::by_distance_given::edge_coloring_by_distance_given;
+use crate::geometry::Shape;
 use crate::numbers::Random;
 use crate::shapes::{self, Answer, Buffers, Call, FAULTS};
 use crate::shapes::{decode, deliver, encode, noise, outline, roomy, some, source_shape};
 use crate::stand_ins;
+use crate::{balanced, given};
 
 /// A call of by-distance colouring, each distance by its bits; the collecting pass takes neither the
 /// seed nor the distances.
@@ -26,6 +26,33 @@ pub fn pairs(splines: usize) -> usize {
 
 // ---- the reference
 
+/// The contour and the place of each collected edge, and where the splines start among them.
+pub type Splines = (Vec<(usize, usize)>, Vec<usize>);
+
+/// The source's collecting pass by one of the divisions.
+pub fn collect_splines(balanced: bool, shape: &mut Shape, threshold: f64) -> Splines {
+    let collect = match balanced {
+        false => given::by_distance_collected::collect_splines,
+        true => balanced::by_distance_collected::collect_splines,
+    };
+    collect(shape, threshold)
+}
+
+/// Its colouring by one of them, with given distances: how many pairs were declined.
+pub fn run(
+    balanced: bool,
+    shape: &mut Shape,
+    threshold: f64,
+    seed: u64,
+    distances: &[f64],
+) -> usize {
+    let run = match balanced {
+        false => given::by_distance_given::edge_coloring_by_distance_given,
+        true => balanced::by_distance_given::edge_coloring_by_distance_given,
+    };
+    run(shape, threshold, seed, distances)
+}
+
 /// What the collecting pass makes: the split outline with the spline of each edge, or 255, in the place
 /// of its colour; and the number of splines.
 pub struct Collected {
@@ -36,7 +63,7 @@ pub struct Collected {
 /// The collecting pass of the source, numbered as its last loop goes over the splines.
 pub fn collected(call: &Call) -> Collected {
     let mut shape = source_shape(&decode(&call.outline));
-    let (refs, starts) = collect_splines(&mut shape, call.threshold);
+    let (refs, starts) = collect_splines(call.balanced, &mut shape, call.threshold);
     let mut result = encode(&shape);
     let mut firsts = vec![0];
     for contour in &shape.contours {
@@ -57,8 +84,8 @@ pub fn collected(call: &Call) -> Collected {
 fn colored(c: &DistanceCall) -> (Buffers, usize) {
     let mut shape = source_shape(&decode(&c.call.outline));
     let distances: Vec<f64> = c.distances.iter().map(|&bits| f64::from_bits(bits)).collect();
-    let declined =
-        edge_coloring_by_distance_given(&mut shape, c.call.threshold, c.call.seed, &distances);
+    let Call { balanced, threshold, seed, .. } = c.call;
+    let declined = run(balanced, &mut shape, threshold, seed, &distances);
     (encode(&shape), declined)
 }
 
@@ -243,7 +270,7 @@ fn outlined(r: &mut Random) -> Call {
     };
     let shape = with_splines(r, splines, threshold);
     let (outline, seed) = (outline(r, &shape), contours::seed(r));
-    Call { outline, threshold, seed, out: Buffers::default() }
+    Call { outline, threshold, seed, balanced: false, out: Buffers::default() }
 }
 
 /// A call that is not refused, with the way of its distances by its place in `WAYS`, and its splines.

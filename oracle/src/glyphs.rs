@@ -56,6 +56,25 @@ pub fn teardrop() -> Edges {
     )
 }
 
+/// A drop of 47 edges: a line from the tip, three quarters of a circle in 45 quadratics, and a line back. The tip is
+/// the one corner. All points are to the nearest 1/64.
+pub fn long_teardrop() -> Edges {
+    let nearest = |x: f64| (x * 64.0).round() / 64.0;
+    let at = |degrees: f64, radius: f64| {
+        let (y, x) = degrees.to_radians().sin_cos();
+        (nearest(300.0 + radius * x), nearest(300.0 + radius * y))
+    };
+    let tip = at(90.0, 300.0 * 2.0f64.sqrt());
+    let mut edges = vec![vec![at(135.0, 300.0)]];
+    for i in 0..45 {
+        let from = 135.0 + 6.0 * i as f64;
+        let control = at(from + 3.0, 300.0 / 3.0f64.to_radians().cos());
+        edges.push(vec![control, at(from + 6.0, 300.0)]);
+    }
+    edges.push(vec![tip]);
+    path(tip, &edges.iter().map(|edge| &edge[..]).collect::<Vec<_>>())
+}
+
 /// A flag and a pennant that have a point twice each; the flag has an edge straight up, and a cubic whose control
 /// points are both at its start.
 pub fn doubled() -> Vec<Edges> {

@@ -162,7 +162,40 @@ fn end() -> Vec<u8> {
 
 fn bytes_after(r: &mut Random, f: &mut Records) {
     let any = bytes(r, 9);
-    f.push(r.pick(&[&[0][..], b"\n", b"E", b"CT", &any]).to_vec());
+    f.push(r.pick(&[&[0][..], b"\n", b"E", b"CT", b"BL", &any]).to_vec());
+}
+
+fn is_balanced(f: &Records) -> bool {
+    f.get(1).is_some_and(|record| record == b"BL")
+}
+
+/// BL directly after JB, where it does not stand there.
+fn balanced_put_in(f: &mut Records) {
+    if !is_balanced(f) {
+        f.insert(1, balanced());
+    }
+}
+
+fn balanced_left_out(f: &mut Records) {
+    if is_balanced(f) {
+        f.remove(1);
+    }
+}
+
+/// One BL more at one of the first places, where none may stand, and that place.
+fn balanced_elsewhere(r: &mut Random, f: &mut Records, places: usize) -> usize {
+    let at = match some(r, places) {
+        1 if !is_balanced(f) => 0,
+        at => at,
+    };
+    f.insert(at, balanced());
+    at
+}
+
+/// The same at any place, after the last record too.
+fn balanced_anywhere(r: &mut Random, f: &mut Records) {
+    let places = f.len() + 1;
+    balanced_elsewhere(r, f, places);
 }
 
 /// Empty contours at the end, until there are so many.
@@ -296,7 +329,7 @@ fn in_distances(r: &mut Random, f: &mut Records, to: fn(&mut Random, &mut Vec<u8
 }
 
 /// Each with the faults that it alone must have been met with; none where it is no fault in itself.
-pub const DAMAGES: [(&str, &[Fault], Damage); 45] = [
+pub const DAMAGES: [(&str, &[Fault], Damage); 49] = [
     ("a record doubled", &[Misplaced, AfterEnd], |r, f| {
         let i = some(r, f.len());
         f.insert(i, f[i].clone());
@@ -316,6 +349,13 @@ pub const DAMAGES: [(&str, &[Fault], Damage); 45] = [
     }),
     ("an edge of any kind", &[], |r, f| in_edge(r, f, |r, e| *e = an_edge(r))),
     ("JB twice", &[Misplaced, AfterEnd], |r, f| f.insert(1 + some(r, f.len()), f[0].clone())),
+    ("BL put in", &[], |_, f| balanced_put_in(f)),
+    ("BL left out", &[], |_, f| balanced_left_out(f)),
+    ("BL elsewhere", &[Misplaced, AfterEnd], balanced_anywhere),
+    ("BL moved", &[Misplaced, AfterEnd], |r, f| {
+        balanced_left_out(f);
+        balanced_anywhere(r, f);
+    }),
     ("an edge before CT", &[Misplaced], |r, f| f.insert(1, an_edge(r))),
     ("EN early", &[Misplaced, AfterEnd], |r, f| f.insert(1 + some(r, f.len() - 1), end())),
     ("EN missing", &[MarkCut], |_, f| drop(f.pop())),
@@ -389,6 +429,10 @@ fn plant_mark_cut(r: &mut Random, f: &mut Records) -> Option<usize> {
 }
 
 fn plant_misplaced(r: &mut Random, f: &mut Records) -> Option<usize> {
+    if r.below(4) == 0 {
+        let places = f.len();
+        return Some(balanced_elsewhere(r, f, places));
+    }
     let (by_distance, contours_end) = (f[0][2] == 3, contours_end(f));
     let among = 1 + some(r, contours_end);
     let (at, record) = match r.below(6) {

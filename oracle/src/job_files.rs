@@ -3,31 +3,33 @@
 use crate::contours::{self, Edges, MAX_COORDINATE, contour, edge};
 use crate::distances::{self, MOST_DISTANCES, WAYS, pairs};
 use crate::glyphs::{circle, polygon, square};
-use crate::jobs::{Job, Records, counted, edge_record, header, records, splines, write};
+use crate::jobs::{Job, Records, balanced, counted, edge_record, header, records, splines, write};
 use crate::math::Vector2;
 use crate::numbers::Random;
 use crate::shapes::{self, decode, some};
+use crate::teardrops::{TIES, teardrop};
 
 // ---- accepted ones
 
-/// A job of any strategy.
+/// A job of any strategy, by either division.
 pub fn job(r: &mut Random) -> Job {
     if r.below(5) < 2 {
         let (c, _, _) = distances::call(r);
         let distances = c.distances.into_iter().map(f64::from_bits).collect();
         let contours = decode(&c.call.outline);
-        let (seed, threshold) = (c.call.seed, c.call.threshold);
-        return Job { strategy: 3, seed, threshold, contours, distances };
+        let (seed, threshold, balanced) = (c.call.seed, c.call.threshold, r.coin());
+        return Job { strategy: 3, seed, threshold, balanced, contours, distances };
     }
     let c = shapes::call(r);
     let (strategy, contours) = (1 + r.below(2) as u8, decode(&c.outline));
-    Job { strategy, seed: c.seed, threshold: c.threshold, contours, distances: Vec::new() }
+    let (seed, threshold, balanced) = (c.seed, c.threshold, r.coin());
+    Job { strategy, seed, threshold, balanced, contours, distances: Vec::new() }
 }
 
-/// A job by a strategy, with distances of some kind where it asks for them.
+/// A job by a strategy and the source's division, with distances of some kind where it asks for them.
 pub fn by(r: &mut Random, strategy: u8, contours: Vec<Edges>, threshold: f64) -> Job {
     let (seed, distances) = (contours::seed(r), Vec::new());
-    let mut job = Job { strategy, seed, threshold, contours, distances };
+    let mut job = Job { strategy, seed, threshold, balanced: false, contours, distances };
     if strategy == 3 {
         let way = some(r, WAYS.len());
         job.distances = WAYS[way].1(r, pairs(splines(&job)).min(MOST_DISTANCES));
@@ -35,7 +37,7 @@ pub fn by(r: &mut Random, strategy: u8, contours: Vec<Edges>, threshold: f64) ->
     job
 }
 
-/// A job of few edges.
+/// A job of few edges, by either division.
 pub fn small(r: &mut Random, strategy: u8) -> Job {
     let threshold = contours::threshold(r);
     let contours = (0..r.below(3)).map(|_| match some(r, 4) {
@@ -43,7 +45,8 @@ pub fn small(r: &mut Random, strategy: u8) -> Job {
         m => contour(r, m, threshold),
     });
     let contours = contours.collect();
-    by(r, strategy, contours, threshold)
+    let balanced = r.coin();
+    Job { balanced, ..by(r, strategy, contours, threshold) }
 }
 
 // ---- SCOPE's examples and limits
@@ -58,7 +61,8 @@ pub struct Known {
 /// The square of P6; by distance with P7's distances, 0 beside and 1 across.
 pub fn square_job(strategy: u8) -> Job {
     let beside = if strategy == 3 { vec![0.0, 1.0, 0.0, 0.0, 1.0, 0.0] } else { Vec::new() };
-    Job { strategy, seed: 0, threshold: 0.125, contours: vec![square()], distances: beside }
+    let contours = vec![square()];
+    Job { strategy, seed: 0, threshold: 0.125, balanced: false, contours, distances: beside }
 }
 
 /// A job without contours.
@@ -79,12 +83,13 @@ pub fn lines(n: usize) -> Edges {
 /// A job with so many distances, all 1.
 pub fn ones(contours: Vec<Edges>, distances: usize) -> Job {
     let distances = vec![1.0; distances];
-    Job { strategy: 3, seed: 7, threshold: 0.125, contours, distances }
+    Job { strategy: 3, seed: 7, threshold: 0.125, balanced: false, contours, distances }
 }
 
-/// 64 contours, 256 cubics, 64 splines, 2,016 distances: 33,177 bytes.
+/// BL, 64 contours, 256 cubics, 64 splines, 2,016 distances: 33,179 bytes.
 pub fn longest() -> Job {
-    ones((0..64).map(|i| circle(i as f64, 0.0, 1.0 + i as f64)).collect(), MOST_DISTANCES)
+    let circles = (0..64).map(|i| circle(i as f64, 0.0, 1.0 + i as f64)).collect();
+    Job { balanced: true, ..ones(circles, MOST_DISTANCES) }
 }
 
 /// 508 edges out of 256: 63 contours of two edges with one corner, and one of 130 edges.
@@ -93,7 +98,8 @@ pub fn widest(strategy: u8) -> Job {
     let two = vec![edge(&[p, q]), edge(&[q, s, Vector2::new(0.0, 1.0)])];
     let mut contours = vec![two; 63];
     contours.push(lines(130));
-    Job { strategy, seed: 1234567, threshold: 0.125, contours, distances: Vec::new() }
+    let (seed, distances) = (1234567, Vec::new());
+    Job { strategy, seed, threshold: 0.125, balanced: false, contours, distances }
 }
 
 /// The same with 449 stand-ins, three in each contour of two edges and two an edge in the last: the longest text.
@@ -175,6 +181,80 @@ pub fn known() -> Vec<Known> {
     add("no contours, EN while DS is due", due, Err(3));
     let early = [header(3, 0, 0.125), counted(0, &[]), b"CTEN".to_vec()].concat();
     add("DS before the contours", early, Err(3));
+    all
+}
+
+// ---- the balanced division
+
+/// A job by a strategy whose one contour has m edges and one corner, at a place.
+pub fn drop_job(r: &mut Random, strategy: u8, balanced: bool, m: usize, corner: usize) -> Job {
+    let contours = vec![teardrop(r, m, corner, 0.125)];
+    Job { balanced, ..by(r, strategy, contours, 0.125) }
+}
+
+/// A record BL more, before the record at a place of a file or after the last one.
+pub fn with_balanced(f: &Records, at: usize) -> Vec<u8> {
+    [f[..at].concat(), balanced(), f[at..].concat()].concat()
+}
+
+/// A file of a job with BL more at each place where none may stand.
+pub fn misplaced_balanced(job: &Job) -> Vec<Vec<u8>> {
+    let f = records(job);
+    let wrong = |at: &usize| *at != 1 || job.balanced;
+    (0..=f.len()).filter(wrong).map(|at| with_balanced(&f, at)).collect()
+}
+
+/// The square far away, with the letters BL in its seed, its threshold and its coordinates, and no BL.
+pub fn letters(strategy: u8) -> Job {
+    let letters = u64::from_le_bytes(*b"BLBLBLBL");
+    let number = |size: f64| f64::from_bits(size.to_bits() + letters % (1 << 48));
+    let (near, far) = (number(1.0), number(1024.0));
+    let contours = vec![polygon(&[(near, near), (far, near), (far, far), (near, far)])];
+    Job { seed: letters, threshold: number(0.125), contours, ..square_job(strategy) }
+}
+
+/// BL where none may stand, and a later record with another fault: a bad coordinate, an unknown mark, a cut.
+pub fn balanced_before_faults(strategy: u8) -> Vec<Vec<u8>> {
+    let start = [header(strategy, 0, 0.125), b"CTBL".to_vec()].concat();
+    let line = |x: f64| edge_record(&edge(&[Vector2::new(0.0, 0.0), Vector2::new(x, 0.0)]));
+    [line(f64::INFINITY), [line(1.0), b"??".to_vec()].concat(), line(1.0)[..7].to_vec()]
+        .map(|rest| [start.clone(), rest].concat())
+        .into()
+}
+
+/// What SCOPE says of BL.
+pub fn known_balanced() -> Vec<Known> {
+    let mut all = Vec::new();
+    let r = &mut Random(709);
+    for strategy in 1..4 {
+        let mut add = |name, file: Vec<u8>, answer| all.push(Known { name, file, answer });
+        let (square, two) = (square_job(strategy), no_contours(strategy));
+        let balanced = |job: &Job| Job { balanced: true, ..job.clone() };
+        add("BL, the square", write(&balanced(&square)), Ok(4));
+        add("BL, a job without contours", write(&balanced(&two)), Ok(0));
+        for m in [1, 2].into_iter().chain(3..9).chain(TIES).chain([46, 48, 94, 256]) {
+            let edges = if m < 3 { 3 * m } else { m };
+            let corner = some(r, m);
+            let job = drop_job(r, strategy, true, m, corner);
+            add("BL, a contour with one corner", write(&job), Ok(edges));
+            add("the same without BL", write(&Job { balanced: false, ..job }), Ok(edges));
+        }
+        for job in [&square, &balanced(&square), &two, &balanced(&two)] {
+            let files = misplaced_balanced(job).into_iter();
+            files.for_each(|file| add("BL where none may stand", file, Err(3)));
+        }
+        for file in balanced_before_faults(strategy) {
+            add("BL where none may stand, then another fault", file, Err(3));
+        }
+        add("the letters BL in numbers", write(&letters(strategy)), Ok(4));
+        let header = header(strategy, 0, 0.125);
+        for rest in [&b"B"[..], b"BL", b"BLE", b"BLB", b"BLC"] {
+            add("BL, cut after JB", [&header, rest].concat(), Err(1));
+        }
+        for rest in [b"bl", b"LB", b"BI", b"CL", b"BT"] {
+            add("a mark like BL", [&header[..], rest, b"EN"].concat(), Err(2));
+        }
+    }
     all
 }
 

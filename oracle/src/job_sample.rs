@@ -1,10 +1,11 @@
 //! The sample of job files that a program replays: each with its check, its listing and the part of each contour,
 //! and what reading and colouring it leave in buffers.
 
-use crate::contours::edge;
-use crate::glyphs::{polygon, registered, teardrop};
+use crate::contours::{edge, planned};
+use crate::glyphs::{long_teardrop, polygon, registered, teardrop};
 use crate::job_faults::{BOTH, DAMAGES, damage, planted};
-use crate::job_files::{by, known, long, small, square_job};
+use crate::job_files::{balanced_before_faults, known_balanced, letters, misplaced_balanced};
+use crate::job_files::{by, known, long, no_contours, small, square_job};
 use crate::jobs::{FAULTS, Job, JobBuffers, outcome, records, stop, stored, write};
 use crate::math::Vector2;
 use crate::numbers::Random;
@@ -31,16 +32,20 @@ fn record(mut words: Vec<u64>, body: &[u8]) -> Vec<u8> {
     [bytes(&words), body.to_vec()].concat()
 }
 
-/// Six words: the number 69, the record's bytes, how many bytes the file and its listing have, how many
-/// contours' parts follow, from contour 0 to one beyond the last, and what checking answers; two words a
-/// part, where it starts and how many bytes it has, both 0 where it is empty; the file and the listing, each
-/// filled up to whole words.
+/// Seven words: the number 69, the record's bytes, how many bytes the file and its listing have, how many
+/// contours' parts follow, from contour 0 to one beyond the last, what checking answers, and whether the job is
+/// balanced; two words a part, where it starts and how many bytes it has, both 0 where it is empty; the file and
+/// the listing, each filled up to whole words.
 fn answers(file: &[u8]) -> Vec<u8> {
+    listed(file, &outcome(file).text())
+}
+
+/// The same with a listing that is given.
+fn listed(file: &[u8], text: &str) -> Vec<u8> {
     let outcome = outcome(file);
-    let text = outcome.text();
     let contours = outcome.reading.as_ref().map_or(1, |reading| reading.job.contours.len());
     let sizes = [file.len() as u64, text.len() as u64, contours as u64 + 1];
-    let mut words = [&[69, 0][..], &sizes, &[outcome.check().code()]].concat();
+    let mut words = [&[69, 0][..], &sizes, &[outcome.check().code(), outcome.balanced()]].concat();
     for part in (0..=contours).map(|contour| outcome.part(contour as u64)) {
         words.extend([part.start as u64, part.len() as u64]);
     }
@@ -137,7 +142,18 @@ pub fn small_records() -> Vec<Vec<u8>> {
     let read = reading(&write(&two), [1, 2, 16, 1]);
     let file = |strategy: u8| write(&stand_in_job(strategy));
     let colored = (1..4).map(|strategy| coloring(&file(strategy), [1, 2, 16, 2]));
-    [answers(&file(1)), read].into_iter().chain(colored).collect()
+    let empty = write(&Job { balanced: true, ..no_contours(1) });
+    let balanced = [answers(&empty), reading(&empty, [0; 4]), coloring(&empty, [0; 4])];
+    [answers(&file(1)), read].into_iter().chain(colored).chain(balanced).collect()
+}
+
+/// The drop of 47 edges without BL and with it, each with the listing of the other.
+pub fn wrong_records() -> Vec<Vec<u8>> {
+    let files = [false, true].map(|balanced| write(&long_drop(1, balanced)));
+    let texts = files.each_ref().map(|file| outcome(file).text());
+    assert_ne!(texts[0], texts[1]);
+    let [first, second] = &files;
+    vec![listed(first, &texts[1]), listed(second, &texts[0])]
 }
 
 /// SCOPE's limits; a few of the files that differ by a place alone, and the long ones by strategies 1 and 3.
@@ -219,6 +235,50 @@ fn stand_ins(r: &mut Random) -> Vec<Vec<u8>> {
     files
 }
 
+/// The drop of examples/teardrop-47.job by a strategy, and that of teardrop-47-balanced.job.
+fn long_drop(strategy: u8, balanced: bool) -> Job {
+    let distances = if strategy == 3 { vec![0.0] } else { Vec::new() };
+    Job { balanced, contours: vec![long_teardrop()], distances, ..square_job(strategy) }
+}
+
+/// The drops of 47 edges; by one strategy each, the other lengths at which the divisions differ.
+fn drops(r: &mut Random) -> Vec<Vec<u8>> {
+    let mut files = Vec::new();
+    for strategy in 1..4 {
+        let drops = [true, false].map(|balanced| write(&long_drop(strategy, balanced)));
+        assert_ne!(outcome(&drops[0]).text(), outcome(&drops[1]).text());
+        files.extend(drops);
+    }
+    for (strategy, m) in [(1, 139), (2, 185), (3, 231)] {
+        let mut corners = vec![false; m];
+        corners[m / 3] = true;
+        let contours = vec![planned(r, &corners, 0.125, &[1])];
+        files.push(write(&Job { balanced: true, ..by(r, strategy, contours, 0.125) }));
+    }
+    files
+}
+
+/// BL in small files of each strategy, and its letters alone.
+fn balanced(r: &mut Random) -> Vec<Vec<u8>> {
+    let drop = by(r, 2, vec![teardrop()], 0.125);
+    let jobs = [square_job(1), square_job(3), drop, no_contours(1), no_contours(3)];
+    let files = jobs.map(|job| write(&Job { balanced: true, ..job }));
+    files.into_iter().chain([write(&letters(1))]).collect()
+}
+
+/// BL at every wrong place of files without it and with it; cut, and marks like it.
+fn balanced_places() -> Vec<Vec<u8>> {
+    let contours = vec![polygon(&[(0.0, 0.0), (1.0, 2.0)]), Vec::new()];
+    let two = Job { contours, distances: Vec::new(), ..square_job(1) };
+    let by_distance = Job { strategy: 3, balanced: true, distances: vec![0.5], ..two.clone() };
+    let jobs = [no_contours(2), two, by_distance];
+    let mut files: Vec<Vec<u8>> = jobs.iter().flat_map(misplaced_balanced).collect();
+    files.extend(balanced_before_faults(2));
+    let like = known_balanced().into_iter().filter(|k| k.file[2] == 2 && k.file.len() < 24);
+    files.extend(like.filter(|k| k.answer.is_err()).map(|k| k.file));
+    files
+}
+
 /// A line of one point, and a cubic straight up with both its control points at its start.
 fn stand_in_job(strategy: u8) -> Job {
     let (p, q) = (Vector2::new(1.0, 2.0), Vector2::new(1.0, 7.0));
@@ -238,6 +298,10 @@ pub fn sample() -> Vec<(String, Vec<Vec<u8>>)> {
     parts.push(("order".to_string(), both));
     parts.push(("damaged".to_string(), damaged(r)));
     parts.push(("glyphs".to_string(), glyphs(r)));
+    let r_balanced = &mut Random(711);
+    parts.push(("BL".to_string(), balanced(r_balanced)));
+    parts.push(("BL places".to_string(), balanced_places()));
+    parts.push(("BL drops".to_string(), drops(r_balanced)));
     parts.push(("too long".to_string(), vec![long(r, 2)[..34_001].to_vec()]));
     let mut sample = Vec::new();
     for (name, files) in &parts {
@@ -257,6 +321,10 @@ pub fn sample() -> Vec<(String, Vec<Vec<u8>>)> {
             sample.push((format!("color {name}"), small().flat_map(|f| colorings(f)).collect()));
         }
     }
+    let [first, last] = [1, 3].map(|strategy| write(&long_drop(strategy, true)));
+    let colored = [&first, &last].map(|file| coloring(file, [1, 47, 376, 47]));
+    sample.push(("read BL drops".to_string(), vec![reading(&last, [1, 47, 376, 1])]));
+    sample.push(("color BL drops".to_string(), colored.into()));
     for (_, records) in &sample {
         for record in records {
             assert!(record.len() <= 65536, "no program holds a record of {} bytes", record.len());

@@ -1,14 +1,12 @@
 //! The job file, by the rules of SCOPE (Job file, Refusals) and nothing else: a job and its bytes, a reader, what is
-//! tested after reading, the listing, and the part of each contour. The colourings are the source's.
+//! tested after reading, the listing, and the part of each contour. The colourings are the source's, by its own
+//! division of teardrops or by the balanced one.
 
 use crate::contours::{Edges, MAX_COORDINATE, edge};
-use crate::distances::{MOST_DISTANCES, MOST_SPLINES, pairs};
+use crate::distances::{self as by_distance, MOST_DISTANCES, MOST_SPLINES, collect_splines, pairs};
 use crate::geometry::{EdgeSegment, Shape};
-use crate::given::by_distance_collected::collect_splines;
-use crate::given::by_distance_given::edge_coloring_by_distance_given;
-use crate::given::{edge_coloring_ink_trap, edge_coloring_simple};
 use crate::math::Vector2;
-use crate::shapes::{Answer, Buffers, deliver, encode, source_shape};
+use crate::shapes::{self, Answer, Buffers, deliver, encode, run, run_balanced, source_shape};
 use crate::stand_ins;
 use std::fmt::Write;
 use std::ops::Range;
@@ -16,12 +14,13 @@ use std::ops::Range;
 pub const MOST_CONTOURS: usize = 64;
 pub const MOST_EDGES: usize = 256;
 
-/// Strategy 1 simple, 2 ink trap, 3 by distance; 0 before it is read.
+/// Strategy 1 simple, 2 ink trap, 3 by distance; 0 before it is read. Balanced: teardrops are divided so.
 #[derive(Clone, Debug, Default, PartialEq)]
 pub struct Job {
     pub strategy: u8,
     pub seed: u64,
     pub threshold: f64,
+    pub balanced: bool,
     pub contours: Vec<Edges>,
     pub distances: Vec<f64>,
 }
@@ -33,6 +32,10 @@ pub type Records = Vec<Vec<u8>>;
 
 pub fn header(strategy: u8, seed: u64, threshold: f64) -> Vec<u8> {
     [b"JB", &[strategy][..], &seed.to_le_bytes(), &threshold.to_le_bytes()].concat()
+}
+
+pub fn balanced() -> Vec<u8> {
+    b"BL".to_vec()
 }
 
 pub fn edge_record(e: &EdgeSegment) -> Vec<u8> {
@@ -58,6 +61,9 @@ pub fn contour_records(edges: &Edges) -> Records {
 
 pub fn records(job: &Job) -> Records {
     let mut records = vec![header(job.strategy, job.seed, job.threshold)];
+    if job.balanced {
+        records.push(balanced());
+    }
     records.extend(job.contours.iter().flat_map(contour_records));
     if job.strategy == 3 {
         records.push(distances(&job.distances));
@@ -145,7 +151,7 @@ fn good_distance(d: f64) -> bool {
 
 // ---- the reader
 
-pub const MARKS: [&[u8; 2]; 7] = [b"JB", b"CT", b"LN", b"QD", b"CB", b"DS", b"EN"];
+pub const MARKS: [&[u8; 2]; 8] = [b"JB", b"BL", b"CT", b"LN", b"QD", b"CB", b"DS", b"EN"];
 
 /// How many bytes follow a mark, of DS those of the count; none where the mark is unknown.
 fn body_size(mark: &[u8]) -> Option<usize> {
@@ -155,7 +161,7 @@ fn body_size(mark: &[u8]) -> Option<usize> {
         b"QD" => Some(3 * 16),
         b"CB" => Some(4 * 16),
         b"DS" => Some(2),
-        b"CT" | b"EN" => Some(0),
+        b"BL" | b"CT" | b"EN" => Some(0),
         _ => None,
     }
 }
@@ -189,6 +195,8 @@ struct Reader<'a> {
     file: &'a [u8],
     /// Where the next record begins.
     at: usize,
+    /// The mark of the record before it, nothing at the start.
+    last: &'a [u8],
     job: Job,
     starts: Vec<usize>,
     edges: usize,
@@ -199,7 +207,7 @@ struct Reader<'a> {
 impl<'a> Reader<'a> {
     fn new(file: &'a [u8]) -> Self {
         let job = Job::default();
-        Reader { file, at: 0, job, starts: Vec::new(), edges: 0, distances: None }
+        Reader { file, at: 0, last: b"", job, starts: Vec::new(), edges: 0, distances: None }
     }
 
     fn allows(&self, mark: &[u8]) -> bool {
@@ -208,6 +216,7 @@ impl<'a> Reader<'a> {
         let by_distance = self.job.strategy == 3;
         match mark {
             b"JB" => !begun,
+            b"BL" => self.last == b"JB",
             b"CT" => among,
             b"DS" => among && by_distance,
             b"EN" => begun && by_distance == self.distances.is_some(),
@@ -237,6 +246,7 @@ impl<'a> Reader<'a> {
         let mut end = self.at + 2 + size;
         match mark {
             b"JB" => self.header(body)?,
+            b"BL" => self.job.balanced = true,
             b"CT" => {
                 self.starts.push(self.at);
                 self.job.contours.push(Vec::new());
@@ -251,6 +261,7 @@ impl<'a> Reader<'a> {
             _ => self.edge(body)?,
         }
         self.at = end;
+        self.last = mark;
         Ok(false)
     }
 
@@ -301,7 +312,7 @@ pub fn read(file: &[u8]) -> Result<Reading, Fault> {
 // ---- after reading
 
 pub fn splines(job: &Job) -> usize {
-    collect_splines(&mut source_shape(&job.contours), job.threshold).1.len() - 1
+    collect_splines(job.balanced, &mut source_shape(&job.contours), job.threshold).1.len() - 1
 }
 
 /// What is tested of a job that was read: for strategy 3 alone the splines, then the distances.
@@ -320,13 +331,12 @@ pub fn check(job: &Job) -> Result<(), Fault> {
 pub fn color(job: &Job) -> Result<Shape, Fault> {
     check(job)?;
     let mut shape = source_shape(&job.contours);
+    let Job { seed, threshold, balanced, distances, .. } = job;
+    let run = if *balanced { run_balanced } else { run };
     match job.strategy {
-        1 => edge_coloring_simple(&mut shape, job.threshold, job.seed),
-        2 => edge_coloring_ink_trap(&mut shape, job.threshold, job.seed),
-        _ => {
-            let Job { threshold, seed, distances, .. } = job;
-            edge_coloring_by_distance_given(&mut shape, *threshold, *seed, distances);
-        }
+        1 => run(shapes::Strategy::Simple, &mut shape, *threshold, *seed),
+        2 => run(shapes::Strategy::InkTrap, &mut shape, *threshold, *seed),
+        _ => drop(by_distance::run(*balanced, &mut shape, *threshold, *seed, distances)),
     }
     Ok(shape)
 }
@@ -380,6 +390,14 @@ impl Outcome {
                 Answer::Colored { edges, stand_ins: self.stand_ins() }
             }
             Err(fault) => Answer::Refused(fault.number()),
+        }
+    }
+
+    /// Whether the job of an accepted file is balanced, as C gets it: 1 or 0, or 2^32 and the number of the refusal.
+    pub fn balanced(&self) -> u64 {
+        match self.accepted() {
+            Ok(reading) => reading.job.balanced as u64,
+            Err(fault) => Answer::Refused(fault.number()).code(),
         }
     }
 
@@ -441,10 +459,13 @@ pub fn stored(job: &Job) -> JobBuffers {
 
 // ---- what a refused file has besides
 
-/// Where a refused file stops: the mark of the record that decides, or what there is of it; the strategy, 0
-/// before JB; whether DS was read; the faults; and the first double that is bad.
+/// Where a refused file stops: the mark of the record that decides, or what there is of it; that of the record before,
+/// and what follows the mark; the strategy, 0 before JB; whether DS was read; the faults; and the first double that is
+/// bad.
 pub struct Stop<'a> {
     pub mark: &'a [u8],
+    pub last: &'a [u8],
+    pub rest: &'a [u8],
     pub strategy: u8,
     pub after_distances: bool,
     pub faults: Vec<Fault>,
@@ -499,5 +520,6 @@ pub fn stop(file: &[u8]) -> Stop<'_> {
     };
     let faults = FAULTS.into_iter().filter(holds).collect();
     let number = threshold.or(coordinate).or(distance);
-    Stop { mark, strategy, after_distances: reader.distances.is_some(), faults, number }
+    let after_distances = reader.distances.is_some();
+    Stop { mark, last: reader.last, rest: body, strategy, after_distances, faults, number }
 }

@@ -1,7 +1,8 @@
 //! The Rust of docs/src, built as it is, with what makes inputs for it.
 //!
 //! `math`, `geometry` and `coloring` are the source; `given` is the copy of `coloring` that build.rs
-//! makes, in which the threshold is the one that is given and not its sine.
+//! makes, in which the threshold is the one that is given and not its sine; `balanced` is that copy with the
+//! balanced division of teardrops.
 
 // `use arrayvec::ArrayVec` of equation_solver.rs finds the stand-in below.
 extern crate self as arrayvec;
@@ -14,7 +15,7 @@ pub mod math;
 #[path = "../../docs/src/crates/bymsdfgen-core/src/coloring/mod.rs"]
 pub mod coloring;
 
-include!(concat!(env!("OUT_DIR"), "/given.rs"));
+include!(concat!(env!("OUT_DIR"), "/copies.rs"));
 
 pub mod contours;
 pub mod direction_sample;
@@ -35,3 +36,4 @@ pub mod shapes;
 pub mod spoilt;
 pub mod stand_ins;
 pub mod tables;
+pub mod teardrops;

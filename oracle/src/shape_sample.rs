@@ -2,13 +2,15 @@
 //! the program reads them.
 
 use crate::contours::{self, Edges, MAX_COORDINATE, contour, coordinate, corners, edge, planned};
-use crate::distances::{self, DistanceCall, Outcome, collect, collected, pairs, with_splines};
+use crate::distances::{self, DISTANCE_FAULTS, DistanceCall, Outcome};
+use crate::distances::{collect, collected, pairs, with_splines};
 use crate::glyphs::{self, polygon};
 use crate::math::Vector2;
 use crate::numbers::Random;
-use crate::shapes::{Answer, Buffers, Call, FAULTS, Fault, Outline, STRATEGIES, Strategy};
-use crate::shapes::{buffers, call, color, faults, outline, refusal, result, used};
+use crate::shapes::{Answer, Buffers, Call, FAULTS, Fault, ORDER, Outline, STRATEGIES, Strategy};
+use crate::shapes::{buffers, call, color, decode, faults, outline, refusal, result, used};
 use crate::stand_ins::{KnownOutline, known_outlines};
+use crate::teardrops::divided;
 
 // What the program's buffers hold at most, and what it puts into the places that no record fills.
 const MOST: [usize; 7] = [80, 264, 2120, 90, 540, 4100, 540];
@@ -58,10 +60,10 @@ fn words(lengths: &[u16]) -> Vec<u8> {
 }
 
 /// Thirteen words: the number (65 simple, 66 ink trap, 67 the collecting pass, 68 by distance, 72 the
-/// directions), the record's bytes, the threshold's bits, the seed, how many lengths, kinds and point
-/// places go in, how many of these and of colours the result buffers have, the answer, and where the
-/// result begins. Then what goes in: lengths, kinds, point places, distances; and the result. A kind and
-/// a colour are bytes.
+/// directions; 73 to 76 as 65 to 68 by the balanced division), the record's bytes, the threshold's
+/// bits, the seed, how many lengths, kinds and point places go in, how many of these and of colours the
+/// result buffers have, the answer, and where the result begins. Then what goes in: lengths, kinds, point
+/// places, distances; and the result. A kind and a colour are bytes.
 pub fn written(
     number: u64,
     call: &Call,
@@ -103,7 +105,12 @@ pub fn record(strategy: Strategy, call: &Call) -> Vec<u8> {
         Strategy::Simple => 65,
         Strategy::InkTrap => 66,
     };
-    written(number, &call, &[], answer.code(), colored(&call, answer, &after))
+    written(by(&call, number), &call, &[], answer.code(), colored(&call, answer, &after))
+}
+
+/// The number of a function by the division of a call.
+fn by(call: &Call, number: u64) -> u64 {
+    number + if call.balanced { 8 } else { 0 }
 }
 
 /// The collecting pass and the colouring by distance of one call.
@@ -111,10 +118,11 @@ fn distance_records(c: &DistanceCall) -> [Vec<u8>; 2] {
     assert!(fits(&c.call));
     let c = DistanceCall { call: plain(&c.call), distances: c.distances.clone() };
     let (answer, numbered) = collect(&c.call);
-    let collecting = written(67, &c.call, &[], answer.code(), colored(&c.call, answer, &numbered));
+    let result = colored(&c.call, answer, &numbered);
+    let collecting = written(by(&c.call, 67), &c.call, &[], answer.code(), result);
     let Outcome { answer, after, .. } = distances::color(&c);
     let result = colored(&c.call, answer, &after);
-    let coloring = written(68, &c.call, &c.distances, answer.code(), result);
+    let coloring = written(by(&c.call, 68), &c.call, &c.distances, answer.code(), result);
     [collecting, coloring]
 }
 
@@ -123,7 +131,7 @@ fn distance_records(c: &DistanceCall) -> [Vec<u8>; 2] {
 /// A call on contours, with exactly fitting buffers where it is accepted.
 fn on(shape: &[Edges], threshold: f64, seed: u64) -> Call {
     let outline = outline(&mut Random(0), shape);
-    exact(Call { outline, threshold, seed, out: Buffers::default() })
+    exact(Call { outline, threshold, seed, balanced: false, out: Buffers::default() })
 }
 
 fn exact(mut call: Call) -> Call {
@@ -212,7 +220,7 @@ fn some(r: &mut Random, count: usize, wanted: impl Fn(&Call, &[Vec<usize>]) -> b
         if call.outline.edges() > 12 || call.outline.lengths.len() > 12 {
             continue;
         }
-        let shape = crate::shapes::decode(&call.outline);
+        let shape = decode(&call.outline);
         let corners: Vec<Vec<usize>> = shape.iter().map(|e| corners(e, call.threshold)).collect();
         if wanted(&call, &corners) {
             found.push(call);
@@ -438,13 +446,119 @@ fn refused_stand_ins() -> [Call; 2] {
     [expect(&steep, Err(6)), expect(&short, Err(11))]
 }
 
+/// The call by the balanced division.
+fn balanced(call: &Call) -> Call {
+    Call { balanced: true, ..call.clone() }
+}
+
+/// A contour of m edges with its one corner at a place, of lines where it is long.
+fn one_corner(r: &mut Random, m: usize, corner: usize) -> Edges {
+    let kinds: &[usize] = if m > 9 { &[1] } else { &[1, 2, 3] };
+    let mut corners = vec![false; m];
+    corners[corner] = true;
+    planned(r, &corners, 0.125, kinds)
+}
+
+/// Contours by the balanced division whose results are others by the source's, or not: one corner each, at a place.
+fn balanced_drops(r: &mut Random, drops: &[(usize, usize)], other: bool) -> Call {
+    let shape: Vec<Edges> = drops.iter().map(|&(m, corner)| one_corner(r, m, corner)).collect();
+    let source = on(&shape, 0.125, contours::seed(r));
+    let call = balanced(&source);
+    for strategy in STRATEGIES {
+        let results = [&source, &call].map(|call| result(strategy, call));
+        assert_eq!(divided(&shape, 0.125, &results[0], &results[1], 7), other, "{drops:?}");
+    }
+    call
+}
+
+/// Teardrops by the balanced division: of 47 and 93 edges, after another contour, and such as are the same by both.
+fn balanced_teardrops(r: &mut Random) -> Vec<Vec<u8>> {
+    let mut records = Vec::new();
+    for drops in [&[(47, 0)], &[(93, 40)]] {
+        records.extend(by_all(&balanced_drops(r, drops, true)));
+    }
+    records.extend(
+        by_all(&balanced_drops(r, &[(3, 1), (47, 20)], true)).into_iter().skip(1).step_by(2),
+    );
+    for drop in [(3, 1), (4, 3), (5, 0), (7, 2)] {
+        records.extend(by_all(&balanced_drops(r, &[drop], false)));
+    }
+    records.push(record(Strategy::Simple, &balanced_drops(r, &[(48, 0)], false)));
+    records
+}
+
+/// For each two neighbouring refusals a call of which both hold.
+fn two_faults(r: &mut Random) -> Vec<Call> {
+    let mut found = Vec::new();
+    while found.len() + 1 < ORDER.len() {
+        let mut call = on(&[contour(r, 2, 0.125)], 0.125, 9);
+        for _ in 0..2 {
+            let (name, _, fault) = r.pick(&FAULTS);
+            if name != LARGE {
+                fault(r, &mut call);
+            }
+        }
+        let call = plain(&call);
+        let short = call.out.points.len() < call.outline.points.len();
+        let held: Vec<bool> = faults(&call).into_iter().chain([short]).collect();
+        let first = held.iter().position(|&fault| fault);
+        if fits(&call) && first == Some(found.len()) && held[found.len() + 1] {
+            found.push(call);
+        }
+    }
+    found
+}
+
+/// By the balanced division: what can be wrong with the splines and the distances, but for more than 2,016.
+fn balanced_faults(r: &mut Random) -> Vec<DistanceCall> {
+    let triangle = polygon(&[(0.0, 0.0), (1.0, 0.0), (0.0, 1.0)]);
+    let mut found = Vec::new();
+    for (_, refusal, fault) in DISTANCE_FAULTS.iter().filter(|fault| fault.1 != Some(0)) {
+        found.push(loop {
+            let mut c = with_ones(&balanced(&on(&[triangle.clone()], 0.125, 3)));
+            fault(r, &mut c);
+            c.call = plain(&c.call);
+            let few = fits(&c.call) && c.call.outline.edges() < 80;
+            if few && distances::color(&c).refusal == *refusal {
+                break c;
+            }
+        });
+    }
+    found
+}
+
 /// A small record of each function, accepted: a line of one point, and a cubic straight up with both its control
-/// points at its start.
+/// points at its start; by the balanced division the cubic alone, or an empty contour.
 pub fn small_records() -> Vec<Vec<u8>> {
     let (p, q) = (v(1.0, 2.0), v(1.0, 7.0));
-    let call = on(&[vec![edge(&[p, p]), edge(&[p, p, p, q])]], 0.125, 0);
-    assert_eq!(color(Strategy::Simple, &call).0, Answer::Colored { edges: 2, stand_ins: 3 });
-    by_all(&call)
+    let (line, cubic) = (edge(&[p, p]), edge(&[p, p, p, q]));
+    let on = |contour: Edges| on(&[contour], 0.125, 0);
+    let (call, one, none) =
+        (on(vec![line, cubic]), balanced(&on(vec![cubic])), balanced(&on(Vec::new())));
+    for (call, edges, stand_ins) in [(&call, 2, 3), (&one, 1, 1)] {
+        assert_eq!(color(Strategy::Simple, call).0, Answer::Colored { edges, stand_ins });
+    }
+    let [first, _, _, last] = &by_all(&one)[..] else { panic!("four functions") };
+    [by_all(&call), vec![first.clone(), last.clone()], by_all(&none)].concat()
+}
+
+/// The records by the balanced division alone.
+fn balanced_parts(r: &mut Random) -> Vec<(String, Vec<Vec<u8>>)> {
+    let by_all = |calls: Vec<Call>| calls.iter().flat_map(|call| by_all(&balanced(call))).collect();
+    let mut parts = vec![
+        ("P6".to_string(), by_all(square())),
+        ("teardrops".to_string(), balanced_teardrops(r)),
+        ("splits".to_string(), by_all(splits(r).into_iter().step_by(4).collect())),
+        ("contours".to_string(), by_all(some(r, 1, |_, corners| corners.len() > 1))),
+        ("stand-ins".to_string(), by_all(split_stand_ins().to_vec())),
+    ];
+    for number in [4, 8, 5, 7, 6, 11] {
+        parts.push((format!("refused {number}"), by_all(refused(r, number, 1))));
+    }
+    parts.push(("in order".to_string(), by_all(two_faults(r))));
+    let faults = balanced_faults(r);
+    parts.push(("faults".to_string(), faults.iter().flat_map(distance_records).collect()));
+    parts
 }
 
 /// The records of each part, by name.
@@ -480,6 +594,10 @@ pub fn sample() -> Vec<(String, Vec<Vec<u8>>)> {
     let widest = record(Strategy::InkTrap, &widest());
     sample.push(("508 edges".to_string(), vec![widest]));
     sample.push(("stand-ins".to_string(), stand_ins()));
+    let r_balanced = &mut Random(411);
+    for (name, calls) in balanced_parts(r_balanced) {
+        sample.push((format!("bal {name}"), calls));
+    }
     for (name, calls) in [
         ("P7 whole", square_by_distance()),
         ("few splines", ways(r, &[0, 1, 2, 3, 5, 9])),

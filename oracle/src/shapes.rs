@@ -1,12 +1,12 @@
-//! Outlines in buffers: SCOPE's refusals, the source's simple and ink-trap colourings, and what can be wrong with a
-//! call.
+//! Outlines in buffers: SCOPE's refusals, the source's simple and ink-trap colourings, by its own division of
+//! teardrops and by the balanced one, and what can be wrong with a call.
 
 use crate::contours::{self, Edges, MAX_COORDINATE, edge};
 use crate::geometry::{Contour, EdgeSegment, Shape};
-use crate::given;
 use crate::math::Vector2;
 use crate::numbers::Random;
 use crate::stand_ins;
+use crate::{balanced, given};
 
 #[derive(Clone, Copy, Debug, PartialEq)]
 pub enum Strategy {
@@ -44,6 +44,8 @@ pub struct Call {
     pub outline: Outline,
     pub threshold: f64,
     pub seed: u64,
+    /// Whether teardrops are divided in the balanced way.
+    pub balanced: bool,
     pub out: Buffers,
 }
 
@@ -228,6 +230,14 @@ pub fn run(strategy: Strategy, shape: &mut Shape, threshold: f64, seed: u64) {
     }
 }
 
+/// The same with the balanced division.
+pub fn run_balanced(strategy: Strategy, shape: &mut Shape, threshold: f64, seed: u64) {
+    match strategy {
+        Strategy::Simple => balanced::edge_coloring_simple(shape, threshold, seed),
+        Strategy::InkTrap => balanced::edge_coloring_ink_trap(shape, threshold, seed),
+    }
+}
+
 pub fn source_shape(contours: &[Edges]) -> Shape {
     let mut shape = Shape::new();
     for edges in contours {
@@ -241,6 +251,7 @@ pub fn source_shape(contours: &[Edges]) -> Shape {
 /// The result of a call that is not refused before the colouring.
 pub fn result(strategy: Strategy, call: &Call) -> Buffers {
     let mut shape = source_shape(&decode(&call.outline));
+    let run = if call.balanced { run_balanced } else { run };
     run(strategy, &mut shape, call.threshold, call.seed);
     encode(&shape)
 }
@@ -307,7 +318,7 @@ pub fn call(r: &mut Random) -> Call {
         threshold = contours::tie(r, &shape).unwrap_or(threshold);
     }
     let (outline, seed) = (outline(r, &shape), contours::seed(r));
-    let mut call = Call { outline, threshold, seed, out: Buffers::default() };
+    let mut call = Call { outline, threshold, seed, balanced: false, out: Buffers::default() };
     call.out = roomy(r, &result(Strategy::Simple, &call));
     call
 }

@@ -58,8 +58,8 @@ fn answer(record: &[u8]) -> Places {
             let (file, text, parts) = (size(2), size(3), size(4));
             places.words(3..4);
             places.colored(5);
-            places.words(6..6 + 2 * parts);
-            places.bytes_from(48 + 16 * parts + file.next_multiple_of(8), text);
+            places.words(6..7 + 2 * parts);
+            places.bytes_from(56 + 16 * parts + file.next_multiple_of(8), text);
         }
         70 => {
             places.words(11..12);

@@ -25,12 +25,20 @@ impl Recording {
         self.counts += &format!("{name}{right} of {}\n", records.len());
     }
 
-    /// Parts with the source's answers; then the first record of each with its answer spoilt, none of them right.
-    fn parts(&mut self, name: &str, parts: Vec<(String, Vec<Vec<u8>>)>, to_spoil: &[Vec<u8>]) {
+    /// Parts with the source's answers; then some records with their answers spoilt and some with wrong ones, none of
+    /// them right.
+    fn parts(
+        &mut self,
+        name: &str,
+        parts: Vec<(String, Vec<Vec<u8>>)>,
+        to_spoil: &[Vec<u8>],
+        wrong: &[Vec<u8>],
+    ) {
         for (name, records) in &parts {
             self.part(name, records, records.len());
         }
-        let spoilt: Vec<_> = to_spoil.iter().flat_map(|record| spoilt(record)).collect();
+        let spoilt = to_spoil.iter().flat_map(|record| spoilt(record));
+        let spoilt: Vec<_> = spoilt.chain(wrong.iter().cloned()).collect();
         self.part(&format!("spoilt {name}"), &spoilt, 0);
     }
 }
@@ -90,12 +98,13 @@ fn main() {
     let (math, geometry, offers) = (math(), geometry(), offers());
     let (math_firsts, geometry_firsts) = (firsts(&math), firsts(&geometry));
     let square = [offers[0].1[0].clone()];
-    out.parts("math", math, &math_firsts);
-    out.parts("geometry", geometry, &geometry_firsts);
-    out.parts("offers", offers, &square);
-    out.parts("colours", shape_sample::sample(), &shape_sample::small_records());
-    out.parts("jobs", job_sample::sample(), &job_sample::small_records());
-    out.parts("dir", direction_sample::sample(), &direction_sample::small_records());
+    out.parts("math", math, &math_firsts, &[]);
+    out.parts("geometry", geometry, &geometry_firsts, &[]);
+    out.parts("offers", offers, &square, &[]);
+    out.parts("colours", shape_sample::sample(), &shape_sample::small_records(), &[]);
+    let wrong = job_sample::wrong_records();
+    out.parts("jobs", job_sample::sample(), &job_sample::small_records(), &wrong);
+    out.parts("dir", direction_sample::sample(), &direction_sample::small_records(), &[]);
     let folder = Path::new(&folder);
     std::fs::write(folder.join("stdin"), &out.records).unwrap();
     std::fs::write(folder.join("stdout"), &out.counts).unwrap();

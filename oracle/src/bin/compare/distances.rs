@@ -1,7 +1,8 @@
-//! By-distance colouring with given distances, and its collecting pass: shapes and refusals.
+//! By-distance colouring with given distances, and its collecting pass, by the source's division of teardrops and by
+//! the balanced one: shapes and refusals.
 
 use crate::Tally;
-use crate::shapes::{Classes, Room, corners};
+use crate::shapes::{Classes, Room, by_both, corners};
 use crate::stand_ins;
 use oracle::contours;
 use oracle::distances::{self, DISTANCE_FAULTS, DistanceCall, ORDER, Outcome, WAYS};
@@ -10,53 +11,67 @@ use oracle::numbers::Random;
 use oracle::shapes::{Answer, Buffers, Call, FAULTS};
 use oracle::shapes::{buffers, decode, outline, refusal};
 use oracle::stand_ins::known_outlines;
+use oracle::teardrops::divided;
 
-#[link(name = "capi", kind = "static")]
-unsafe extern "C" {
-    fn merelsplum_collect_splines(
-        lengths: *const u16,
-        lengths_len: usize,
-        kinds: *const u8,
-        kinds_len: usize,
-        points: *const u64,
-        points_len: usize,
-        threshold: f64,
-        out_lengths: *mut u16,
-        out_lengths_len: usize,
-        out_kinds: *mut u8,
-        out_kinds_len: usize,
-        out_points: *mut u64,
-        out_points_len: usize,
-        out_splines: *mut u8,
-        out_splines_len: usize,
-    ) -> u64;
-    fn merelsplum_edge_coloring_by_distance(
-        lengths: *const u16,
-        lengths_len: usize,
-        kinds: *const u8,
-        kinds_len: usize,
-        points: *const u64,
-        points_len: usize,
-        threshold: f64,
-        seed: u64,
-        distances: *const u64,
-        distances_len: usize,
-        out_lengths: *mut u16,
-        out_lengths_len: usize,
-        out_kinds: *mut u8,
-        out_kinds_len: usize,
-        out_points: *mut u64,
-        out_points_len: usize,
-        out_colors: *mut u8,
-        out_colors_len: usize,
-    ) -> u64;
+macro_rules! entries {
+    ($($collect:ident, $color:ident);*) => {
+        #[link(name = "capi", kind = "static")]
+        unsafe extern "C" {
+            $(fn $collect(
+                lengths: *const u16,
+                lengths_len: usize,
+                kinds: *const u8,
+                kinds_len: usize,
+                points: *const u64,
+                points_len: usize,
+                threshold: f64,
+                out_lengths: *mut u16,
+                out_lengths_len: usize,
+                out_kinds: *mut u8,
+                out_kinds_len: usize,
+                out_points: *mut u64,
+                out_points_len: usize,
+                out_splines: *mut u8,
+                out_splines_len: usize,
+            ) -> u64;
+            fn $color(
+                lengths: *const u16,
+                lengths_len: usize,
+                kinds: *const u8,
+                kinds_len: usize,
+                points: *const u64,
+                points_len: usize,
+                threshold: f64,
+                seed: u64,
+                distances: *const u64,
+                distances_len: usize,
+                out_lengths: *mut u16,
+                out_lengths_len: usize,
+                out_kinds: *mut u8,
+                out_kinds_len: usize,
+                out_points: *mut u64,
+                out_points_len: usize,
+                out_colors: *mut u8,
+                out_colors_len: usize,
+            ) -> u64;)*
+        }
+    };
 }
+
+entries!(
+    merelsplum_collect_splines, merelsplum_edge_coloring_by_distance;
+    merelsplum_collect_splines_balanced, merelsplum_edge_coloring_by_distance_balanced
+);
 
 fn proved_collect(call: &Call, room: &mut Room) -> u64 {
     let o = &call.outline;
     let (l, k, p, c) = room.parts();
+    let collect = match call.balanced {
+        false => merelsplum_collect_splines,
+        true => merelsplum_collect_splines_balanced,
+    };
     unsafe {
-        merelsplum_collect_splines(
+        collect(
             o.lengths.as_ptr(),
             o.lengths.len(),
             o.kinds.as_ptr(),
@@ -89,8 +104,12 @@ fn proved_color_to(
     c: &mut [u8],
 ) -> u64 {
     let o = &call.outline;
+    let color = match call.balanced {
+        false => merelsplum_edge_coloring_by_distance,
+        true => merelsplum_edge_coloring_by_distance_balanced,
+    };
     unsafe {
-        merelsplum_edge_coloring_by_distance(
+        color(
             o.lengths.as_ptr(),
             o.lengths.len(),
             o.kinds.as_ptr(),
@@ -116,22 +135,24 @@ fn proved_color_to(
 fn shown(c: &DistanceCall) -> String {
     let (o, threshold, seed) = (&c.call.outline, c.call.threshold, c.call.seed);
     let (l, k, p, d) = (&o.lengths, &o.kinds, &o.points, &c.distances);
-    let what = format!("{l:?} {k:?} {p:016X?}, threshold {threshold:?}, seed {seed}, {d:016X?}");
+    let by = if c.call.balanced { "balanced, " } else { "" };
+    let what =
+        format!("{by}{l:?} {k:?} {p:016X?}, threshold {threshold:?}, seed {seed}, {d:016X?}");
     what.chars().take(2000).collect()
 }
 
-/// Collects by the proved code and by the source, and compares answer and buffers.
-fn compare_collect(part: &mut Tally, c: &DistanceCall) -> Answer {
+/// Collects by the proved code and by the source, and compares answer and buffers. Both are the source's.
+pub fn compare_collect(part: &mut Tally, c: &DistanceCall) -> (Answer, Buffers) {
     let (given, mut room) = (c.call.clone(), Room::new(&c.call.out));
     let code = proved_collect(&given, &mut room);
     let (answer, after) = collect(&c.call);
     let agree = code == answer.code() && room.is(&after) && given.outline == c.call.outline;
     part.note(agree, || format!("collecting {}: {answer:?}, proved {code:#x}", shown(c)));
-    answer
+    (answer, after)
 }
 
 /// The same of a colouring. The outcome is the source's.
-fn compare_color(part: &mut Tally, c: &DistanceCall) -> Outcome {
+pub fn compare_color(part: &mut Tally, c: &DistanceCall) -> Outcome {
     let (given, mut room) = (c.clone(), Room::new(&c.call.out));
     let (l, k, p, colors) = room.parts();
     let code = proved_color_to(&given, l, k, p, colors);
@@ -170,15 +191,21 @@ fn contour_classes(classes: &mut Classes, call: &Call) {
     }
 }
 
+/// The call by the balanced division.
+pub fn balanced(c: &DistanceCall) -> DistanceCall {
+    DistanceCall { call: Call { balanced: true, ..c.call.clone() }, distances: c.distances.clone() }
+}
+
 fn shapes(all: &mut Tally) {
     let mut parts = [Tally::default(), Tally::default()];
+    let mut balanced_parts = [(Tally::default(), 0), (Tally::default(), 0)];
     let (mut classes, mut stand_in_classes) = (Classes::default(), Classes::default());
     let (mut sizes, mut ways) = ([0u64; MOST_SPLINES + 1], [0u64; WAYS.len()]);
     let mut colors = [0u64; 8];
     let r = &mut Random(600);
-    for _ in 0..SHAPES {
+    for number in 0..SHAPES {
         let (c, way, splines) = call(r);
-        compare_collect(&mut parts[0], &c);
+        let (collected, numbered) = compare_collect(&mut parts[0], &c);
         let Outcome { answer, after, declined, .. } = compare_color(&mut parts[1], &c);
         let Answer::Colored { edges: count, .. } = answer else { panic!("refused: {answer:?}") };
         sizes[splines] += 1;
@@ -186,6 +213,14 @@ fn shapes(all: &mut Tally) {
         after.colors[..count].iter().for_each(|&color| colors[color as usize] += 1);
         contour_classes(&mut classes, &c.call);
         let shape = decode(&c.call.outline);
+        if by_both(number % 8 == 0, &shape, c.call.threshold) {
+            let (c, [collecting, coloring]) = (balanced(&c), &mut balanced_parts);
+            let (answer_2, other) = compare_collect(&mut collecting.0, &c);
+            collecting.1 += divided(&shape, c.call.threshold, &numbered, &other, 255) as u64;
+            let other = compare_color(&mut coloring.0, &c);
+            coloring.1 += divided(&shape, c.call.threshold, &after, &other.after, 7) as u64;
+            assert_eq!((answer_2, other.answer), (collected, answer));
+        }
         stand_ins::classes(&mut stand_in_classes, &shape);
         stand_ins::check_source(3, &shape, c.call.threshold);
         let exact = c.call.out.lengths.len() == c.call.outline.lengths.len()
@@ -213,17 +248,22 @@ fn shapes(all: &mut Tally) {
     let [collecting, coloring] = parts;
     all.close("collecting pass", collecting);
     all.close("by-distance colouring", coloring);
+    let names = ["collecting pass, balanced", "by-distance colouring, balanced"];
+    for (name, (part, others)) in names.into_iter().zip(balanced_parts) {
+        all.close_divided(name, part, others);
+    }
 }
 
 /// Calls with up to three faults: each refusal before each later one, and no buffer touched.
-fn refusals(all: &mut Tally) {
+fn refusals(all: &mut Tally, by_balanced: bool, seed: u64, calls: usize) {
     let mut parts = [Tally::default(), Tally::default()];
     let mut alone = vec![[0u64; 10]; FAULTS.len() + DISTANCE_FAULTS.len()];
     let mut besides = [[0u64; 9]; 9];
     let mut classes = Classes::default();
-    let r = &mut Random(601);
-    for _ in 0..100_000 {
+    let r = &mut Random(seed);
+    for _ in 0..calls {
         let (mut c, _, _) = call(r);
+        c.call.balanced = by_balanced;
         let count = r.below(4);
         let mut fault = 0;
         for _ in 0..count {
@@ -268,8 +308,9 @@ fn refusals(all: &mut Tally) {
     }
     classes.close(all);
     let [collecting, coloring] = parts;
-    all.close("refusals of the collecting pass", collecting);
-    all.close("refusals of by-distance colouring", coloring);
+    let by = if by_balanced { ", balanced" } else { "" };
+    all.close(&format!("refusals of the collecting pass{by}"), collecting);
+    all.close(&format!("refusals of by-distance colouring{by}"), coloring);
 }
 
 /// P7: the square's four splines, 0 beside and 1 across.
@@ -280,12 +321,15 @@ fn p7(all: &mut Tally) {
     let square = (0..4).map(|i| contours::edge(&[point(i), point(i + 1)])).collect();
     let r = &mut Random(0);
     let outline = outline(r, &[square]);
-    let call = Call { outline, threshold: 0.125, seed: 0, out: buffers(r, 1, 4, 32, 4) };
+    let out = buffers(r, 1, 4, 32, 4);
+    let call = Call { outline, threshold: 0.125, seed: 0, balanced: false, out };
     let distances = [0.0f64, 1.0, 0.0, 0.0, 1.0, 0.0].map(f64::to_bits).to_vec();
     let c = DistanceCall { call, distances };
-    compare_collect(&mut part, &c);
-    let after = compare_color(&mut part, &c).after;
-    part.note(after.colors == [3, 6, 5, 6], || format!("P7: {:?}", after.colors));
+    for c in [&c, &balanced(&c)] {
+        compare_collect(&mut part, c);
+        let after = compare_color(&mut part, c).after;
+        part.note(after.colors == [3, 6, 5, 6], || format!("P7: {:?}", after.colors));
+    }
     all.close("P7", part);
 }
 
@@ -294,14 +338,15 @@ fn known_stand_ins(all: &mut Tally) {
     let mut part = Tally::default();
     let r = &mut Random(604);
     for known in known_outlines() {
-        for threshold in [0.125, -1.0] {
+        let ways = [(0.125, false), (-1.0, false), (0.125, true), (-1.0, true)];
+        for (threshold, balanced) in ways {
             let (outline, out) = (outline(r, &known.contours), buffers(r, 64, 508, 4064, 508));
-            let call = Call { outline, threshold, seed: 1, out };
+            let call = Call { outline, threshold, seed: 1, balanced, out };
             let splines = distances::collected(&call).splines;
             let most = pairs(splines).min(MOST_DISTANCES);
             let c = DistanceCall { call, distances: vec![1.0f64.to_bits(); most] };
             let (collected, colored) =
-                (compare_collect(&mut part, &c), compare_color(&mut part, &c).answer);
+                (compare_collect(&mut part, &c).0, compare_color(&mut part, &c).answer);
             let sums = (splines <= MOST_SPLINES).then_some((known.stand_ins, known.stand_ins));
             let found = match (collected, colored) {
                 (Answer::Collected { stand_ins: a, .. }, Answer::Colored { stand_ins: b, .. }) => {
@@ -319,5 +364,6 @@ pub fn compare(all: &mut Tally) {
     p7(all);
     known_stand_ins(all);
     shapes(all);
-    refusals(all);
+    refusals(all, false, 601, 100_000);
+    refusals(all, true, 605, 25_000);
 }

@@ -1,16 +1,19 @@
-//! Job files: reading, checking, colouring, the listing and the part of a contour; and the program `channels`.
+//! Job files: reading, checking, colouring, the listing, the part of a contour and whether teardrops are balanced; and
+//! the program `channels`.
 
 use crate::Tally;
 use crate::shapes::{BYTE, Classes, Guarded, Room, SHORT, WORD};
 use crate::stand_ins;
 use oracle::job_faults::{BOTH, DAMAGES, can_follow, damage, planted, planted_before};
-use oracle::job_files::{Known, LONG, PROGRAM_BYTES, by, job, known, long, longest};
-use oracle::job_files::{no_contours, small, square_job, widest_of_stand_ins};
+use oracle::job_files::widest_of_stand_ins;
+use oracle::job_files::{Known, LONG, PROGRAM_BYTES, by, job, known, known_balanced, long};
+use oracle::job_files::{longest, misplaced_balanced, no_contours, small, square_job};
 use oracle::jobs::{FAULTS, Fault, Job, JobBuffers, Outcome, Stop};
-use oracle::jobs::{outcome, records, splines, stop, stored, write};
+use oracle::jobs::{color, outcome, records, splines, stop, stored, write};
 use oracle::numbers::Random;
 use oracle::shapes::{Answer, Buffers, buffers, encode, noise, some};
 use oracle::stand_ins::{count, known_outlines};
+use oracle::teardrops::{divided, several};
 use std::io::Write;
 use std::process::{Command, Stdio};
 
@@ -49,6 +52,7 @@ unsafe extern "C" {
         out_len: usize,
     ) -> u64;
     fn merelsplum_job_contour_part(file: *const u8, file_len: usize, contour: u64) -> u64;
+    fn merelsplum_job_balanced(file: *const u8, file_len: usize) -> u64;
 }
 
 pub fn proved_color(file: &[u8], l: &mut [u16], k: &mut [u8], p: &mut [u64], c: &mut [u8]) -> u64 {
@@ -88,6 +92,9 @@ struct Comparison {
     color: Tally,
     listing: Tally,
     part: Tally,
+    balanced: Tally,
+    /// By strategy: how many jobs with BL have other colours than without it.
+    others: [u64; 3],
     classes: Classes,
     stand_ins: Classes,
     /// By the fault that decides: with no other in its record, and with each other.
@@ -273,6 +280,11 @@ impl Comparison {
         let answer = outcome.check();
         let what = || format!("checking {}: {answer:?}, proved {code:#x}", shown(file));
         self.check.note(code == answer.code(), what);
+        let code = unsafe { merelsplum_job_balanced(file.as_ptr(), file.len()) };
+        let expected = outcome.balanced();
+        let what =
+            || format!("whether {} is balanced: {expected:#x}, proved {code:#x}", shown(file));
+        self.balanced.note(code == expected, what);
 
         let contours = outcome.reading.as_ref().map_or(0, |r| r.job.contours.len() as u64);
         let any = r.next();
@@ -308,9 +320,19 @@ impl Comparison {
         self.classes.note("files above 34,000 bytes", len > PROGRAM_BYTES);
         if let Ok(reading) = &outcome.reading {
             job_classes(&mut self.classes, &reading.job, &outcome);
+            self.others(&reading.job, &outcome);
             stand_in_classes(&mut self.stand_ins, &reading.job, &outcome);
         }
         outcome
+    }
+
+    /// Of an accepted job with BL: whether it has other colours without it.
+    fn others(&mut self, job: &Job, outcome: &Outcome) {
+        let (true, Ok(shape)) = (job.balanced, &outcome.colored) else { return };
+        let source = color(&Job { balanced: false, ..job.clone() }).expect("accepted without BL");
+        let (source, balanced) = (encode(&source), encode(shape));
+        let other = divided(&job.contours, job.threshold, &source, &balanced, 7);
+        self.others[job.strategy as usize - 1] += other as u64;
     }
 
     /// Prints how often each kind was met, and the counts of the entries, which go to the whole.
@@ -328,12 +350,18 @@ impl Comparison {
             println!("{name:60}{count:>10}");
             all.met(count, || name);
         }
+        for (name, count) in ["simple", "ink trap", "by distance"].iter().zip(self.others) {
+            let name = format!("BL, other colours than without it, {name}");
+            println!("{name:60}{count:>10}");
+            all.met(count, || name);
+        }
         println!("{} job files", self.files);
         all.close("reading a job file", self.read);
         all.close("checking a job file", self.check);
         all.close("colouring a job file", self.color);
         all.close("listing of a job file", self.listing);
         all.close("part of a contour", self.part);
+        all.close("whether a job is balanced", self.balanced);
     }
 }
 
@@ -382,7 +410,7 @@ fn size_classes<const N: usize>(
 }
 
 fn stop_classes(classes: &mut Classes, fault: Fault, stop: &Stop) {
-    let Stop { mark, strategy, after_distances, .. } = stop;
+    let Stop { mark, last, rest, strategy, after_distances, .. } = stop;
     let (start, after) = (*strategy == 0, *after_distances);
     let among = !start && !after;
     let unknown = fault == Fault::UnknownMark;
@@ -392,6 +420,20 @@ fn stop_classes(classes: &mut Classes, fault: Fault, stop: &Stop) {
     let misplaced = |at: bool, is: bool| fault == Fault::Misplaced && at && is;
     let edge = [&b"LN"[..], b"QD", b"CB"].contains(mark);
     let (contour, distances, end) = (*mark == b"CT", *mark == b"DS", *mark == b"EN");
+    let (balanced, after_edge) = (*mark == b"BL", [&b"LN"[..], b"QD", b"CB"].contains(last));
+    classes.note("BL before JB", misplaced(start, balanced));
+    classes.note("BL twice", misplaced(*last == b"BL", balanced));
+    classes.note("BL after CT", misplaced(*last == b"CT", balanced));
+    classes.note("BL after an edge", misplaced(after_edge, balanced));
+    let between = (*last == b"CT" || after_edge) && rest.starts_with(b"CT");
+    classes.note("BL between contours", misplaced(between, balanced));
+    classes.note("BL after DS", misplaced(*last == b"DS", balanced));
+    classes.note("BL after EN", fault == Fault::AfterEnd && rest.starts_with(b"BL"));
+    let cut = fault == Fault::MarkCut;
+    classes.note("BL cut", cut && *mark == b"B" && *last == b"JB");
+    classes.note("the end after BL", cut && mark.is_empty() && *last == b"BL");
+    classes.note("an edge directly after BL", misplaced(*last == b"BL", edge));
+    classes.note("JB after BL", misplaced(*last == b"BL", *mark == b"JB"));
     classes.note("CT before JB", misplaced(start, contour));
     classes.note("an edge before JB", misplaced(start, edge));
     classes.note("DS before JB", misplaced(start, distances));
@@ -429,15 +471,23 @@ fn number_classes(classes: &mut Classes, fault: Fault, x: f64) {
 }
 
 fn job_classes(classes: &mut Classes, job: &Job, outcome: &Outcome) {
-    let Job { strategy, seed, threshold, contours, distances } = job;
+    let Job { strategy, seed, threshold, balanced, contours, distances } = job;
     let (n, edges) = (contours.len(), contours.iter().map(Vec::len).sum::<usize>());
     let splines = if *strategy == 3 || edges > 64 { splines(job) } else { 0 };
     classes.note("read, refused by its splines or distances", outcome.colored.is_err());
+    classes.note("the same with BL", *balanced && outcome.colored.is_err());
     classes.note("65 splines, by distance", *strategy == 3 && splines == 65);
     let Ok(shape) = &outcome.colored else { return };
     classes.note("accepted, simple", *strategy == 1);
     classes.note("accepted, ink trap", *strategy == 2);
     classes.note("accepted, by distance", *strategy == 3);
+    classes.note("BL, simple", *balanced && *strategy == 1);
+    classes.note("BL, ink trap", *balanced && *strategy == 2);
+    classes.note("BL, by distance", *balanced && *strategy == 3);
+    classes.note("BL, no contours", *balanced && n == 0);
+    classes.note("BL, empty contours only", *balanced && n > 0 && edges == 0);
+    classes.note("BL, 256 edges", *balanced && edges == 256);
+    classes.note("BL, 64 contours", *balanced && n == 64);
     classes.note("no contours, simple", n == 0 && *strategy == 1);
     classes.note("no contours, ink trap", n == 0 && *strategy == 2);
     classes.note("no contours, by distance", n == 0 && *strategy == 3);
@@ -474,6 +524,7 @@ fn job_classes(classes: &mut Classes, job: &Job, outcome: &Outcome) {
     classes.note("edges of all three kinds", (1..4).all(kind));
     let lengths = || shape.contours.iter().map(|c| c.segments.len());
     classes.note("more edges out than in", lengths().sum::<usize>() > edges);
+    classes.note("BL, more edges out than in", *balanced && lengths().sum::<usize>() > edges);
     classes.note("508 edges out", lengths().sum::<usize>() == 508);
     classes.note("a contour number of two digits", n > 10 && lengths().skip(10).any(|m| m > 0));
     classes.note("a place of two digits", lengths().any(|m| m > 10));
@@ -507,7 +558,7 @@ fn known_answers(c: &mut Comparison, all: &mut Tally) {
         Ok(shape) => Ok(shape.contours.iter().map(|c| c.segments.len()).sum::<usize>()),
         Err(fault) => Err(fault.number()),
     };
-    for Known { name, file, answer } in known() {
+    for Known { name, file, answer } in known().into_iter().chain(known_balanced()) {
         let found = edges(&c.file(r, &file));
         part.note(found == answer, || format!("{name}: {found:?}, not {answer:?}"));
         c.classes.note(name, true);
@@ -521,7 +572,7 @@ fn known_answers(c: &mut Comparison, all: &mut Tally) {
         let found = outcome(&write(&job)).text();
         part.note(found == text, || format!("{found}, not {text}"));
     }
-    part.note(write(&longest()).len() == 33_177, || "the longest accepted file".to_string());
+    part.note(write(&longest()).len() == 33_179, || "the longest accepted file".to_string());
     let text = outcome(&write(&widest_of_stand_ins(1))).text();
     let last = text.ends_with("\nedges 508\nstandins 449\n");
     part.note(last && text.len() == 4_685, || format!("the longest text: {text}"));
@@ -534,7 +585,9 @@ fn known_stand_ins(c: &mut Comparison, all: &mut Tally) {
     let r = &mut Random(708);
     for known in known_outlines() {
         for (strategy, threshold) in (1..4).flat_map(|s| [(s, 0.125), (s, -1.0)]) {
-            let file = write(&by(r, strategy, known.contours.clone(), threshold));
+            let balanced = r.coin();
+            let job = by(r, strategy, known.contours.clone(), threshold);
+            let file = write(&Job { balanced, ..job });
             let outcome = c.file(r, &file);
             let text = outcome.text();
             let last = format!("\nstandins {}\n", known.stand_ins);
@@ -544,6 +597,26 @@ fn known_stand_ins(c: &mut Comparison, all: &mut Tally) {
         }
     }
     all.close("job files with stand-ins as written out", part);
+}
+
+/// BL at every place of small files, and jobs of several teardrops with and without it.
+fn balanced(c: &mut Comparison) {
+    let r = &mut Random(710);
+    for number in 0..400 {
+        let job = small(r, 1 + (number % 3) as u8);
+        for file in misplaced_balanced(&job) {
+            assert_eq!(c.file(r, &file).fault().map(Fault::number), Some(3), "{}", shown(&file));
+        }
+        let other = write(&Job { balanced: !job.balanced, ..job });
+        assert_eq!(c.file(r, &other).fault(), None, "{}", shown(&other));
+    }
+    for number in 0..3_000 {
+        let threshold = r.pick(&[0.125, 0.5]);
+        let contours = several(r, threshold);
+        let job = by(r, 1 + (number % 3) as u8, contours, threshold);
+        c.file(r, &write(&Job { balanced: true, ..job.clone() }));
+        c.file(r, &write(&job));
+    }
 }
 
 /// Two faults of one record.
@@ -592,16 +665,22 @@ fn long_files(c: &mut Comparison) {
     }
 }
 
-/// Small files cut at every place, and with every byte that can stand at a place of the square's files.
+/// Small files cut at every place, and with every byte that can stand at a place of the square's files; of one with BL
+/// at the first places.
 fn each_place(c: &mut Comparison) {
     let r = &mut Random(701);
     for number in 0..60 {
         let whole = write(&small(r, 1 + number % 3));
         (0..whole.len()).for_each(|len| drop(c.cut(r, &whole, len)));
     }
-    for strategy in [1, 3] {
-        let mut file = write(&square_job(strategy));
-        for at in 0..file.len() {
+    for (job, places) in [
+        (square_job(1), usize::MAX),
+        (square_job(3), usize::MAX),
+        (Job { balanced: true, ..square_job(2) }, 25),
+        (Job { balanced: true, ..no_contours(3) }, usize::MAX),
+    ] {
+        let mut file = write(&job);
+        for at in 0..places.min(file.len()) {
             let was = file[at];
             for byte in (0..=255).filter(|&byte| byte != was) {
                 file[at] = byte;
@@ -705,6 +784,7 @@ pub fn compare(all: &mut Tally) {
     let mut c = Comparison::default();
     known_answers(&mut c, all);
     known_stand_ins(&mut c, all);
+    balanced(&mut c);
     both_faults(&mut c);
     planted_faults(&mut c, all);
     long_files(&mut c);

@@ -1,7 +1,7 @@
 //! Runs the proved code, through the archives of target/staticlib, beside the Rust of docs/src, and counts
 //! the answers that differ. The last line is the verdict. A word names one part alone: `leaves`,
-//! `edges`, `tables`, `shapes`, `directions`, `distances`, `jobs`, `channels`, or `root`, which a run of all
-//! leaves out. `speed` measures and compares nothing, and runs `pass` under callgrind.
+//! `edges`, `tables`, `shapes`, `directions`, `distances`, `teardrops`, `jobs`, `channels`, or `root`, which a run of
+//! all leaves out. `speed` measures and compares nothing, and runs `pass` under callgrind.
 
 mod directions;
 mod distances;
@@ -14,6 +14,7 @@ mod shapes;
 mod speed;
 mod stand_ins;
 mod tables;
+mod teardrops;
 
 /// How many answers were compared, how many of them differ, and how many kinds of input that are asked
 /// for were not met.
@@ -50,6 +51,16 @@ impl Tally {
         self.add(part);
     }
 
+    /// The same of a part by the balanced division, with how many of the results are others by the source's.
+    pub fn close_divided(&mut self, name: &str, part: Tally, others: u64) {
+        let (compared, differ) = (part.compared, part.differ);
+        println!(
+            "{name}: {compared} compared, {differ} differ; {others} others by the source's division"
+        );
+        self.add(part);
+        self.met(others, || format!("{name}: a result that is another by the source's division"));
+    }
+
     pub fn add(&mut self, part: Tally) {
         self.compared += part.compared;
         self.differ += part.differ;
@@ -57,7 +68,7 @@ impl Tally {
 }
 
 fn usage() -> ! {
-    let parts = "leaves | edges | tables | shapes | directions | distances | jobs | channels | root";
+    let parts = "leaves | edges | tables | shapes | directions | distances | teardrops | jobs | channels | root";
     eprintln!("usage: compare [{parts}]");
     eprintln!("       compare speed [FOLDER...]");
     eprintln!("       compare pass ROW proved|rust [FOLDER...]");
@@ -75,6 +86,7 @@ fn main() {
             shapes::compare(&mut all);
             directions::compare(&mut all);
             distances::compare(&mut all);
+            teardrops::compare(&mut all);
             jobs::compare(&mut all);
             jobs::program(&mut all);
         }
@@ -84,6 +96,7 @@ fn main() {
         Some("shapes") => shapes::compare(&mut all),
         Some("directions") => directions::compare(&mut all),
         Some("distances") => distances::compare(&mut all),
+        Some("teardrops") => teardrops::compare(&mut all),
         Some("jobs") => jobs::compare(&mut all),
         Some("channels") => jobs::program(&mut all),
         Some("root") => root::compare(&mut all),

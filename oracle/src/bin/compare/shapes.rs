@@ -1,6 +1,8 @@
-//! Simple and ink-trap colouring: shapes, refusals and the trichotomy.
+//! Simple and ink-trap colouring, by the source's division of teardrops and by the balanced one: shapes, refusals and
+//! the trichotomy.
 
 use crate::{Tally, stand_ins};
+use oracle::balanced;
 use oracle::contours::{self, Edges, directions};
 use oracle::given::probe;
 use oracle::math::{cross, dot};
@@ -11,6 +13,7 @@ use oracle::shapes::{
     buffers, call, color, decode, faults, outline, refusal, result, source_shape,
 };
 use oracle::stand_ins::known_outlines;
+use oracle::teardrops::{self, TIES, divided};
 
 type Entry = unsafe extern "C" fn(
     lengths: *const u16,
@@ -57,18 +60,26 @@ macro_rules! entries {
     };
 }
 
-entries!(merelsplum_edge_coloring_simple, merelsplum_edge_coloring_ink_trap);
+entries!(
+    merelsplum_edge_coloring_simple,
+    merelsplum_edge_coloring_ink_trap,
+    merelsplum_edge_coloring_simple_balanced,
+    merelsplum_edge_coloring_ink_trap_balanced
+);
 
-fn entry(strategy: Strategy) -> Entry {
-    match strategy {
-        Strategy::Simple => merelsplum_edge_coloring_simple,
-        Strategy::InkTrap => merelsplum_edge_coloring_ink_trap,
+fn entry(strategy: Strategy, balanced: bool) -> Entry {
+    match (strategy, balanced) {
+        (Strategy::Simple, false) => merelsplum_edge_coloring_simple,
+        (Strategy::InkTrap, false) => merelsplum_edge_coloring_ink_trap,
+        (Strategy::Simple, true) => merelsplum_edge_coloring_simple_balanced,
+        (Strategy::InkTrap, true) => merelsplum_edge_coloring_ink_trap_balanced,
     }
 }
 
 /// The proved colouring. A double goes by the address of its bits, which are not touched on the way.
 pub fn proved(
     strategy: Strategy,
+    balanced: bool,
     o: &Outline,
     threshold: f64,
     seed: u64,
@@ -78,7 +89,7 @@ pub fn proved(
     colors: &mut [u8],
 ) -> u64 {
     unsafe {
-        entry(strategy)(
+        entry(strategy, balanced)(
             o.lengths.as_ptr(),
             o.lengths.len(),
             o.kinds.as_ptr(),
@@ -162,17 +173,19 @@ impl Room {
 
 /// Colours by the proved code and by the source, and compares the answer and every bit of the seven
 /// buffers. Answer and result are the source's.
-fn compare_call(part: &mut Tally, strategy: Strategy, call: &Call) -> (Answer, Buffers) {
+pub fn compare_call(part: &mut Tally, strategy: Strategy, call: &Call) -> (Answer, Buffers) {
     let (o, mut room) = (call.outline.clone(), Room::new(&call.out));
     let (l, k, p, c) = room.parts();
-    let code = proved(strategy, &o, call.threshold, call.seed, l, k, p, c);
+    let code = proved(strategy, call.balanced, &o, call.threshold, call.seed, l, k, p, c);
     let (answer, after) = color(strategy, call);
     let agree = code == answer.code() && room.is(&after) && o == call.outline;
     part.note(agree, || {
         let (o, threshold, seed) = (&call.outline, call.threshold, call.seed);
         let (l, k, p) = (&o.lengths, &o.kinds, &o.points);
-        let what =
-            format!("{strategy:?} of {l:?} {k:?} {p:016X?}, threshold {threshold:?}, seed {seed}");
+        let by = if call.balanced { ", balanced," } else { "" };
+        let what = format!(
+            "{strategy:?}{by} of {l:?} {k:?} {p:016X?}, threshold {threshold:?}, seed {seed}"
+        );
         let what: String = what.chars().take(2000).collect();
         let found = room.parts().3;
         format!("{what}: {answer:?}, proved {code:#x}, {found:?} and {:?}", after.colors)
@@ -345,37 +358,67 @@ fn spline_lengths(edges: &Edges, corners: &[usize]) -> Vec<f64> {
 
 // ---- comparisons
 
-/// The rule in whole numbers (SCOPE, Leaves) against the source's expression.
+/// The rules in whole numbers (SCOPE, Leaves) against the source's expression, and against the copy with the balanced
+/// division. The two are the same but at the ties; by the balanced one the numbers sum to zero and the outer runs are
+/// of one length.
 fn trichotomy(all: &mut Tally) {
-    let mut part = Tally::default();
+    let (mut source, mut copy, mut runs) = Default::default();
+    let mut ties = Vec::new();
     for n in 3..=256 {
+        let mut ends = [0; 3];
         for p in 0..n {
-            let rule = match 46 * p {
-                x if x < 15 * (n - 1) => -1,
-                x if x < 31 * (n - 1) => 0,
-                _ => 1,
-            };
-            let source = probe::trichotomy(p, n);
-            part.note(rule == source, || {
-                format!("place {p} among {n}: {source}, by the rule {rule}")
+            let (old, new) = (probe::trichotomy(p, n), balanced::probe::trichotomy(p, n));
+            let rule = teardrops::by_the_source(p, n);
+            Tally::note(&mut source, rule == old, || {
+                format!("place {p} among {n}: {old}, by the rule {rule}")
             });
+            let rule = teardrops::balanced(p, n);
+            let as_rule = new == rule && (new == old || (old, new) == (1, 0));
+            Tally::note(&mut copy, as_rule, || {
+                format!("place {p} among {n}, balanced: {new}, by the rule {rule}, before {old}")
+            });
+            if old != new {
+                ties.push((p, n));
+            }
+            ends[(1 + new) as usize] += 1;
         }
+        let [first, middle, last] = ends;
+        let balanced = first == last && middle > 0;
+        Tally::note(&mut runs, balanced, || format!("runs of {n}, balanced: {ends:?}"));
     }
-    all.close("trichotomy, rule and source", part);
+    let known: Vec<(i32, i32)> = (1..6).map(|k| (31 * k, 46 * k + 1)).collect();
+    assert_eq!(ties, known);
+    assert!(ties.iter().map(|tie| tie.1 as usize).eq(TIES));
+    all.close("trichotomy, rule and source", source);
+    all.close_divided("trichotomy, balanced rule and copy", copy, ties.len() as u64);
+    all.close("runs by the balanced division", runs);
 }
 
 const SHAPES: u64 = 250_000;
 
+/// A share of the shapes, and each one on which the divisions differ, is coloured by both.
+pub fn by_both(in_share: bool, shape: &[Edges], threshold: f64) -> bool {
+    in_share || !teardrops::ties(shape, threshold).is_empty()
+}
+
 fn shapes(all: &mut Tally) {
     let mut parts = [Tally::default(), Tally::default()];
+    let mut balanced_parts = [(Tally::default(), 0), (Tally::default(), 0)];
     let (mut classes, mut stand_in_classes) = (Classes::default(), Classes::default());
     let mut colors = [[0u64; 8]; 2];
     let r = &mut Random(400);
-    for _ in 0..SHAPES {
+    for number in 0..SHAPES {
         let call = call(r);
         let shape = decode(&call.outline);
         for (which, strategy) in STRATEGIES.into_iter().enumerate() {
             let (answer, after) = compare_call(&mut parts[which], strategy, &call);
+            if by_both(number % 4 == 0, &shape, call.threshold) {
+                let (part, others) = &mut balanced_parts[which];
+                let call = Call { balanced: true, ..call.clone() };
+                let (balanced_answer, other) = compare_call(part, strategy, &call);
+                assert_eq!(balanced_answer, answer);
+                *others += divided(&shape, call.threshold, &after, &other, 7) as u64;
+            }
             let Answer::Colored { edges: count, stand_ins } = answer else {
                 panic!("refused: {answer:?}")
             };
@@ -407,6 +450,10 @@ fn shapes(all: &mut Tally) {
     let [simple, ink_trap] = parts;
     all.close("simple colouring", simple);
     all.close("ink-trap colouring", ink_trap);
+    let names = ["simple colouring, balanced", "ink-trap colouring, balanced"];
+    for (name, (part, others)) in names.into_iter().zip(balanced_parts) {
+        all.close_divided(name, part, others);
+    }
     for (strategy, counts) in STRATEGIES.iter().zip(colors) {
         println!("edges by colour, {strategy:?}: {counts:?}");
         for color in [3, 5, 6, 7] {
@@ -429,9 +476,10 @@ fn known_stand_ins(all: &mut Tally) {
     let mut part = Tally::default();
     let r = &mut Random(403);
     for known in known_outlines() {
-        for (strategy, threshold) in STRATEGIES.into_iter().flat_map(|s| [(s, 0.125), (s, -1.0)]) {
+        let ways = STRATEGIES.into_iter().flat_map(|s| [(s, 0.125), (s, -1.0)]);
+        for ((strategy, threshold), balanced) in ways.flat_map(|way| [(way, false), (way, true)]) {
             let (outline, out) = (outline(r, &known.contours), buffers(r, 64, 508, 4064, 508));
-            let call = Call { outline, threshold, seed: 1, out };
+            let call = Call { outline, threshold, seed: 1, balanced, out };
             let (answer, _) = compare_call(&mut part, strategy, &call);
             let found = match answer {
                 Answer::Colored { stand_ins, .. } => Some(stand_ins),
@@ -445,16 +493,16 @@ fn known_stand_ins(all: &mut Tally) {
 }
 
 /// Calls with up to three faults: what is refused, by which number, and no byte changed.
-fn refusals(all: &mut Tally) {
+fn refusals(all: &mut Tally, balanced: bool, seed: u64, calls: usize) {
     let mut part = Tally::default();
     let mut alone = [[0u64; 7]; FAULTS.len()];
     let mut one_short = [0u64; 4];
     // by the refusal that decides, and another that holds besides
     let mut besides = [[0u64; 6]; 6];
     let mut classes = Classes::default();
-    let r = &mut Random(401);
-    for number in 0..200_000 {
-        let mut call = call(r);
+    let r = &mut Random(seed);
+    for number in 0..calls {
+        let mut call = Call { balanced, ..call(r) };
         let count = r.below(4);
         let mut fault = 0;
         for _ in 0..count {
@@ -506,7 +554,7 @@ fn refusals(all: &mut Tally) {
         all.met(count, || format!("result {name} one short, the others exact"));
     }
     classes.close(all);
-    all.close("refusals", part);
+    all.close(if balanced { "refusals, balanced" } else { "refusals" }, part);
 }
 
 /// Notes a call of which one result buffer is one short and the others are exactly right.
@@ -528,5 +576,6 @@ pub fn compare(all: &mut Tally) {
     trichotomy(all);
     known_stand_ins(all);
     shapes(all);
-    refusals(all);
+    refusals(all, false, 401, 200_000);
+    refusals(all, true, 404, 60_000);
 }

@@ -25,7 +25,8 @@ fn calls(count: usize) -> Vec<DistanceCall> {
     while calls.len() < count {
         let shape = with_splines(r, MOST_SPLINES, 0.125);
         let (outline, out) = (outline(r, &shape), Buffers::default());
-        let call = Call { outline, threshold: 0.125, seed: calls.len() as u64, out };
+        let seed = calls.len() as u64;
+        let call = Call { outline, threshold: 0.125, seed, balanced: false, out };
         if collected(&call).splines == MOST_SPLINES {
             let distance = |_| (r.unit().abs() + 0.5).to_bits();
             let distances = (0..pairs(MOST_SPLINES)).map(distance).collect();

@@ -56,7 +56,8 @@ fn files(strategy: u8, count: usize) -> Vec<Vec<u8>> {
         let contours = mixed(r);
         let distances = (0..pairs(MOST_SPLINES)).map(|_| r.unit().abs() + 0.5).collect();
         let distances = if strategy == 3 { distances } else { Vec::new() };
-        let job = Job { strategy, seed: files.len() as u64, threshold: 0.125, contours, distances };
+        let seed = files.len() as u64;
+        let job = Job { strategy, seed, threshold: 0.125, balanced: false, contours, distances };
         if splines(&job) == MOST_SPLINES {
             files.push(write(&job));
         }

@@ -126,7 +126,7 @@ fn race(strategy: Strategy, jobs: &[Job]) -> Race {
 
 fn color(strategy: Strategy, o: &Outline, threshold: f64, seed: u64, out: &mut Buffers) -> u64 {
     let Buffers { lengths, kinds, points, colors } = out;
-    proved(strategy, o, threshold, seed, lengths, kinds, points, colors)
+    proved(strategy, false, o, threshold, seed, lengths, kinds, points, colors)
 }
 
 /// Whether buffers begin with a result.
