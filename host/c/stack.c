@@ -17,7 +17,7 @@ static double points[8 * MERELSPLUM_MAX_EDGES], out_points[8 * MERELSPLUM_MAX_RE
 static double distances[MERELSPLUM_MAX_DISTANCES], out_directions[4 * MERELSPLUM_MAX_EDGES];
 static uint8_t out_stand_ins[2 * MERELSPLUM_MAX_EDGES];
 static uint8_t coloring[MERELSPLUM_MAX_SPLINES], matrix[MERELSPLUM_MAX_SPLINES * MERELSPLUM_MAX_SPLINES];
-static uint8_t file[40000], text[MERELSPLUM_MAX_LISTING_BYTES];
+static uint8_t file[40000], balanced_file[40000], text[MERELSPLUM_MAX_LISTING_BYTES];
 static size_t file_len;
 static uint64_t numbers[6];
 
@@ -30,6 +30,12 @@ static uint64_t by_distance(void) {
     return merelsplum_edge_coloring_by_distance(OUTLINE, 0.125, 7, distances, MERELSPLUM_MAX_DISTANCES, RESULT);
 }
 static uint64_t collect(void) { return merelsplum_collect_splines(OUTLINE, 0.125, RESULT); }
+static uint64_t simple_balanced(void) { return merelsplum_edge_coloring_simple_balanced(OUTLINE, 0.125, 7, RESULT); }
+static uint64_t ink_trap_balanced(void) { return merelsplum_edge_coloring_ink_trap_balanced(OUTLINE, 0.125, 7, RESULT); }
+static uint64_t by_distance_balanced(void) {
+    return merelsplum_edge_coloring_by_distance_balanced(OUTLINE, 0.125, 7, distances, MERELSPLUM_MAX_DISTANCES, RESULT);
+}
+static uint64_t collect_balanced(void) { return merelsplum_collect_splines_balanced(OUTLINE, 0.125, RESULT); }
 static uint64_t directions(void) {
     return merelsplum_edge_directions(
         OUTLINE, out_directions, 4 * MERELSPLUM_MAX_EDGES, out_stand_ins, 2 * MERELSPLUM_MAX_EDGES);
@@ -41,9 +47,12 @@ static uint64_t offer(void) {
 static uint64_t job_read(void) {
     return merelsplum_job_read(file, file_len, out_lengths, 64, out_kinds, 256, out_points, 2048, distances, 2016, numbers);
 }
+static uint64_t job_balanced(void) { return merelsplum_job_balanced(balanced_file, file_len + 2); }
 static uint64_t job_check(void) { return merelsplum_job_check(file, file_len); }
 static uint64_t job_color(void) { return merelsplum_job_color(file, file_len, RESULT); }
 static uint64_t job_listing(void) { return merelsplum_job_listing(file, file_len, text, sizeof text); }
+static uint64_t balanced_color(void) { return merelsplum_job_color(balanced_file, file_len + 2, RESULT); }
+static uint64_t balanced_listing(void) { return merelsplum_job_listing(balanced_file, file_len + 2, text, sizeof text); }
 static uint64_t job_contour_part(void) { return merelsplum_job_contour_part(file, file_len, CONTOURS - 1); }
 
 static const struct {
@@ -54,12 +63,19 @@ static const struct {
     {"edge_coloring_ink_trap", ink_trap},
     {"edge_coloring_by_distance", by_distance},
     {"collect_splines", collect},
+    {"edge_coloring_simple_balanced", simple_balanced},
+    {"edge_coloring_ink_trap_balanced", ink_trap_balanced},
+    {"edge_coloring_by_distance_balanced", by_distance_balanced},
+    {"collect_splines_balanced", collect_balanced},
     {"edge_directions", directions},
     {"try_add_edge", offer},
     {"job_read", job_read},
+    {"job_balanced", job_balanced},
     {"job_check", job_check},
     {"job_color", job_color},
+    {"job_color, a file with BL", balanced_color},
     {"job_listing", job_listing},
+    {"job_listing, a file with BL", balanced_listing},
     {"job_contour_part", job_contour_part},
 };
 
@@ -116,6 +132,7 @@ static void prepare(void) {
     for (int i = 0; i < MERELSPLUM_MAX_DISTANCES; i++)
         distances[i] = 1 + i * 37 % 2017;
     put("DS", 2), put(&count, 2), put(distances, sizeof distances), put("EN", 2);
+    memcpy(balanced_file, file, 19), memcpy(balanced_file + 19, "BL", 2), memcpy(balanced_file + 21, file + 19, file_len - 19);
     /* 0, 1, 2 and 3 all kept apart but for the pair that is offered, so that a walk begins and is stopped */
     for (int i = 0; i < 4; i++) {
         coloring[i] = (uint8_t)(i % 3);
@@ -135,7 +152,7 @@ int main(void) {
             fprintf(stderr, "%s: refused %#llx\n", calls[i].name, (unsigned long long)run.answer);
             return 1;
         }
-        printf("%-28s%8zu bytes of stack\n", calls[i].name, use);
+        printf("%-36s%8zu bytes of stack\n", calls[i].name, use);
         if (use > most)
             most = use;
     }

@@ -49,10 +49,16 @@ static void nothing(void) {
     CHECK(merelsplum_edge_coloring_ink_trap(NULL, 0, NULL, 0, NULL, 0, 0, 0, NULL, 0, NULL, 0, NULL, 0, NULL, 0) == 0);
     CHECK(merelsplum_edge_coloring_by_distance(NULL, 0, NULL, 0, NULL, 0, 0, 0, NULL, 0, NULL, 0, NULL, 0, NULL, 0, NULL, 0) == 0);
     CHECK(merelsplum_collect_splines(NULL, 0, NULL, 0, NULL, 0, 0, NULL, 0, NULL, 0, NULL, 0, NULL, 0) == 0);
+    CHECK(merelsplum_edge_coloring_simple_balanced(NULL, 0, NULL, 0, NULL, 0, 0, 0, NULL, 0, NULL, 0, NULL, 0, NULL, 0) == 0);
+    CHECK(merelsplum_edge_coloring_ink_trap_balanced(NULL, 0, NULL, 0, NULL, 0, 0, 0, NULL, 0, NULL, 0, NULL, 0, NULL, 0) == 0);
+    CHECK(merelsplum_edge_coloring_by_distance_balanced(
+              NULL, 0, NULL, 0, NULL, 0, 0, 0, NULL, 0, NULL, 0, NULL, 0, NULL, 0, NULL, 0) == 0);
+    CHECK(merelsplum_collect_splines_balanced(NULL, 0, NULL, 0, NULL, 0, 0, NULL, 0, NULL, 0, NULL, 0, NULL, 0) == 0);
     CHECK(merelsplum_edge_directions(NULL, 0, NULL, 0, NULL, 0, NULL, 0, NULL, 0) == 0);
     CHECK(merelsplum_offer_refusal(merelsplum_try_add_edge(NULL, 0, NULL, 0, 0, 1)) == MERELSPLUM_BAD_TABLE);
     uint64_t numbers[6];
     CHECK(merelsplum_refusal(merelsplum_job_read(NULL, 0, NULL, 0, NULL, 0, NULL, 0, NULL, 0, numbers)) == MERELSPLUM_TRUNCATED);
+    CHECK(merelsplum_refusal(merelsplum_job_balanced(NULL, 0)) == MERELSPLUM_TRUNCATED);
     CHECK(merelsplum_refusal(merelsplum_job_check(NULL, 0)) == MERELSPLUM_TRUNCATED);
     CHECK(merelsplum_refusal(merelsplum_job_color(NULL, 0, NULL, 0, NULL, 0, NULL, 0, NULL, 0)) == MERELSPLUM_TRUNCATED);
     CHECK(merelsplum_refusal(merelsplum_job_listing(NULL, 0, NULL, 0)) == MERELSPLUM_RESULT_TOO_SHORT);
@@ -138,6 +144,66 @@ static void stand_ins(void) {
     CHECK(counted(256, k, p, 0.125, 255) == MERELSPLUM_REFUSED + MERELSPLUM_RESULT_TOO_SHORT);
     CHECK(counted(256, k, p, 1.5, 256) == MERELSPLUM_REFUSED + MERELSPLUM_BAD_THRESHOLD);
     CHECK(counted(EDGES, k, p, 0.125, 256) == MERELSPLUM_REFUSED + MERELSPLUM_TOO_MANY);
+}
+
+enum { DROP = 47 };
+
+/* An edge of a contour of 47 lines that turn a little each, and far from the last to the first. */
+static void drop_edge(double points[8], int i) {
+    const double edge[8] = {0, 0, 23 - i, 12};
+    memcpy(points, edge, sizeof edge);
+}
+
+/* Whether 47 bytes have the middle one at so many places after the first few, and another before and after each. */
+static int runs_are(const uint8_t bytes[DROP], int first, int middle, uint8_t value) {
+    for (int i = 0; i < DROP; i++) {
+        const uint8_t expected = i < first ? bytes[0] : i < first + middle ? value : bytes[DROP - 1];
+        if (bytes[i] != expected)
+            return 0;
+    }
+    return bytes[0] != value && bytes[DROP - 1] != value && bytes[0] != bytes[DROP - 1];
+}
+
+/* 47 edges with one corner are 15, 16 and 16, balanced 15, 17 and 15; what is refused leaves the buffers. */
+static void teardrops(void) {
+    static const uint16_t l[] = {DROP};
+    static const double touching[] = {0}, none[1];
+    uint8_t k[DROP];
+    double p[8 * DROP];
+    struct {
+        uint16_t lengths[1];
+        uint8_t kinds[DROP], bytes[DROP];
+        double points[8 * DROP];
+    } out, before;
+    memset(k, MERELSPLUM_LINE, sizeof k), memset(&out, 5, sizeof out);
+    for (int i = 0; i < DROP; i++)
+        drop_edge(p + 8 * i, i);
+#define TEARDROP l, 1, k, DROP, p, 8 * DROP
+#define ROOM(n) out.lengths, 1, out.kinds, n, out.points, 8 * (n), out.bytes, n
+    before = out;
+    CHECK(merelsplum_edge_coloring_simple_balanced(TEARDROP, 0.125, 0, ROOM(46)) == MERELSPLUM_REFUSED + 11);
+    CHECK(merelsplum_edge_coloring_ink_trap_balanced(TEARDROP, 1.5, 0, ROOM(DROP)) == MERELSPLUM_REFUSED + 6);
+    CHECK(merelsplum_edge_coloring_by_distance_balanced(TEARDROP, 0.125, 0, none, 0, ROOM(DROP)) == MERELSPLUM_REFUSED + 8);
+    CHECK(merelsplum_collect_splines_balanced(TEARDROP, -1.5, ROOM(DROP)) == MERELSPLUM_REFUSED + 6);
+    CHECK(memcmp(&before, &out, sizeof out) == 0);
+
+    CHECK(merelsplum_edge_coloring_simple(TEARDROP, 0.125, 0, ROOM(DROP)) == DROP);
+    CHECK(runs_are(out.bytes, 15, 16, MERELSPLUM_WHITE));
+    CHECK(merelsplum_edge_coloring_simple_balanced(TEARDROP, 0.125, 0, ROOM(DROP)) == DROP);
+    CHECK(runs_are(out.bytes, 15, 17, MERELSPLUM_WHITE));
+    CHECK(out.lengths[0] == DROP && memcmp(out.kinds, k, sizeof k) == 0 && memcmp(out.points, p, sizeof p) == 0);
+    CHECK(merelsplum_edge_coloring_ink_trap(TEARDROP, 0.125, 0, ROOM(DROP)) == DROP);
+    CHECK(runs_are(out.bytes, 15, 16, MERELSPLUM_WHITE));
+    CHECK(merelsplum_edge_coloring_ink_trap_balanced(TEARDROP, 0.125, 0, ROOM(DROP)) == DROP);
+    CHECK(runs_are(out.bytes, 15, 17, MERELSPLUM_WHITE));
+    CHECK(merelsplum_edge_coloring_by_distance(TEARDROP, 0.125, 0, touching, 1, ROOM(DROP)) == DROP);
+    CHECK(runs_are(out.bytes, 15, 16, MERELSPLUM_WHITE));
+    CHECK(merelsplum_edge_coloring_by_distance_balanced(TEARDROP, 0.125, 0, touching, 1, ROOM(DROP)) == DROP);
+    CHECK(runs_are(out.bytes, 15, 17, MERELSPLUM_WHITE));
+    CHECK(merelsplum_collect_splines(TEARDROP, 0.125, ROOM(DROP)) == DROP + (2 << 16));
+    CHECK(runs_are(out.bytes, 15, 16, MERELSPLUM_NO_SPLINE));
+    CHECK(merelsplum_collect_splines_balanced(TEARDROP, 0.125, ROOM(DROP)) == DROP + (2 << 16));
+    CHECK(runs_are(out.bytes, 15, 17, MERELSPLUM_NO_SPLINE));
 }
 
 /* The refusal of a call with so many contours and edges and so much room for directions and stand-ins. */
@@ -238,6 +304,53 @@ static void job_stand_ins(const uint8_t *file, size_t n, unsigned edges, unsigne
     CHECK(length > strlen(end) && length <= sizeof text && memcmp(text + length - strlen(end), end, strlen(end)) == 0);
 }
 
+/* A file of the 47 edges, with so many marks BL; its length. */
+static size_t drop_file(uint8_t *file, int marks) {
+    static const double threshold = 0.125;
+    size_t n = 19;
+    memset(file, 0, n), memcpy(file, "JB\1", 3), memcpy(file + 11, &threshold, 8);
+    for (int i = 0; i < marks; i++, n += 2)
+        memcpy(file + n, "BL", 2);
+    memcpy(file + n, "CT", 2), n += 2;
+    for (int i = 0; i < DROP; i++, n += 34) {
+        double points[8];
+        drop_edge(points, i);
+        memcpy(file + n, "LN", 2), memcpy(file + n + 2, points, 32);
+    }
+    memcpy(file + n, "EN", 2);
+    return n + 2;
+}
+
+/* A file is coloured as it asks; reading it says the same of both. */
+static void balanced_jobs(void) {
+    uint8_t file[21 + 4 + 34 * DROP + 2], k[DROP], bytes[DROP], text[MERELSPLUM_MAX_LISTING_BYTES];
+    uint16_t l[1];
+    double p[8 * DROP];
+    for (int balanced = 0; balanced < 2; balanced++) {
+        const size_t n = drop_file(file, balanced);
+        CHECK(merelsplum_job_balanced(file, n) == (uint64_t)balanced);
+        CHECK(merelsplum_job_check(file, n) == DROP);
+        CHECK(merelsplum_job_color(file, n, l, 1, k, DROP, p, 8 * DROP, bytes, DROP) == DROP);
+        CHECK(runs_are(bytes, 15, 16 + balanced, MERELSPLUM_WHITE));
+        const char *line = balanced ? "\n0 31 L 7\n0 32 L " : "\n0 30 L 7\n0 31 L ";
+        const uint64_t length = merelsplum_job_listing(file, n, text, sizeof text - 1);
+        text[length < sizeof text ? length : 0] = 0;
+        CHECK(strstr((const char *)text, line));
+        const uint64_t part = merelsplum_job_contour_part(file, n, 0);
+        CHECK(merelsplum_part_start(part) == 19 + 2 * (size_t)balanced && merelsplum_part_len(part) == 2 + 34 * DROP);
+        uint64_t numbers[6];
+        CHECK(merelsplum_job_read(file, n, l, 1, k, DROP, p, 8 * DROP, NULL, 0, numbers) == 0);
+        CHECK(numbers[0] == MERELSPLUM_SIMPLE && numbers[3] == 1 && numbers[4] == DROP && numbers[5] == 0);
+        /* the refusal of the check */
+        CHECK(merelsplum_job_balanced(file, n - 1) == MERELSPLUM_REFUSED + MERELSPLUM_TRUNCATED);
+    }
+    size_t n = drop_file(file, 2);
+    CHECK(merelsplum_job_balanced(file, n) == MERELSPLUM_REFUSED + MERELSPLUM_MISPLACED_MARK);
+    CHECK(merelsplum_job_check(file, n) == MERELSPLUM_REFUSED + MERELSPLUM_MISPLACED_MARK);
+    n = drop_file(file, 1), memcpy(file + 19, "CTBL", 4);
+    CHECK(merelsplum_job_balanced(file, n) == MERELSPLUM_REFUSED + MERELSPLUM_MISPLACED_MARK);
+}
+
 /* The file of docs/FORMAT.md. */
 static void jobs(const char *path) {
     uint8_t file[MERELSPLUM_MAX_JOB_BYTES + 1], text[MERELSPLUM_MAX_LISTING_BYTES];
@@ -282,9 +395,11 @@ int main(int argc, char **argv) {
     outlines();
     parts();
     stand_ins();
+    teardrops();
     directions();
     offers();
     floating_point_state();
+    balanced_jobs();
     CHECK(argc == 2);
     if (argc == 2)
         jobs(argv[1]);

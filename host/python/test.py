@@ -1,11 +1,23 @@
 """Tests of the module, which is installed: python3 test.py."""
 
+import math
 import unittest
+from itertools import groupby
 
 import numpy
 from merelsplum import COLORS, Refusal, collect_splines, color, edge_directions
 
 SQUARE = [[[[0, 0], [1, 0]], [[1, 0], [1, 1]], [[1, 1], [0, 1]], [[0, 1], [0, 0]]]]
+
+
+def drop(edges):
+    """A contour of lines that turn a little each, and far from the last to the first."""
+    ways = [3 / (edges - 1) * i for i in range(edges)]
+    return [[[0, 0], [math.cos(way), math.sin(way)]] for way in ways]
+
+
+def runs(contour):
+    return [(value, len(list(edges))) for value, edges in groupby(value for _, value in contour)]
 
 
 def names(contours):
@@ -37,6 +49,19 @@ class Tests(unittest.TestCase):
         (colored,) = color(SQUARE, "distance", distances=distances)
         bits = [bits for _, bits in colored]
         self.assertTrue(all(a != b for a, b in zip(bits, bits[1:] + bits[:1])), bits)
+
+    def test_balanced(self):
+        for balanced, lengths in [(False, (15, 16, 16)), (True, (15, 17, 15))]:
+            splines, (collected,) = collect_splines([drop(47)], balanced=balanced)
+            self.assertEqual((splines, runs(collected)), (2, list(zip((0, None, 1), lengths))))
+            for strategy, distances in [("simple", None), ("ink_trap", None), ("distance", [0])]:
+                (contour,) = color([drop(47)], strategy, distances=distances, balanced=balanced)
+                (first, a), (middle, b), (last, c) = runs(contour)
+                self.assertEqual((a, b, c), lengths)
+                self.assertTrue(middle == 7 and first != 7 and last != 7 and first != last)
+        for edges in (46, 48):
+            outline = SQUARE + [drop(edges)]
+            self.assertEqual(names(color(outline, balanced=True)), names(color(outline)))
 
     def test_directions(self):
         ((sides, stand_in),) = edge_directions(SQUARE)
@@ -74,6 +99,9 @@ class Tests(unittest.TestCase):
             (7, lambda: color([[[[0, 0], [float("nan"), 0]]]])),
             (8, lambda: color(SQUARE, "distance", distances=[1.0])),
             (9, lambda: color(SQUARE, "distance", distances=6 * [-1.0])),
+            (4, lambda: color(65 * SQUARE, balanced=True)),
+            (8, lambda: color(SQUARE, "distance", distances=[1.0], balanced=True)),
+            (7, lambda: collect_splines([[[[0, 0], [2e6, 0]]]], balanced=True)),
             (4, lambda: edge_directions(65 * SQUARE)),
             (7, lambda: edge_directions([[[[0, 0], [2e6, 0]]]])),
         ]:

@@ -24,7 +24,8 @@ fn file(package: &str, end: &str) -> Vec<u8> {
 /// A sheet as it is preset.
 fn draw(font: &Font, names: &[Name], size: f64) -> sheet::sheet::Sheet {
     let (layout, drawing) = (Layout::new(size, PXRANGE), Drawing::new(PXRANGE));
-    let settings = Settings { strategy: Strategy::InkTrap, angle: 3.0, seed: 0, layout, drawing, unproved: true };
+    let settings =
+        Settings { strategy: Strategy::InkTrap, angle: 3.0, seed: 0, balanced: false, layout, drawing, unproved: true };
     let glyphs = names.iter().enumerate().filter_map(|(place, &name)| Some((place, font.glyph(name)?)));
     let color = |(place, glyph)| settings.color(glyph, 0, place, font.units_per_em()).ok();
     let mut sheet = settings.lay_out(glyphs.filter_map(color).collect()).unwrap();

@@ -50,7 +50,7 @@ fn measure(strategy: Strategy, glyphs: &[(Name, Outline)]) -> Vec<(String, Strin
     let mut refused = Vec::new();
     let mut accepted = Vec::new();
     for (name, outline) in glyphs {
-        let job = job(outline.clone(), strategy, ANGLE.sin(), SEED);
+        let job = job(outline.clone(), strategy, ANGLE.sin(), SEED, false);
         match job.and_then(|job| job.color().map(|_| job)) {
             Ok(job) => accepted.push((job, shape(outline))),
             Err(refusal) => refused.push((name.to_string(), reason(refusal, outline))),

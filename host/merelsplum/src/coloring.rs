@@ -1,4 +1,4 @@
-use crate::ffi::{self, Counts, FlatResult};
+use crate::ffi::{self, Counts, Division, FlatResult};
 use crate::outline::{self, Collected, Colored, EdgeColor, Outline};
 use crate::refusal::Refusal;
 
@@ -26,6 +26,32 @@ fn color(outline: &Outline, entry: impl FnOnce(&ffi::Flat, &mut FlatResult) -> u
     let mut out = outline.room();
     let code = entry(&outline.flat(), &mut out);
     colored(code, &out)
+}
+
+pub(crate) fn simple(division: Division, outline: &Outline, threshold: f64, seed: u64) -> Result<Colored, Refusal> {
+    color(outline, |flat, out| ffi::edge_coloring_simple(division, flat, threshold, seed, out))
+}
+
+pub(crate) fn ink_trap(division: Division, outline: &Outline, threshold: f64, seed: u64) -> Result<Colored, Refusal> {
+    color(outline, |flat, out| ffi::edge_coloring_ink_trap(division, flat, threshold, seed, out))
+}
+
+pub(crate) fn by_distance(
+    division: Division,
+    outline: &Outline,
+    threshold: f64,
+    seed: u64,
+    distances: &[f64],
+) -> Result<Colored, Refusal> {
+    color(outline, |flat, out| ffi::edge_coloring_by_distance(division, flat, threshold, seed, distances, out))
+}
+
+pub(crate) fn splines(division: Division, outline: &Outline, threshold: f64) -> Result<Collected, Refusal> {
+    let mut out = outline.room();
+    let Counts { splines, stand_ins, .. } = counts(ffi::collect_splines(division, &outline.flat(), threshold, &mut out))?;
+    let spline = |number: u8| Some(number).filter(|&number| number != NO_SPLINE);
+    let contours = outline::contours(out.lengths(), &out.kinds, &out.points, &out.bytes, spline);
+    Ok(Collected { contours, splines, stand_ins })
 }
 
 /// The threshold for an angle in radians from which a turn is a corner: its sine.
@@ -62,7 +88,7 @@ pub fn threshold(angle: f64) -> f64 {
 /// # Ok::<(), Refusal>(())
 /// ```
 pub fn edge_coloring_simple(outline: &Outline, threshold: f64, seed: u64) -> Result<Colored, Refusal> {
-    color(outline, |flat, out| ffi::edge_coloring_simple(flat, threshold, seed, out))
+    simple(Division::Source, outline, threshold, seed)
 }
 
 /// As [`edge_coloring_simple`], but a spline that is shorter than both its neighbours, as at an ink trap, takes the
@@ -82,7 +108,7 @@ pub fn edge_coloring_simple(outline: &Outline, threshold: f64, seed: u64) -> Res
 /// # Ok::<(), merelsplum::Refusal>(())
 /// ```
 pub fn edge_coloring_ink_trap(outline: &Outline, threshold: f64, seed: u64) -> Result<Colored, Refusal> {
-    color(outline, |flat, out| ffi::edge_coloring_ink_trap(flat, threshold, seed, out))
+    ink_trap(Division::Source, outline, threshold, seed)
 }
 
 /// Gives splines that are near each other different colours. `distances` has one for each pair i < j of the splines
@@ -104,7 +130,7 @@ pub fn edge_coloring_ink_trap(outline: &Outline, threshold: f64, seed: u64) -> R
 /// # Ok::<(), merelsplum::Refusal>(())
 /// ```
 pub fn edge_coloring_by_distance(outline: &Outline, threshold: f64, seed: u64, distances: &[f64]) -> Result<Colored, Refusal> {
-    color(outline, |flat, out| ffi::edge_coloring_by_distance(flat, threshold, seed, distances, out))
+    by_distance(Division::Source, outline, threshold, seed, distances)
 }
 
 /// Cuts an outline into splines, for [`edge_coloring_by_distance`].
@@ -124,9 +150,5 @@ pub fn edge_coloring_by_distance(outline: &Outline, threshold: f64, seed: u64, d
 /// # Ok::<(), merelsplum::Refusal>(())
 /// ```
 pub fn collect_splines(outline: &Outline, threshold: f64) -> Result<Collected, Refusal> {
-    let mut out = outline.room();
-    let Counts { splines, stand_ins, .. } = counts(ffi::collect_splines(&outline.flat(), threshold, &mut out))?;
-    let spline = |number: u8| Some(number).filter(|&number| number != NO_SPLINE);
-    let contours = outline::contours(out.lengths(), &out.kinds, &out.points, &out.bytes, spline);
-    Ok(Collected { contours, splines, stand_ins })
+    splines(Division::Source, outline, threshold)
 }

@@ -6,6 +6,15 @@
 /// The eight point places of an edge: room for the control points of every kind.
 pub(crate) type Places = [[f64; 2]; 4];
 
+/// How a contour with one corner is divided in three runs.
+#[derive(Clone, Copy)]
+pub(crate) enum Division {
+    /// As docs/src does.
+    Source,
+    /// So that the two outer runs are equally long.
+    Balanced,
+}
+
 /// An outline as the library takes it.
 pub(crate) struct Flat {
     pub lengths: Vec<u16>,
@@ -108,7 +117,45 @@ unsafe extern "C" {
         out_colors_len: usize,
     ) -> u64;
 
+    fn merelsplum_edge_coloring_simple_balanced(
+        lengths: *const u16,
+        lengths_len: usize,
+        kinds: *const u8,
+        kinds_len: usize,
+        points: *const f64,
+        points_len: usize,
+        threshold: f64,
+        seed: u64,
+        out_lengths: *mut u16,
+        out_lengths_len: usize,
+        out_kinds: *mut u8,
+        out_kinds_len: usize,
+        out_points: *mut f64,
+        out_points_len: usize,
+        out_colors: *mut u8,
+        out_colors_len: usize,
+    ) -> u64;
+
     fn merelsplum_edge_coloring_ink_trap(
+        lengths: *const u16,
+        lengths_len: usize,
+        kinds: *const u8,
+        kinds_len: usize,
+        points: *const f64,
+        points_len: usize,
+        threshold: f64,
+        seed: u64,
+        out_lengths: *mut u16,
+        out_lengths_len: usize,
+        out_kinds: *mut u8,
+        out_kinds_len: usize,
+        out_points: *mut f64,
+        out_points_len: usize,
+        out_colors: *mut u8,
+        out_colors_len: usize,
+    ) -> u64;
+
+    fn merelsplum_edge_coloring_ink_trap_balanced(
         lengths: *const u16,
         lengths_len: usize,
         kinds: *const u8,
@@ -148,7 +195,46 @@ unsafe extern "C" {
         out_colors_len: usize,
     ) -> u64;
 
+    fn merelsplum_edge_coloring_by_distance_balanced(
+        lengths: *const u16,
+        lengths_len: usize,
+        kinds: *const u8,
+        kinds_len: usize,
+        points: *const f64,
+        points_len: usize,
+        threshold: f64,
+        seed: u64,
+        distances: *const f64,
+        distances_len: usize,
+        out_lengths: *mut u16,
+        out_lengths_len: usize,
+        out_kinds: *mut u8,
+        out_kinds_len: usize,
+        out_points: *mut f64,
+        out_points_len: usize,
+        out_colors: *mut u8,
+        out_colors_len: usize,
+    ) -> u64;
+
     fn merelsplum_collect_splines(
+        lengths: *const u16,
+        lengths_len: usize,
+        kinds: *const u8,
+        kinds_len: usize,
+        points: *const f64,
+        points_len: usize,
+        threshold: f64,
+        out_lengths: *mut u16,
+        out_lengths_len: usize,
+        out_kinds: *mut u8,
+        out_kinds_len: usize,
+        out_points: *mut f64,
+        out_points_len: usize,
+        out_splines: *mut u8,
+        out_splines_len: usize,
+    ) -> u64;
+
+    fn merelsplum_collect_splines_balanced(
         lengths: *const u16,
         lengths_len: usize,
         kinds: *const u8,
@@ -202,6 +288,8 @@ unsafe extern "C" {
         numbers: *mut [u64; 6],
     ) -> u64;
 
+    fn merelsplum_job_balanced(file: *const u8, file_len: usize) -> u64;
+
     fn merelsplum_job_check(file: *const u8, file_len: usize) -> u64;
 
     fn merelsplum_job_color(
@@ -222,11 +310,15 @@ unsafe extern "C" {
     fn merelsplum_job_contour_part(file: *const u8, file_len: usize, contour: usize) -> u64;
 }
 
-pub(crate) fn edge_coloring_simple(o: &Flat, threshold: f64, seed: u64, out: &mut FlatResult) -> u64 {
+pub(crate) fn edge_coloring_simple(division: Division, o: &Flat, threshold: f64, seed: u64, out: &mut FlatResult) -> u64 {
+    let entry = match division {
+        Division::Source => merelsplum_edge_coloring_simple,
+        Division::Balanced => merelsplum_edge_coloring_simple_balanced,
+    };
     // SAFETY: each pointer and length is a slice's, or that of the room of a `Vec`, and those written are borrowed
     // mutably.
     unsafe {
-        let code = merelsplum_edge_coloring_simple(
+        let code = entry(
             o.lengths.as_ptr(),
             o.lengths.len(),
             o.kinds.as_ptr(),
@@ -249,10 +341,14 @@ pub(crate) fn edge_coloring_simple(o: &Flat, threshold: f64, seed: u64, out: &mu
     }
 }
 
-pub(crate) fn edge_coloring_ink_trap(o: &Flat, threshold: f64, seed: u64, out: &mut FlatResult) -> u64 {
+pub(crate) fn edge_coloring_ink_trap(division: Division, o: &Flat, threshold: f64, seed: u64, out: &mut FlatResult) -> u64 {
+    let entry = match division {
+        Division::Source => merelsplum_edge_coloring_ink_trap,
+        Division::Balanced => merelsplum_edge_coloring_ink_trap_balanced,
+    };
     // SAFETY: as above.
     unsafe {
-        let code = merelsplum_edge_coloring_ink_trap(
+        let code = entry(
             o.lengths.as_ptr(),
             o.lengths.len(),
             o.kinds.as_ptr(),
@@ -275,10 +371,21 @@ pub(crate) fn edge_coloring_ink_trap(o: &Flat, threshold: f64, seed: u64, out: &
     }
 }
 
-pub(crate) fn edge_coloring_by_distance(o: &Flat, threshold: f64, seed: u64, distances: &[f64], out: &mut FlatResult) -> u64 {
+pub(crate) fn edge_coloring_by_distance(
+    division: Division,
+    o: &Flat,
+    threshold: f64,
+    seed: u64,
+    distances: &[f64],
+    out: &mut FlatResult,
+) -> u64 {
+    let entry = match division {
+        Division::Source => merelsplum_edge_coloring_by_distance,
+        Division::Balanced => merelsplum_edge_coloring_by_distance_balanced,
+    };
     // SAFETY: as above.
     unsafe {
-        let code = merelsplum_edge_coloring_by_distance(
+        let code = entry(
             o.lengths.as_ptr(),
             o.lengths.len(),
             o.kinds.as_ptr(),
@@ -303,10 +410,14 @@ pub(crate) fn edge_coloring_by_distance(o: &Flat, threshold: f64, seed: u64, dis
     }
 }
 
-pub(crate) fn collect_splines(o: &Flat, threshold: f64, out: &mut FlatResult) -> u64 {
+pub(crate) fn collect_splines(division: Division, o: &Flat, threshold: f64, out: &mut FlatResult) -> u64 {
+    let entry = match division {
+        Division::Source => merelsplum_collect_splines,
+        Division::Balanced => merelsplum_collect_splines_balanced,
+    };
     // SAFETY: as above.
     unsafe {
-        let code = merelsplum_collect_splines(
+        let code = entry(
             o.lengths.as_ptr(),
             o.lengths.len(),
             o.kinds.as_ptr(),
@@ -387,6 +498,11 @@ pub(crate) fn job_read(file: &[u8], job: &mut FlatJob) -> u64 {
             &mut job.numbers,
         )
     }
+}
+
+pub(crate) fn job_balanced(file: &[u8]) -> u64 {
+    // SAFETY: as above.
+    unsafe { merelsplum_job_balanced(file.as_ptr(), file.len()) }
 }
 
 pub(crate) fn job_check(file: &[u8]) -> u64 {

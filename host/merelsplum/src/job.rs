@@ -5,7 +5,7 @@
 //! use merelsplum::{Outline, job::{self, Job, Strategy}};
 //!
 //! let outline = Outline::polygon(&[[0.0, 0.0], [1.0, 0.0], [1.0, 1.0], [0.0, 1.0]]);
-//! let job = Job { strategy: Strategy::Simple, seed: 0, threshold: 0.125, outline, distances: vec![] };
+//! let job = Job { strategy: Strategy::Simple, seed: 0, threshold: 0.125, balanced: false, outline, distances: vec![] };
 //! let file = job.to_bytes();
 //! assert_eq!(file.len(), 159);
 //! assert_eq!(Job::read(&file)?, job);
@@ -14,8 +14,8 @@
 //! # Ok::<(), merelsplum::Refusal>(())
 //! ```
 
-use crate::coloring::{answer, colored, counts, edge_coloring_by_distance, edge_coloring_ink_trap, edge_coloring_simple};
-use crate::ffi::{self, Flat, FlatJob, FlatResult, Places};
+use crate::coloring::{answer, by_distance, colored, counts, ink_trap, simple};
+use crate::ffi::{self, Division, Flat, FlatJob, FlatResult, Places};
 use crate::outline::{self, Colored, Outline};
 use crate::refusal::Refusal;
 
@@ -28,11 +28,11 @@ const MAX_LISTING_BYTES: usize = 5611;
 /// How a job is coloured.
 #[derive(Clone, Copy, Debug, PartialEq, Eq, Hash)]
 pub enum Strategy {
-    /// By [`edge_coloring_simple`].
+    /// By [`edge_coloring_simple`](crate::edge_coloring_simple).
     Simple = 1,
-    /// By [`edge_coloring_ink_trap`].
+    /// By [`edge_coloring_ink_trap`](crate::edge_coloring_ink_trap).
     InkTrap,
-    /// By [`edge_coloring_by_distance`].
+    /// By [`edge_coloring_by_distance`](crate::edge_coloring_by_distance).
     ByDistance,
 }
 
@@ -45,6 +45,9 @@ pub struct Job {
     pub seed: u64,
     /// The sine of the angle from which a turn is a corner.
     pub threshold: f64,
+    /// Whether teardrops are balanced: then it is coloured by the function of [`balanced`](crate::balanced), and its
+    /// file has the record `BL`.
+    pub balanced: bool,
     /// The edges.
     pub outline: Outline,
     /// The distances of the splines, for [`Strategy::ByDistance`] only.
@@ -62,6 +65,7 @@ impl Job {
             Flat { lengths: vec![0; MAX_CONTOURS], kinds: vec![0; MAX_EDGES], points: vec![Places::default(); MAX_EDGES] };
         let mut flat = FlatJob { outline, distances: vec![0.0; MAX_DISTANCES], numbers: [0; 6] };
         answer(ffi::job_read(file, &mut flat))?;
+        let balanced = answer(ffi::job_balanced(file))? == 1;
         let [strategy, seed, threshold, contours, _, distances] = flat.numbers;
         let Flat { lengths, kinds, points } = flat.outline;
         let lengths = lengths[..contours as usize].iter().map(|&length| length as usize);
@@ -76,21 +80,23 @@ impl Job {
             },
             seed,
             threshold: f64::from_bits(threshold),
+            balanced,
             outline: Outline { contours },
             distances: flat.distances,
         })
     }
 
-    /// Colours the outline by the job's strategy.
+    /// Colours the outline by the job's strategy, its teardrops as the job has them.
     ///
     /// # Errors
     ///
     /// What the colouring refuses.
     pub fn color(&self) -> Result<Colored, Refusal> {
+        let division = if self.balanced { Division::Balanced } else { Division::Source };
         match self.strategy {
-            Strategy::Simple => edge_coloring_simple(&self.outline, self.threshold, self.seed),
-            Strategy::InkTrap => edge_coloring_ink_trap(&self.outline, self.threshold, self.seed),
-            Strategy::ByDistance => edge_coloring_by_distance(&self.outline, self.threshold, self.seed, &self.distances),
+            Strategy::Simple => simple(division, &self.outline, self.threshold, self.seed),
+            Strategy::InkTrap => ink_trap(division, &self.outline, self.threshold, self.seed),
+            Strategy::ByDistance => by_distance(division, &self.outline, self.threshold, self.seed, &self.distances),
         }
     }
 
@@ -102,6 +108,9 @@ impl Job {
         file.push(self.strategy as u8);
         file.extend(self.seed.to_le_bytes());
         file.extend(self.threshold.to_le_bytes());
+        if self.balanced {
+            file.extend(b"BL");
+        }
         for contour in &self.outline.contours {
             file.extend(b"CT");
             for edge in contour {

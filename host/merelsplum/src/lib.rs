@@ -17,6 +17,8 @@
 //!
 //! - [`edge_coloring_simple`], [`edge_coloring_ink_trap`] and [`edge_coloring_by_distance`] colour an outline. The last needs the distances
 //!   between its splines, which [`collect_splines`] numbers.
+//! - [`balanced`] has the same four functions with balanced teardrops: the two outer runs of a contour with one corner
+//!   are equally long.
 //! - [`edge_directions`] gives the unit directions of each edge, from which corners follow, and says for which of them (0, 1) stands in
 //!   since it had no length. Colourings count those, [`Colored::stand_ins`].
 //! - [`SplineTable::offer`] is one step of the colouring by distance, by itself.
@@ -29,6 +31,7 @@
 #![deny(unsafe_code)]
 #![warn(missing_docs)]
 
+pub mod balanced;
 mod coloring;
 mod directions;
 #[allow(unsafe_code)]

@@ -1,10 +1,10 @@
-//! Random input, coloured through this crate and by the Rust of docs/src: the same, bit for bit, or the refusal that is
-//! due.
+//! Random input, coloured through this crate and by the Rust of docs/src, balanced teardrops by a copy of it with that
+//! division: the same, bit for bit, or the refusal that is due.
 
 use merelsplum::job::{self, Checked, Job};
 use merelsplum::{
     Colored, Direction, Edge, Offer, Outline, Point, Refusal, SplineTable, collect_splines, edge_coloring_by_distance,
-    edge_coloring_ink_trap, edge_coloring_simple, edge_directions,
+    edge_coloring_simple, edge_directions,
 };
 use oracle::geometry::{Contour, EdgeSegment, Shape};
 use oracle::given;
@@ -69,8 +69,27 @@ fn walk() -> impl Strategy<Value = Vec<Edge>> {
     })
 }
 
+/// A contour of lines with one corner, about the lengths at which the two divisions of such a contour differ.
+fn teardrop() -> impl Strategy<Value = Vec<Edge>> {
+    (1usize..=4, 0usize..3, any::<prop::sample::Index>()).prop_map(|(times, more, corner)| {
+        let edges = 46 * times + more;
+        let line = |i: usize| {
+            let (y, x) = (3.0 / edges as f64 * i as f64).sin_cos();
+            Edge::Line([[0.0, 0.0], [x, y]])
+        };
+        let mut contour: Vec<Edge> = (0..edges).map(line).collect();
+        contour.rotate_right(corner.index(edges));
+        contour
+    })
+}
+
+/// Not more than 256 edges.
 fn outline() -> impl Strategy<Value = Outline> {
-    vec(prop_oneof![walk(), vec(edge(), 0..=5)], 0..=9).prop_map(Outline::from)
+    let contours = vec(prop_oneof![walk(), vec(edge(), 0..=5)], 0..=9);
+    (contours, prop::option::weighted(0.2, teardrop()), any::<prop::sample::Index>()).prop_map(|(mut contours, drop, at)| {
+        drop.into_iter().for_each(|drop| contours.insert(at.index(contours.len() + 1), drop));
+        Outline::from(contours)
+    })
 }
 
 fn threshold() -> impl Strategy<Value = f64> {
@@ -136,10 +155,9 @@ fn source_stand_ins(outline: &Outline) -> usize {
     edges.flat_map(|edge| [0.0, 1.0].map(|t| no_length(&edge, t))).filter(|&none| none).count()
 }
 
-/// The source's collecting pass: how many splines, and each edge with its spline's number.
-fn source_splines(outline: &Outline, threshold: f64) -> (usize, Bits<Option<u8>>) {
-    let mut shape = shape(outline);
-    let (places, starts) = given::by_distance_collected::collect_splines(&mut shape, threshold);
+/// What the source's collecting pass did to a shape, the places of edges and the first of each spline's: how many
+/// splines, and each edge with its spline's number.
+fn source_splines(shape: &Shape, places: &[(usize, usize)], starts: &[usize]) -> (usize, Bits<Option<u8>>) {
     let mut edges: Bits<Option<u8>> =
         shape.contours.iter().map(|c| c.segments.iter().map(|e| (source_edge(e), None)).collect()).collect();
     for (at, &(contour, place)) in places.iter().enumerate() {
@@ -149,43 +167,63 @@ fn source_splines(outline: &Outline, threshold: f64) -> (usize, Bits<Option<u8>>
     (starts.len() - 1, edges)
 }
 
+/// The colourings of a module of this crate against those of a copy of the source.
+macro_rules! colorings {
+    ($name:ident, $($library:ident)::+, $($copy:ident)::+) => {
+        mod $name {
+            use super::*;
+            use $($copy)::+ as copy;
+            use $($library)::+ as library;
+
+            proptest! {
+                #![proptest_config(ProptestConfig { cases: 2000, failure_persistence: None, ..ProptestConfig::default() })]
+
+                #[test]
+                fn simple(outline in outline(), threshold in threshold(), seed: u64) {
+                    let mut source = shape(&outline);
+                    copy::edge_coloring_simple(&mut source, threshold, seed);
+                    let colored = library::edge_coloring_simple(&outline, threshold, seed).unwrap();
+                    prop_assert_eq!(bits(&colored.contours, |c| c.bits()), source_bits(&source));
+                    prop_assert_eq!(colored.stand_ins, source_stand_ins(&outline));
+                }
+
+                #[test]
+                fn ink_trap(outline in outline(), threshold in threshold(), seed: u64) {
+                    let mut source = shape(&outline);
+                    copy::edge_coloring_ink_trap(&mut source, threshold, seed);
+                    let colored = library::edge_coloring_ink_trap(&outline, threshold, seed).unwrap();
+                    prop_assert_eq!(bits(&colored.contours, |c| c.bits()), source_bits(&source));
+                    prop_assert_eq!(colored.stand_ins, source_stand_ins(&outline));
+                }
+
+                #[test]
+                fn by_distance(outline in outline(), threshold in threshold(), seed: u64, distances in vec(distance(), 1..50)) {
+                    let mut source = shape(&outline);
+                    let (places, starts) = copy::by_distance_collected::collect_splines(&mut source, threshold);
+                    let (splines, edges) = source_splines(&source, &places, &starts);
+                    prop_assume!(splines <= 64);
+                    let collected = library::collect_splines(&outline, threshold).unwrap();
+                    prop_assert_eq!(collected.splines, splines);
+                    prop_assert_eq!(bits(&collected.contours, |spline| spline), edges);
+                    prop_assert_eq!(collected.stand_ins, source_stand_ins(&outline));
+
+                    let distances = for_pairs(splines, &distances);
+                    let mut source = shape(&outline);
+                    copy::by_distance_given::edge_coloring_by_distance_given(&mut source, threshold, seed, &distances);
+                    let colored = library::edge_coloring_by_distance(&outline, threshold, seed, &distances).unwrap();
+                    prop_assert_eq!(bits(&colored.contours, |c| c.bits()), source_bits(&source));
+                    prop_assert_eq!(colored.stand_ins, source_stand_ins(&outline));
+                }
+            }
+        }
+    };
+}
+
+colorings!(by_the_source, merelsplum, oracle::given);
+colorings!(balanced, merelsplum::balanced, oracle::balanced);
+
 proptest! {
     #![proptest_config(ProptestConfig { cases: 2000, failure_persistence: None, ..ProptestConfig::default() })]
-
-    #[test]
-    fn simple(outline in outline(), threshold in threshold(), seed: u64) {
-        let mut source = shape(&outline);
-        given::edge_coloring_simple(&mut source, threshold, seed);
-        let colored = edge_coloring_simple(&outline, threshold, seed).unwrap();
-        prop_assert_eq!(bits(&colored.contours, |c| c.bits()), source_bits(&source));
-        prop_assert_eq!(colored.stand_ins, source_stand_ins(&outline));
-    }
-
-    #[test]
-    fn ink_trap(outline in outline(), threshold in threshold(), seed: u64) {
-        let mut source = shape(&outline);
-        given::edge_coloring_ink_trap(&mut source, threshold, seed);
-        let colored = edge_coloring_ink_trap(&outline, threshold, seed).unwrap();
-        prop_assert_eq!(bits(&colored.contours, |c| c.bits()), source_bits(&source));
-        prop_assert_eq!(colored.stand_ins, source_stand_ins(&outline));
-    }
-
-    #[test]
-    fn by_distance(outline in outline(), threshold in threshold(), seed: u64, distances in vec(distance(), 1..50)) {
-        let (splines, edges) = source_splines(&outline, threshold);
-        prop_assume!(splines <= 64);
-        let collected = collect_splines(&outline, threshold).unwrap();
-        prop_assert_eq!(collected.splines, splines);
-        prop_assert_eq!(bits(&collected.contours, |spline| spline), edges);
-        prop_assert_eq!(collected.stand_ins, source_stand_ins(&outline));
-
-        let distances = for_pairs(splines, &distances);
-        let mut source = shape(&outline);
-        given::by_distance_given::edge_coloring_by_distance_given(&mut source, threshold, seed, &distances);
-        let colored = edge_coloring_by_distance(&outline, threshold, seed, &distances).unwrap();
-        prop_assert_eq!(bits(&colored.contours, |c| c.bits()), source_bits(&source));
-        prop_assert_eq!(colored.stand_ins, source_stand_ins(&outline));
-    }
 
     /// The directions bit for bit, which of them are stand-ins, and the corners that follow.
     #[test]
@@ -275,12 +313,19 @@ proptest! {
 
     /// A job is read as it was written, and coloured as its outline is.
     #[test]
-    fn jobs(outline in outline(), threshold in threshold(), seed: u64, strategy in 0..3usize, distances in vec(distance(), 1..50)) {
+    fn jobs(
+        outline in outline(),
+        threshold in threshold(),
+        seed: u64,
+        strategy in 0..3usize,
+        balanced: bool,
+        distances in vec(distance(), 1..50),
+    ) {
         let strategy = [job::Strategy::Simple, job::Strategy::InkTrap, job::Strategy::ByDistance][strategy];
         let by_distance = strategy == job::Strategy::ByDistance;
         let splines = collect_splines(&outline, threshold).map_or(0, |c| c.splines);
         let distances = if by_distance { for_pairs(splines, &distances) } else { vec![] };
-        let job = Job { strategy, seed, threshold, outline, distances };
+        let job = Job { strategy, seed, threshold, balanced, outline, distances };
         let file = job.to_bytes();
         let colored = job.color();
         let read = Job::read(&file);
@@ -292,14 +337,15 @@ proptest! {
 
         let parts: Vec<u8> = (0..=job.outline.contours.len()).flat_map(|n| job::contour_part(&file, n)).copied().collect();
         let after = 2 + if by_distance { 4 + 8 * job.distances.len() } else { 0 };
-        let expected = if colored.is_ok() { &file[19..file.len() - after] } else { &[] };
+        let start = if balanced { 21 } else { 19 };
+        let expected = if colored.is_ok() { &file[start..file.len() - after] } else { &[] };
         prop_assert_eq!(parts, expected);
     }
 
     /// A file that is cut short or has a byte changed is answered alike by all entries.
     #[test]
-    fn damaged_jobs(outline in outline(), at in any::<prop::sample::Index>(), byte: Option<u8>) {
-        let job = Job { strategy: job::Strategy::Simple, seed: 0, threshold: 0.125, outline, distances: vec![] };
+    fn damaged_jobs(outline in outline(), balanced: bool, at in any::<prop::sample::Index>(), byte: Option<u8>) {
+        let job = Job { strategy: job::Strategy::Simple, seed: 0, threshold: 0.125, balanced, outline, distances: vec![] };
         let mut file = job.to_bytes();
         let at = at.index(file.len());
         match byte {

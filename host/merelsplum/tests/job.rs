@@ -63,6 +63,10 @@ fn words() {
     .concat();
     assert_eq!(made.stdout, expected);
     assert_eq!(text(&job("dump", &expected).stdout), LINE);
+    let balanced = LINE.replacen('\n', "\nbalanced\n", 1);
+    let file = [&expected[..19], b"BL", &expected[19..]].concat();
+    assert_eq!(job("make", balanced.as_bytes()).stdout, file);
+    assert_eq!(text(&job("dump", &file).stdout), balanced);
 }
 
 /// The reason in words, and the byte where the record stands that is at fault.
@@ -88,6 +92,9 @@ fn reasons_and_places() {
         (changed(21, b"XX"), "refused 2: unmarked", 21),
         (changed(19, b"EN"), "refused 3: stray", 19),
         ([file.clone(), b"EN".to_vec()].concat(), "refused 3: stray", file.len()),
+        ([&file[..19], b"BLBL", &file[19..]].concat(), "refused 3: stray", 21),
+        ([&file[..21], b"BL", &file[21..]].concat(), "refused 3: stray", 21),
+        (b"BL".to_vec(), "refused 3: stray", 0),
         (changed(2, &[9]), "refused 5: no such kind", 0),
         (changed(11, &2f64.to_le_bytes()), "refused 6: bad threshold", 0),
         (changed(23, &f64::NAN.to_le_bytes()), "refused 7: off the sheet", 21),

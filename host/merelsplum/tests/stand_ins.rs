@@ -1,7 +1,7 @@
 //! How many directions had no length, as every entry that colours counts them.
 
 use merelsplum::job::{self, Checked, Job, Strategy};
-use merelsplum::{Edge, Outline, Point, Refusal, collect_splines, edge_coloring_simple, edge_directions};
+use merelsplum::{Edge, Outline, Point, Refusal, balanced, collect_splines, edge_coloring_simple, edge_directions};
 
 const A: Point = [7.0, -7.0];
 const B: Point = [10.0, -11.0];
@@ -19,8 +19,8 @@ fn counted(contours: &[&[Edge]], threshold: f64) -> usize {
     let collected = collect_splines(&outline, threshold).unwrap();
     let pairs = collected.splines * collected.splines.saturating_sub(1) / 2;
     let strategies = [(Strategy::Simple, 0), (Strategy::InkTrap, 0), (Strategy::ByDistance, pairs)];
-    for (strategy, pairs) in strategies {
-        let job = Job { strategy, seed: 5, threshold, outline: outline.clone(), distances: vec![1.0; pairs] };
+    for ((strategy, pairs), balanced) in strategies.into_iter().flat_map(|strategy| [(strategy, false), (strategy, true)]) {
+        let job = Job { strategy, seed: 5, threshold, balanced, outline: outline.clone(), distances: vec![1.0; pairs] };
         let (file, colored) = (job.to_bytes(), job.color().unwrap());
         assert_eq!(colored.stand_ins, collected.stand_ins, "{strategy:?}");
         assert_eq!(job::color(&file), Ok(colored.clone()), "{strategy:?}");
@@ -29,6 +29,7 @@ fn counted(contours: &[&[Edge]], threshold: f64) -> usize {
         let end = format!("edges {edges}\nstandins {}\n", colored.stand_ins);
         assert!(job::listing(&file).ends_with(&end), "{strategy:?}: {}", job::listing(&file));
     }
+    assert_eq!(balanced::collect_splines(&outline, threshold).unwrap().stand_ins, collected.stand_ins);
     let directions = edge_directions(&outline).unwrap();
     let flags = directions.iter().flatten().flat_map(|d| [d.start, d.end]).filter(|d| d.stand_in);
     assert_eq!(flags.count(), collected.stand_ins);

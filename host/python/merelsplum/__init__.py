@@ -77,9 +77,10 @@ def _load():
         ("edge_coloring_by_distance", seed + _BUFFER),
         ("collect_splines", []),
     ]:
-        function = getattr(library, "merelsplum_" + name)
-        function.argtypes = 3 * _BUFFER + [ctypes.c_double] + more + 4 * _BUFFER
-        function.restype = ctypes.c_uint64
+        for end in ("", "_balanced"):
+            function = getattr(library, "merelsplum_" + name + end)
+            function.argtypes = 3 * _BUFFER + [ctypes.c_double] + more + 4 * _BUFFER
+            function.restype = ctypes.c_uint64
     library.merelsplum_edge_directions.argtypes = 5 * _BUFFER
     library.merelsplum_edge_directions.restype = ctypes.c_uint64
     return library
@@ -113,14 +114,14 @@ def _outline(contours):
     return lengths, kinds, points.ravel()
 
 
-def _call(name, contours, angle, more):
+def _call(name, contours, angle, balanced, more):
     """Calls a function of the library: its answer, and the contours of the result with a byte for each edge."""
     lengths = numpy.zeros(len(contours), dtype=numpy.uint16)
     kinds = numpy.zeros(_MOST_EDGES, dtype=numpy.uint8)
     points = numpy.zeros(8 * _MOST_EDGES)
     values = numpy.zeros(_MOST_EDGES, dtype=numpy.uint8)
     outline = _outline(contours)
-    function = getattr(_library, "merelsplum_" + name)
+    function = getattr(_library, "merelsplum_" + name + ("_balanced" if balanced else ""))
     answer = function(*_buffers(*outline), math.sin(angle), *more, *_buffers(lengths, kinds, points, values))
     _check(answer)
     result, at = [], 0
@@ -131,11 +132,14 @@ def _call(name, contours, angle, more):
     return answer, Contours(result, answer >> 48)
 
 
-def color(contours, strategy="ink_trap", angle=3.0, seed=0, distances=None):
+def color(contours, strategy="ink_trap", angle=3.0, seed=0, distances=None, *, balanced=False):
     """Colours an outline; the angle, in radians, is that from which a turn is a corner.
 
     The strategy is "simple", "ink_trap" or "distance". The last needs the distances of the splines that `collect_splines`
     numbers: one for each pair i < j, by i and then by j.
+
+    A contour with one corner is coloured in three runs. With `balanced` the two outer ones are equally long: 47 edges
+    are 15, 17 and 15, and not 15, 16 and 16. The two differ only where there is one edge more than a multiple of 46.
 
     Returns the `Contours`, each a list of pairs: the control points of an edge, and the bits of its colour (see `COLORS`).
     A contour of one or two edges with one corner comes back in thirds.
@@ -149,16 +153,18 @@ def color(contours, strategy="ink_trap", angle=3.0, seed=0, distances=None):
     if strategy == "distance":
         given = numpy.ascontiguousarray(distances, dtype=numpy.float64)
         more += _buffers(given)
-    return _call("edge_coloring_" + names[strategy], contours, angle, more)[1]
+    return _call("edge_coloring_" + names[strategy], contours, angle, balanced, more)[1]
 
 
-def collect_splines(contours, angle=3.0):
+def collect_splines(contours, angle=3.0, *, balanced=False):
     """Cuts an outline into splines, runs of edges from corner to corner, for the colouring by distance.
+
+    `balanced` is that of the colouring.
 
     Returns how many there are, and the `Contours`, each a list of pairs: the control points of an edge, and the number of
     its spline, None where it belongs to none.
     """
-    answer, result = _call("collect_splines", contours, angle, [])
+    answer, result = _call("collect_splines", contours, angle, balanced, [])
     numbered = [[(edge, None if spline == _NO_SPLINE else spline) for edge, spline in contour] for contour in result]
     return answer >> 16 & 0xFFFF, Contours(numbered, result.stand_ins)
 

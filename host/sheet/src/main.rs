@@ -138,11 +138,14 @@ fn draw(options: &Options, fonts: &[Font], names: &[(usize, Name)]) -> Result<(S
         progress.inc(1);
         let font = &fonts[number];
         let glyph = font.glyph(name).ok_or_else(|| format!("{name}: outline damaged, or beyond the coordinates of a font"))?;
-        let excess = unproved::excess(&glyph.shape);
+        let (excess, unbalanced) = (unproved::excess(&glyph.shape), settings.unbalanced(&glyph.shape));
         match settings.color(glyph, number, place, font.units_per_em()) {
             Ok(cell) if cell.job.is_none() => Ok((cell, Some(format!("{name}: coloured by docs/src, not proved: {excess}")))),
             Ok(cell) => Ok((cell, None)),
-            Err(Refusal::TooMany) => Err(format!("{name}: {}: {excess}", Refusal::TooMany.word())),
+            Err(Refusal::TooMany) => {
+                let also = unbalanced.map(|edges| format!("; docs/src cannot balance its contour of {edges} edges"));
+                Err(format!("{name}: {}: {excess}{}", Refusal::TooMany.word(), also.unwrap_or_default()))
+            }
             Err(refusal) => Err(format!("{name}: {refusal}")),
         }
     };

@@ -39,6 +39,11 @@ pub struct Options {
     #[arg(long, value_name = "NUMBER", default_value = "0", allow_negative_numbers = true)]
     seed: u64,
 
+    /// Gives the two outer runs of a contour with one corner equal lengths; a glyph above the limits of the proved
+    /// library gets no field where docs/src, which cannot do this, would colour it otherwise
+    #[arg(long)]
+    balanced: bool,
+
     /// Pixels an em, 1 to 1024 [default: 32, or the largest that fits where --dimensions or --uniformcell is given]
     #[arg(long, value_name = "PIXELS", value_parser = |text: &str| number(text, 1.0..=MAX_SIZE))]
     size: Option<f64>,
@@ -523,6 +528,7 @@ impl Options {
             },
             angle: self.angle,
             seed: self.seed,
+            balanced: self.balanced,
             layout: self.layout(),
             unproved: !self.provedonly,
             drawing: Drawing {

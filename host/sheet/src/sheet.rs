@@ -4,11 +4,11 @@ use crate::draw::{Drawing, Type, byte};
 use crate::font::{Glyph, Name};
 use crate::frame::{self, Frame};
 use crate::layout::{Arrangement, Cells, Layout};
-use crate::source::{self, Bounds, EdgeSegment, spline_distances};
+use crate::source::{self, Bounds, EdgeSegment, Shape, spline_distances};
 use crate::unproved;
 use crate::winding::Fill;
 use merelsplum::job::{Job, Strategy};
-use merelsplum::{Colored, Outline, Refusal, collect_splines, edge_directions};
+use merelsplum::{Colored, Outline, Refusal, balanced, collect_splines, edge_directions};
 use rayon::prelude::*;
 
 /// How a sheet is made.
@@ -18,6 +18,8 @@ pub struct Settings {
     /// In radians.
     pub angle: f64,
     pub seed: u64,
+    /// Whether the two outer runs of a contour with one corner are to be equally long.
+    pub balanced: bool,
     pub layout: Layout,
     /// Its range is the layout's.
     pub drawing: Drawing,
@@ -78,12 +80,13 @@ pub fn glyph_seed(strategy: Strategy, seed: u64, place: usize) -> u64 {
 }
 
 /// What is to be coloured, with the distances that its strategy needs.
-pub fn job(outline: Outline, strategy: Strategy, threshold: f64, seed: u64) -> Result<Job, Refusal> {
+pub fn job(outline: Outline, strategy: Strategy, threshold: f64, seed: u64, balanced: bool) -> Result<Job, Refusal> {
+    let collect = if balanced { balanced::collect_splines } else { collect_splines };
     let distances = match strategy {
-        Strategy::ByDistance => spline_distances(&collect_splines(&outline, threshold)?),
+        Strategy::ByDistance => spline_distances(&collect(&outline, threshold)?),
         Strategy::Simple | Strategy::InkTrap => vec![],
     };
-    Ok(Job { strategy, seed, threshold, outline, distances })
+    Ok(Job { strategy, seed, threshold, balanced, outline, distances })
 }
 
 /// How many directions of edges have no length: by the library, or above its limits by docs/src.
@@ -96,14 +99,21 @@ fn stand_ins(drawn: &[EdgeSegment]) -> usize {
 }
 
 impl Settings {
+    /// Where balanced teardrops are wanted, the number of edges of a contour that docs/src would divide otherwise.
+    pub fn unbalanced(&self, shape: &Shape) -> Option<usize> {
+        unproved::unbalanced(shape, self.angle).filter(|_| self.balanced)
+    }
+
     /// Colours a glyph of a font, the `place`-th of the sheet. One above the library's limits is coloured by docs/src
-    /// where that is allowed.
+    /// where that is allowed and divides its contours as is wanted.
     pub fn color(&self, glyph: Glyph, font: usize, place: usize, units_per_em: f64) -> Result<Cell, Refusal> {
         let seed = glyph_seed(self.strategy, self.seed, place);
-        let job = job(source::outline(&glyph.shape), self.strategy, self.angle.sin(), seed);
+        let job = job(source::outline(&glyph.shape), self.strategy, self.angle.sin(), seed, self.balanced);
         let (job, colored) = match job.and_then(|job| job.color().map(|colored| (job, colored))) {
             Ok((job, colored)) => (Some(job), colored),
-            Err(Refusal::TooMany) if self.unproved => (None, unproved::color(&glyph.shape, self.strategy, self.angle, seed)),
+            Err(Refusal::TooMany) if self.unproved && self.unbalanced(&glyph.shape).is_none() => {
+                (None, unproved::color(&glyph.shape, self.strategy, self.angle, seed))
+            }
             Err(refusal) => return Err(refusal),
         };
         let Glyph { name, advance, drawn, shape, fill } = glyph;
@@ -171,6 +181,22 @@ impl Image {
 #[cfg(test)]
 mod tests {
     use super::*;
+    use merelsplum::Edge;
+
+    /// Of 47 lines with one corner the 32nd is the last run's, or balanced the middle one's: then the line at its end
+    /// is nearest to the 33rd.
+    #[test]
+    fn distances_of_balanced_splines() {
+        let from = |i: i32, near: f64, far: f64| {
+            let (y, x) = (f64::from(i) * 3.0 / 46.0).sin_cos();
+            Edge::Line([near, far].map(|length| [length * x, length * y]))
+        };
+        let outline = Outline::from(vec![(0..47).map(|i| from(i, 0.0, 1.0)).collect(), vec![from(31, 2.0, 3.0)]]);
+        let distances = |balanced| job(outline.clone(), Strategy::ByDistance, 0.125, 0, balanced).unwrap().distances;
+        let [source, balanced] = [false, true].map(distances);
+        assert_eq!((source.len(), &source[..2]), (3, &balanced[..2]));
+        assert!((source[2] - 1.0).abs() < 1e-9 && balanced[2] > 1.001, "{source:?}, {balanced:?}");
+    }
 
     /// The second glyph's seed is the first one's times 6364136223846793005, and so on; by distance each has one of its
     /// own.

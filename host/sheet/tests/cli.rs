@@ -3,12 +3,14 @@
 mod common;
 
 use merelsplum::job::{self, Job};
-use merelsplum::{Edge, Outline, Point, edge_directions};
+use merelsplum::{Edge, EdgeColor, Outline, Point, edge_directions};
 use serde_json::Value;
 use sheet::picture::{INK, PAPER, inside};
 use sheet::source::{EdgeSegment, median, segment};
 use std::collections::BTreeSet;
+use std::f64::consts::TAU;
 use std::fs::{self, File};
+use std::ops::Range;
 use std::os::unix::fs::{FileTypeExt, PermissionsExt, symlink};
 use std::path::Path;
 use std::process::{Command, Output, Stdio};
@@ -309,6 +311,123 @@ fn above_the_limits() {
     assert!(words(&output).contains(" 1 left out, 0 coloured by docs/src, "), "{}", words(&output));
     let json = fs::read_to_string(folder.file("sheet.json")).unwrap();
     assert!(json.contains("\"unicode\":65,") && json.contains("\"unicode\":66,") && !json.contains("9731"));
+}
+
+/// Where in a file of DejaVu Sans the outline of a character is.
+fn outline_place(file: &[u8], character: char) -> Range<usize> {
+    let glyph = usize::from(Face::from_slice(file, 0).unwrap().glyph_index(character).unwrap().0);
+    let number = |at: usize| u32::from_be_bytes(file[at..at + 4].try_into().unwrap()) as usize;
+    let table = |tag: &[u8]| number(8 + (12..).step_by(16).find(|&at| &file[at..at + 4] == tag).unwrap());
+    let start = |glyph: usize| table(b"glyf") + number(table(b"loca") + 4 * glyph);
+    start(glyph)..start(glyph + 1)
+}
+
+/// DejaVu Sans with other contours in the place of its snowman, all of lines.
+fn other_snowman(contours: &[Vec<[i16; 2]>]) -> Vec<u8> {
+    let mut file = fs::read(common::dejavu_sans()).unwrap();
+    let ends = contours.iter().scan(-1, |end, contour| {
+        *end += contour.len() as i16;
+        Some(*end)
+    });
+    // the bounds are not looked at, and there are no instructions
+    let numbers = [contours.len() as i16, 0, 0, 2048, 2048].into_iter().chain(ends).chain([0]);
+    let mut outline: Vec<u8> = numbers.flat_map(i16::to_be_bytes).collect();
+    let points = contours.concat();
+    // all points are on the curve, and have two bytes a coordinate
+    outline.extend(points.iter().map(|_| 1));
+    for axis in [0, 1] {
+        let before = [0].into_iter().chain(points.iter().map(|point| point[axis]));
+        outline.extend(points.iter().zip(before).flat_map(|(point, before)| (point[axis] - before).to_be_bytes()));
+    }
+    let place = outline_place(&file, '\u{2603}');
+    assert!(outline.len() <= place.len());
+    file[place.start..][..outline.len()].copy_from_slice(&outline);
+    file
+}
+
+/// A drop whose tip is its first point, and its one corner at an angle of 2.9.
+fn drop(edges: u32) -> Vec<[i16; 2]> {
+    let point = |t: f64| [1000.0 + 800.0 * t.cos(), 1000.0 + 800.0 * t.sin() * (0.5 * t).sin()];
+    (0..edges).map(|i| point(TAU * f64::from(i) / f64::from(edges)).map(|x| x.round() as i16)).collect()
+}
+
+/// With a drop of 47 edges the two outer runs are equally long in every strategy where that is wanted, and the field is
+/// another one.
+#[test]
+fn balanced_teardrops() {
+    let folder = Folder::new("balanced_teardrops");
+    fs::write(folder.file("drop.ttf"), other_snowman(&[drop(47)])).unwrap();
+    for strategy in ["simple", "inktrap", "distance"] {
+        let drawn = [("source", [].as_slice(), [15, 16, 16]), ("balanced", &["--balanced"], [15, 17, 15])];
+        let fields = drawn.map(|(name, option, expected)| {
+            let arguments = ["--font", "drop.ttf", "--chars", "0x2603", "--angle", "2.9", "--coloringstrategy", strategy];
+            let outputs = ["--jobs", name, "--imageout", "sheet.png"];
+            let output = sheet(&folder, &[arguments.as_slice(), option, &outputs].concat());
+            assert_eq!((output.status.code(), lines(&output)), (Some(0), vec![]));
+            let file = fs::read(folder.file(&format!("{name}/U+2603.job"))).unwrap();
+            let job = Job::read(&file).unwrap();
+            assert_eq!(job.balanced, name == "balanced");
+            let mut colors: Vec<EdgeColor> = job::color(&file).unwrap().contours[0].iter().map(|edge| edge.1).collect();
+            // the drop may be the other way round, with its tip elsewhere
+            let first = job.outline.contours[0].iter().position(|edge| edge.points()[0] == [1800.0, 1000.0]).unwrap();
+            colors.rotate_left(first);
+            let runs: Vec<&[EdgeColor]> = colors.chunk_by(|a, b| a == b).collect();
+            assert_eq!(runs.iter().map(|run| run.len()).collect::<Vec<_>>(), expected, "{strategy}");
+            assert_eq!(runs[1][0], EdgeColor::White);
+            fs::read(folder.file("sheet.png")).unwrap()
+        });
+        assert_ne!(fields[0], fields[1], "{strategy}");
+    }
+}
+
+/// Job files say that balanced contours are wanted; of ordinary glyphs all else is as it is without.
+#[test]
+fn balanced_letters() {
+    let folder = Folder::new("balanced_letters");
+    for strategy in ["simple", "inktrap", "distance"] {
+        let [source, balanced] = [[].as_slice(), &["--balanced"]].map(|option| {
+            let arguments = ["--chars", "A..Z", "--coloringstrategy", strategy, "--seed", "7", "--jobs", "jobs"];
+            let outputs = ["--imageout", "sheet.png", "--json", "sheet.json"];
+            let output = with_font(&folder, &[arguments.as_slice(), &outputs, option].concat());
+            assert_eq!((output.status.code(), lines(&output)), (Some(0), vec![]));
+            let jobs = names(&folder.path().join("jobs")).into_iter().map(|name| format!("jobs/{name}"));
+            let files: Vec<Vec<u8>> = jobs.map(|name| fs::read(folder.file(&name)).unwrap()).collect();
+            (files, ["sheet.png", "sheet.json"].map(|name| fs::read(folder.file(name)).unwrap()))
+        });
+        assert_eq!(source.0.len(), 26);
+        for (file, with_mark) in source.0.iter().zip(&balanced.0) {
+            assert_eq!(*with_mark, [&file[..19], b"BL", &file[19..]].concat());
+        }
+        assert!(source.0.len() == balanced.0.len() && source.1 == balanced.1, "{strategy}");
+    }
+}
+
+/// Docs/src does not balance: a glyph above the limits gets no field where that would be seen, else that of docs/src.
+#[test]
+fn balanced_above_the_limits() {
+    let folder = Folder::new("balanced_above_the_limits");
+    let square = |i: i16| [[0, 0], [0, 20], [20, 20], [20, 0]].map(|[x, y]: [i16; 2]| [30 * i + x, y]).to_vec();
+    for edges in [47, 48] {
+        let contours: Vec<Vec<[i16; 2]>> = (0..53).map(square).chain([drop(edges)]).collect();
+        fs::write(folder.file("drop.ttf"), other_snowman(&contours)).unwrap();
+        let excess = format!("{} edges, {} above the limit of 256", 212 + edges, edges - 44);
+        let by_source = format!("sheet: U+2603: coloured by docs/src, not proved: {excess}");
+        let left_out = format!("sheet: U+2603: overfull: {excess}");
+        let unbalanced = format!("{left_out}; docs/src cannot balance its contour of 47 edges");
+        let balanced = if edges == 47 { (1, &unbalanced) } else { (0, &by_source) };
+        for (options, (status, line)) in [
+            ([].as_slice(), (0, &by_source)),
+            (&["--balanced"], balanced),
+            (&["--provedonly"], (1, &left_out)),
+            (&["--provedonly", "--balanced"], (1, if edges == 47 { &unbalanced } else { &left_out })),
+        ] {
+            let arguments = ["--font", "drop.ttf", "--chars", "A, 0x2603", "--angle", "2.9", "--json", "sheet.json"];
+            let output = sheet(&folder, &[arguments.as_slice(), options].concat());
+            assert_eq!((output.status.code(), lines(&output)), (Some(status), vec![line.clone()]), "{edges}, {options:?}");
+            let json = fs::read_to_string(folder.file("sheet.json")).unwrap();
+            assert_eq!(json.contains("\"unicode\":9731,"), status == 0, "{edges}, {options:?}");
+        }
+    }
 }
 
 /// Characters that are not in the font are named and counted, and the others drawn.
@@ -879,10 +998,7 @@ fn a_killed_run_leaves_no_files() {
 fn a_damaged_glyph() {
     let folder = Folder::new("a_damaged_glyph");
     let mut file = fs::read(common::dejavu_sans()).unwrap();
-    let dieresis = Face::from_slice(&file, 0).unwrap().glyph_index('\u{A8}').unwrap();
-    let number = |at: usize| u32::from_be_bytes(file[at..at + 4].try_into().unwrap()) as usize;
-    let table = |tag: &[u8]| number(8 + (12..).step_by(16).find(|&at| &file[at..at + 4] == tag).unwrap());
-    let outline = table(b"glyf") + number(table(b"loca") + 4 * usize::from(dieresis.0));
+    let outline = outline_place(&file, '\u{A8}').start;
     // as many contours as there can be
     file[outline..outline + 2].copy_from_slice(&i16::MAX.to_be_bytes());
     fs::write(folder.file("damaged.ttf"), file).unwrap();
@@ -908,13 +1024,9 @@ fn help() {
     let output = sheet(&folder, &["--help"]);
     assert_eq!((output.status.code(), lines(&output)), (Some(0), vec![]));
     let text = String::from_utf8(output.stdout).unwrap();
-    for option in
-        ["font", "chars", "allglyphs", "coloringstrategy", "angle", "seed", "size", "pxrange", "imageout", "json", "testrender"]
-    {
-        assert!(text.contains(&format!("--{option}")), "{option}");
-    }
-    for option in ["errorcorrection", "errordeviationratio", "errorimproveratio", "nooverlap", "noscanline", "dimensions", "and"]
-    {
+    let options = "font chars allglyphs coloringstrategy angle seed balanced size pxrange imageout json testrender \
+        errorcorrection errordeviationratio errorimproveratio nooverlap noscanline dimensions and";
+    for option in options.split(' ') {
         assert!(text.contains(&format!("--{option}")), "{option}");
     }
 }

@@ -47,7 +47,7 @@ fn letters_come_back() {
         for letter in 'A'..='Z' {
             let glyph = font.glyph(Name::Character(letter)).unwrap();
             let frame = Frame::new(&glyph.shape, SIZE / font.units_per_em(), PXRANGE);
-            let mut colored = job(source::outline(&glyph.shape), strategy, 3f64.sin(), 0).unwrap().color().unwrap();
+            let mut colored = job(source::outline(&glyph.shape), strategy, 3f64.sin(), 0, false).unwrap().color().unwrap();
             let e = error(&colored, &glyph.fill, &frame);
             assert!(e < 0.02, "{strategy:?}, {letter}: {e}");
             colors += e;
@@ -66,7 +66,7 @@ fn nothing_is_lost_by_skipping() {
     for c in "AaBgR&@%Ω❤".chars() {
         let glyph = font.glyph(Name::Character(c)).unwrap();
         let frame = Frame::new(&glyph.shape, SIZE / font.units_per_em(), PXRANGE);
-        let colored = job(source::outline(&glyph.shape), Strategy::InkTrap, 3f64.sin(), 0).unwrap().color().unwrap();
+        let colored = job(source::outline(&glyph.shape), Strategy::InkTrap, 3f64.sin(), 0, false).unwrap().color().unwrap();
         let (all, some) = (Field::with(&colored, true, false), Field::with(&colored, true, true));
         let (mut all, mut some) = (all.channels(), some.channels());
         for (row, left) in (0..frame.height).flat_map(|row| (0..frame.width).step_by(5).map(move |x| (row, x))) {

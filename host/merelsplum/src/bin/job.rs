@@ -83,6 +83,7 @@ fn record(file: &[u8]) -> Option<(String, usize)> {
             let words = name.map_or_else(|| strategy.to_string(), |name| (*name).to_owned());
             Some((format!("job {words} seed {seed} threshold {threshold}\n"), 19))
         }
+        b"BL" => Some(("balanced\n".to_owned(), 2)),
         b"CT" => Some(("contour\n".to_owned(), 2)),
         b"DS" => {
             let count = usize::from(u16::from_le_bytes(rest.get(..2)?.try_into().ok()?));
@@ -125,6 +126,7 @@ fn bytes(words: &[&str], file: &mut Vec<u8>) -> Option<()> {
                 [named.or_else(|| strategy.parse().ok())?].into_iter().chain(seed.parse::<u64>().ok()?.to_le_bytes()).collect();
             put(b"JB", &head, &[threshold.parse().ok()?]);
         }
+        ["balanced"] => put(b"BL", &[], &[]),
         ["contour"] => put(b"CT", &[], &[]),
         ["end"] => put(b"EN", &[], &[]),
         ["distances", distances @ ..] => put(b"DS", &u16::try_from(distances.len()).ok()?.to_le_bytes(), &floats(distances)?),

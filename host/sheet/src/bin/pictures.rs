@@ -45,7 +45,7 @@ fn glyph(font: &Font, c: char) -> Result<Glyph, String> {
 }
 
 fn color(glyph: &Glyph, strategy: Strategy) -> Result<Colored, String> {
-    let job = job(source::outline(&glyph.shape), strategy, ANGLE.sin(), 0).map_err(|refusal| refusal.to_string())?;
+    let job = job(source::outline(&glyph.shape), strategy, ANGLE.sin(), 0, false).map_err(|refusal| refusal.to_string())?;
     job.color().map_err(|refusal| refusal.to_string())
 }
 
