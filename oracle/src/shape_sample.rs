@@ -542,6 +542,12 @@ pub fn small_records() -> Vec<Vec<u8>> {
     [by_all(&call), vec![first.clone(), last.clone()], by_all(&none)].concat()
 }
 
+/// Whether the two colourings differ, on few edges.
+fn by_strategy(call: &Call) -> bool {
+    let [simple, ink_trap] = STRATEGIES.map(|strategy| result(strategy, call));
+    call.outline.edges() < 9 && simple != ink_trap
+}
+
 /// The records by the balanced division alone.
 fn balanced_parts(r: &mut Random) -> Vec<(String, Vec<Vec<u8>>)> {
     let by_all = |calls: Vec<Call>| calls.iter().flat_map(|call| by_all(&balanced(call))).collect();
@@ -550,6 +556,7 @@ fn balanced_parts(r: &mut Random) -> Vec<(String, Vec<Vec<u8>>)> {
         ("teardrops".to_string(), balanced_teardrops(r)),
         ("splits".to_string(), by_all(splits(r).into_iter().step_by(4).collect())),
         ("contours".to_string(), by_all(some(r, 1, |_, corners| corners.len() > 1))),
+        ("corners".to_string(), by_all(some(r, 1, |call, _| by_strategy(call)))),
         ("stand-ins".to_string(), by_all(split_stand_ins().to_vec())),
     ];
     for number in [4, 8, 5, 7, 6, 11] {
