@@ -1,5 +1,5 @@
 -- Laws of the spline table and of offers to it.
 pub mod TableLaws
 pub mod OfferLaws
-pub mod NoClashLaws
+pub mod ClashLaws
 pub mod SequenceRule

@@ -36,6 +36,7 @@ pub mod PaintLaws
 pub mod DeliverLaws
 -- worked examples
 pub mod OfferExamples
+pub mod SequenceExamples
 pub mod SplineColorsExamples
 pub mod Examples
 pub mod ByDistanceExamples

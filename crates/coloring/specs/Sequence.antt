@@ -1,6 +1,6 @@
--- The sequence rule for offers to a spline table that starts without a clash (demand 3): one claim about a whole list
--- of offers. The terms are those of SCOPE, Demands and Offers. `offer` is the definition that the contract of
--- `try_add_edge` names.
+-- Two claims about a whole list of offers to a spline table: the rule for any table, which may start with clashes, and
+-- the sequence rule for one that starts without (demand 3). The terms are those of SCOPE, Demands and Offers. `offer`
+-- is the definition that the contract of `try_add_edge` names.
 use mathlib.Core.Path.{_≡_}
 use mathlib.Core.Logic.{_⊎_, _≢_}
 use Prim.Native.Nat.{ℕ, _+_, _*_, _<_}
@@ -42,6 +42,11 @@ pub record KeptPair (t : Table) (i j : ℕ) : Type 0 where
   pub back : HasEntry t j i
 
 -- a clash is a kept pair whose two colours are equal
+pub record Clash (t : Table) (i j : ℕ) : Type 0 where
+  pub keptPair : KeptPair t i j
+  pub sameColor : getD (t .coloring) i 0 ≡ getD (t .coloring) j 0
+
+-- a table without one
 abbrev pub NoClash : Table → Type 0
 NoClash t = (i j : ℕ) → KeptPair t i j → getD (t .coloring) i 0 ≢ getD (t .coloring) j 0
 
@@ -81,7 +86,37 @@ MayStrike (m ∷ marks) (o ∷ answers) = (m ≡ true → isKept o ≡ false) ×
 unfoldable pub allOthers : List OfferAnswer → List Bool
 allOthers answers = map (λ o. not (isKept o)) answers
 
--- ---- the rule
+-- ---- what each pair is when it is offered
+
+-- P holds of each offered pair and the buffers that it is offered to, those of the run itself
+unfoldable pub WhenOffered : (Table → ℕ → ℕ → Type 0) → Table → List Pair → Type 0
+WhenOffered P t [] = Unit {0}
+WhenOffered P t (p ∷ offers) = P t (p .a) (p .b) × WhenOffered P (offer t (p .a) (p .b) .table) offers
+
+-- no offered pair clashes when it is offered
+abbrev pub NoneClashes : Table → List Pair → Type 0
+NoneClashes t offers = WhenOffered (λ s i j. ¬ Clash s i j) t offers
+
+-- no offered pair is kept when it is offered
+abbrev pub NoneKept : Table → List Pair → Type 0
+NoneKept t offers = WhenOffered (λ s i j. ¬ KeptPair s i j) t offers
+
+-- ---- the rule for any table
+
+-- whichever declined and refused offers are struck, the others get the same answers, and both buffers end equal
+abbrev pub Strikable : Table → List Pair → Type 0
+Strikable t offers =
+    (marks : List Bool) → MayStrike marks (run t offers .answers)
+    → run t (strike marks offers) ≡ record { answers = strike marks (run t offers .answers); table = run t offers .table }
+
+pub record ClashRule (t : Table) (offers : List Pair) : Type 0 where
+  -- 1. a clash after the list is a clash of the same two splines at first
+  pub clashOnly : (i j : ℕ) → Clash (run t offers .table) i j → Clash t i j
+  -- 2. offers may be struck where no offered pair clashes when it is offered, and so where none is kept then
+  pub struckNoClash : NoneClashes t offers → Strikable t offers
+  pub struckNotKept : NoneKept t offers → Strikable t offers
+
+-- ---- the sequence rule
 
 pub record SequenceRule (t : Table) (offers : List Pair) : Type 0 where
   -- 1. after the list there is no clash

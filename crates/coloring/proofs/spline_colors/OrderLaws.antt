@@ -17,7 +17,7 @@ use Rattle.coloring.proofs.Lists.{drop-next}
 use Rattle.coloring.proofs.recolor.RowLaws.{Matrix}
 use Rattle.coloring.proofs.spline_table.TableLaws.{matrix-sound, enter-matrix}
 use Rattle.coloring.proofs.spline_table.OfferLaws.{Unrefused}
-use Rattle.coloring.proofs.spline_table.NoClashLaws.{Sound, offer-sound}
+use Rattle.coloring.proofs.spline_table.ClashLaws.{Sound, offer-sound}
 use Rattle.coloring.proofs.pair_order.EachLaws.{each-at, each-sort, each-map}
 use Rattle.coloring.proofs.pair_order.PairLaws.{two-from}
 use Rattle.coloring.proofs.second_degree.StartingLaws.{graph-length, graph-color}

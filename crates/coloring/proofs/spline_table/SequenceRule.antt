@@ -1,4 +1,6 @@
--- The sequence rule (demand 3): what `SequenceRule` says holds of every table without a clash and every list of offers.
+-- Lists of offers. What `ClashRule` says holds of every table and every list: `clash-rule`. What `SequenceRule` says
+-- (demand 3) holds of every table without a clash and every list: `sequence-rule`. Both are made of the same laws,
+-- which are of any table.
 use mathlib.Core.Path.{_≡_, refl, sym, ap, _∙_}
 use mathlib.Core.Logic.{_⊎_, inl, inr, ⊎-elim, ⊎-map}
 use mathlib.Core.Bool.{Bool, true, false}
@@ -6,16 +8,19 @@ use mathlib.Core.List.{List, [], _∷_, map}
 use Prim.Native.Nat.{ℕ}
 use borrow.Author.Tests.{not-true}
 use Rattle.coloring.specs.SplineTable.{Table, OfferAnswer, kept, declined, refused, offer}
-use Rattle.coloring.specs.Sequence.{Pair, run, KeptPair, NoClash, isKept, KeptOffer, strike, MayStrike, allOthers, SequenceRule}
-use Rattle.coloring.proofs.spline_table.NoClashLaws.{one-offer}
+use Rattle.coloring.specs.Sequence.{Pair, run, KeptPair, Clash, NoClash, isKept, KeptOffer, strike, MayStrike, allOthers}
+use Rattle.coloring.specs.Sequence.{WhenOffered, NoneClashes, NoneKept, Strikable, ClashRule, SequenceRule}
+use Rattle.coloring.proofs.spline_table.ClashLaws.{one-offer}
 
--- 1. after the list there is no clash
-no-clash : (t : Table) (offers : List Pair) → NoClash t → NoClash (run t offers .table)
+-- ---- every list
+
+-- a clash after the list is one at first
+pub clash-only : (t : Table) (offers : List Pair) (i j : ℕ) → Clash (run t offers .table) i j → Clash t i j
 unfolding run
-no-clash t [] clear = clear
-no-clash t (p ∷ offers) clear = no-clash (offer t (p .a) (p .b) .table) offers (one-offer t p clear .noClash)
+clash-only t [] i j c = c
+clash-only t (p ∷ offers) i j c = one-offer t p .clashOnly i j (clash-only (offer t (p .a) (p .b) .table) offers i j c)
 
--- 2. the pairs kept at the end: kept at first, by the first offer, or by a later one
+-- the pairs kept at the end: kept at first, by the first offer, or by a later one
 regroup-right : {A B C : Type 0} → (A ⊎ B) ⊎ C → A ⊎ (B ⊎ C)
 regroup-right (inl x) = ⊎-elim inl (λ b. inr (inl b)) x
 regroup-right (inr c) = inr (inr c)
@@ -24,37 +29,55 @@ regroup-left : {A B C : Type 0} → A ⊎ (B ⊎ C) → (A ⊎ B) ⊎ C
 regroup-left (inl a) = inl (inl a)
 regroup-left (inr x) = ⊎-elim (λ b. inl (inr b)) inr x
 
-kept-only : (t : Table) (offers : List Pair) → NoClash t → (i j : ℕ) → KeptPair (run t offers .table) i j
+pub kept-only : (t : Table) (offers : List Pair) (i j : ℕ) → KeptPair (run t offers .table) i j
     → KeptPair t i j ⊎ KeptOffer offers (run t offers .answers) i j
 unfolding run KeptOffer
-kept-only t [] clear i j k = inl k
-kept-only t (p ∷ offers) clear i j k =
-    let one = one-offer t p clear in
-    regroup-right (⊎-map (one .keptOnly i j) (λ later. later) (kept-only (offer t (p .a) (p .b) .table) offers (one .noClash) i j k))
+kept-only t [] i j k = inl k
+kept-only t (p ∷ offers) i j k =
+    regroup-right (⊎-map (one-offer t p .keptOnly i j) (λ later. later) (kept-only (offer t (p .a) (p .b) .table) offers i j k))
 
-kept-all : (t : Table) (offers : List Pair) → NoClash t → (i j : ℕ) → KeptPair t i j ⊎ KeptOffer offers (run t offers .answers) i j
+-- ---- lists in which no offered pair clashes when it is offered
+
+-- no pair is dropped
+pub kept-all : (t : Table) (offers : List Pair) → NoneClashes t offers → (i j : ℕ) → KeptPair t i j ⊎ KeptOffer offers (run t offers .answers) i j
     → KeptPair (run t offers .table) i j
-unfolding run KeptOffer
-kept-all t [] clear i j k = ⊎-elim (λ x. x) (λ x. absurd x) k
-kept-all t (p ∷ offers) clear i j k =
-    let one = one-offer t p clear in
-    kept-all (offer t (p .a) (p .b) .table) offers (one .noClash) i j (⊎-map (one .keptAll i j) (λ later. later) (regroup-left k))
+unfolding run KeptOffer WhenOffered
+kept-all t [] none i j k = ⊎-elim (λ x. x) (λ x. absurd x) k
+kept-all t (p ∷ offers) none i j k =
+    kept-all (offer t (p .a) (p .b) .table) offers (none .1) i j (⊎-map (one-offer t p .keptAll (none .0) i j) (λ later. later) (regroup-left k))
 
--- 3. a struck offer left the table as it was
-struck-same : (t : Table) (offers : List Pair) → NoClash t → (marks : List Bool) → MayStrike marks (run t offers .answers)
-    → run t (strike marks offers) ≡ record { answers = strike marks (run t offers .answers); table = run t offers .table }
-unfolding run strike MayStrike
-struck-same t [] clear [] may = refl
-struck-same t [] clear (m ∷ marks) may = refl
-struck-same t (p ∷ offers) clear [] may = refl
-struck-same t (p ∷ offers) clear (true ∷ marks) may =
-    ap (λ s. run s (strike marks offers)) (sym (one-offer t p clear .unchanged (may .0 refl)))
-    ∙ struck-same (offer t (p .a) (p .b) .table) offers (one-offer t p clear .noClash) marks (may .1)
-struck-same t (p ∷ offers) clear (false ∷ marks) may =
+-- a struck offer left the table as it was
+pub struck-same : (t : Table) (offers : List Pair) → NoneClashes t offers → Strikable t offers
+unfolding run strike MayStrike WhenOffered
+struck-same t [] none [] may = refl
+struck-same t [] none (m ∷ marks) may = refl
+struck-same t (p ∷ offers) none [] may = refl
+struck-same t (p ∷ offers) none (true ∷ marks) may =
+    ap (λ s. run s (strike marks offers)) (sym (one-offer t p .unchanged (none .0) (may .0 refl)))
+    ∙ struck-same (offer t (p .a) (p .b) .table) offers (none .1) marks (may .1)
+struck-same t (p ∷ offers) none (false ∷ marks) may =
     ap (λ r. record { answers = offer t (p .a) (p .b) .answer ∷ r .answers; table = r .table })
-    (struck-same (offer t (p .a) (p .b) .table) offers (one-offer t p clear .noClash) marks (may .1))
+    (struck-same (offer t (p .a) (p .b) .table) offers (none .1) marks (may .1))
 
--- 4. with all the others struck, the answers that are left are kept
+-- a pair that is not kept does not clash
+unkept-none-clashes : (t : Table) (offers : List Pair) → NoneKept t offers → NoneClashes t offers
+unfolding WhenOffered
+unkept-none-clashes t [] unkept = tt
+unkept-none-clashes t (p ∷ offers) unkept = (λ c. unkept .0 (c .keptPair), unkept-none-clashes (offer t (p .a) (p .b) .table) offers (unkept .1))
+
+-- in a table that starts without a clash none comes
+no-clash : (t : Table) (offers : List Pair) → NoClash t → NoClash (run t offers .table)
+no-clash t offers clear i j k same =
+    let c = clash-only t offers i j (record { keptPair = k; sameColor = same }) in
+    clear i j (c .keptPair) (c .sameColor)
+
+clear-none-clashes : (t : Table) (offers : List Pair) → NoClash t → NoneClashes t offers
+unfolding run WhenOffered
+clear-none-clashes t [] clear = tt
+clear-none-clashes t (p ∷ offers) clear =
+    (λ c. clear (p .a) (p .b) (c .keptPair) (c .sameColor), clear-none-clashes (offer t (p .a) (p .b) .table) offers (no-clash t (p ∷ []) clear))
+
+-- with all the others struck, the answers that are left are kept
 others-struck : (answers : List OfferAnswer) → MayStrike (allOthers answers) answers
 unfolding MayStrike allOthers
 others-struck [] = tt
@@ -76,13 +99,23 @@ only-kept t (p ∷ offers) =
     let o = offer t (p .a) (p .b) in
     only-kept-one p (o .answer) offers (run (o .table) offers .answers) (only-kept (o .table) offers)
 
+-- ---- the two rules
+
+pub clash-rule : (t : Table) (offers : List Pair) → ClashRule t offers
+clash-rule t offers =
+    record {
+      clashOnly = clash-only t offers;
+      struckNoClash = struck-same t offers;
+      struckNotKept = λ unkept. struck-same t offers (unkept-none-clashes t offers unkept);
+    }
+
 pub sequence-rule : (t : Table) (offers : List Pair) → NoClash t → SequenceRule t offers
 sequence-rule t offers clear =
+    let none = clear-none-clashes t offers clear in
     record {
       noClash = no-clash t offers clear;
-      keptOnly = kept-only t offers clear;
-      keptAll = kept-all t offers clear;
-      struck = struck-same t offers clear;
-      allKept =
-          ap (λ r. map isKept (r .answers)) (struck-same t offers clear _ (others-struck (run t offers .answers))) ∙ only-kept t offers;
+      keptOnly = kept-only t offers;
+      keptAll = kept-all t offers none;
+      struck = struck-same t offers none;
+      allKept = ap (λ r. map isKept (r .answers)) (struck-same t offers none _ (others-struck (run t offers .answers))) ∙ only-kept t offers;
     }

@@ -206,10 +206,9 @@ module _ (n : ℕ) (edgeMatrix : List ℕ) (p : Pair) (first : p .a < n) (second
   pub enter-again : (d e : ℕ) → enterPair n (enterPair n edgeMatrix (p .a) (p .b) d) (p .a) (p .b) e ≡ enterPair n edgeMatrix (p .a) (p .b) e
   enter-again d e = rw (set-comm {A = ℕ} _ _ _ d e (λ q. two-places (sym q)), set-set _ (p .b * n + p .a), set-set)
 
-  -- a pair that was not there, entered and taken away again
-  pub enter-undone : entry n edgeMatrix (p .a) (p .b) ≡ 0 → entry n edgeMatrix (p .b) (p .a) ≡ 0
-      → enterPair n (enterPair n edgeMatrix (p .a) (p .b) 1) (p .a) (p .b) 0 ≡ edgeMatrix
-  enter-undone x y = enter-again 1 0 ∙ rw (put _ x) (put _ y)
+  -- a pair that is not there, taken away
+  pub enter-none : entry n edgeMatrix (p .a) (p .b) ≡ 0 → entry n edgeMatrix (p .b) (p .a) ≡ 0 → enterPair n edgeMatrix (p .a) (p .b) 0 ≡ edgeMatrix
+  enter-none x y = rw (put _ x) (put _ y)
     where
       put : (k : ℕ) → getD edgeMatrix k 0 ≡ 0 → set edgeMatrix k 0 ≡ edgeMatrix
       put k z = subst (λ e. set edgeMatrix k e ≡ edgeMatrix) z (set-getD edgeMatrix k 0)

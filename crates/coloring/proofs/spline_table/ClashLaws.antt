@@ -1,0 +1,233 @@
+-- One offer of two different splines to a sound table leaves a sound table. One offer to any table: a clash afterwards
+-- is one from before, and so is a kept pair, unless the answer is kept and the pair is the offer's own. Where the
+-- offer's pair does not clash, no pair is dropped, and if the answer is not kept the table is as it was.
+use mathlib.Core.Path.{_≡_, refl, sym, ap, _∙_, subst}
+use mathlib.Core.Logic.{_⊎_, inl, inr, ⊎-elim, ⊎-map, _≢_}
+use mathlib.Core.Bool.{true, false, true≢false}
+use mathlib.Core.List.{List, []}
+use Prim.Native.Nat.{ℕ, _*_, _≤_, _<_}
+use native.Mathlib.Decide.{ℕ-discrete}
+use native.Mathlib.Omega.{arith}
+use lib.ListN.{length, getD}
+use lib.Arith.{digits-lt}
+use borrow.Author.Tests.{ne-eqb}
+use Rattle.coloring.specs.Recolor.{Walk, recolored, stopped}
+use Rattle.coloring.specs.SplineTable.{Table, tableOf, kept, declined, Offered, outcome, settled, entry, enterPair, sound, tryAddEdge, offer}
+use Rattle.coloring.specs.Sequence.{Pair, KeptPair, Clash, isKept, Names}
+use Rattle.coloring.proofs.recolor.RowLaws.{Matrix}
+use Rattle.coloring.proofs.recolor.FreeColorLaws.{possible-free}
+use Rattle.coloring.proofs.recolor.ProperLaws.{Proper, proper-color, proper-old, Ends, take-free, recolor-ends}
+use Rattle.coloring.proofs.spline_table.TableLaws.{splines, sound-color, sound-matrix, matrix-sound, names?}
+use Rattle.coloring.proofs.spline_table.TableLaws.{enter-at, enter-other, enter-matrix, enter-again, enter-none}
+use Rattle.coloring.proofs.spline_table.OfferLaws.{Unrefused, entered, rule-cases, offer-rule, offer-cases}
+
+-- a sound table of n splines
+pub record Sound (n : ℕ) (t : Table) : Type 0 where
+  pub splines : length (t .coloring) ≡ n
+  pub size : length (t .edgeMatrix) ≡ length (t .coloring) * length (t .coloring)
+  pub isSound : sound t ≡ true
+
+pub record OneOffer (t : Table) (p : Pair) (o : Offered) : Type 0 where
+  pub clashOnly : (i j : ℕ) → Clash (o .table) i j → Clash t i j
+  pub keptOnly : (i j : ℕ) → KeptPair (o .table) i j → KeptPair t i j ⊎ ((isKept (o .answer) ≡ true) × Names p i j)
+  pub keptAll : ¬ Clash t (p .a) (p .b) → (i j : ℕ) → KeptPair t i j ⊎ ((isKept (o .answer) ≡ true) × Names p i j) → KeptPair (o .table) i j
+  pub unchanged : ¬ Clash t (p .a) (p .b) → isKept (o .answer) ≡ false → o .table ≡ t
+
+-- ---- declined and refused offers
+
+unkept : (t : Table) (p : Pair) (o : Offered) → isKept (o .answer) ≡ false → (¬ Clash t (p .a) (p .b) → o .table ≡ t)
+    → ((i j : ℕ) → KeptPair (o .table) i j → KeptPair t i j) → ((i j : ℕ) → Clash (o .table) i j → Clash t i j) → OneOffer t p o
+unkept t p o no-pair same fewer fewer-clash =
+    record {
+      clashOnly = fewer-clash;
+      keptOnly = λ i j k. inl (fewer i j k);
+      keptAll =
+          λ apart i j k. subst (λ s. KeptPair s i j) (sym (same apart)) (⊎-elim (λ x. x) (λ x. absurd (true≢false (sym (x .0) ∙ no-pair))) k);
+      unchanged = λ apart e. same apart;
+    }
+
+-- ---- kept pairs by the entries of a sound matrix
+
+record Joined (n : ℕ) (edgeMatrix : List ℕ) (i j : ℕ) : Type 0 where
+  first : i < n
+  second : j < n
+  there : entry n edgeMatrix i j ≢ 0
+
+kept-joined : (n : ℕ) (t : Table) → length (t .coloring) ≡ n → (i j : ℕ) → KeptPair t i j → Joined n (t .edgeMatrix) i j
+kept-joined n t e i j k =
+    record { first = rw e at (k .first); second = rw e at (k .second); there = rw e at (k .there .1) }
+
+joined-kept : (n : ℕ) (t : Table) → length (t .coloring) ≡ n → Matrix n (t .edgeMatrix) → (i j : ℕ) → Joined n (t .edgeMatrix) i j → KeptPair t i j
+joined-kept n t e m i j k =
+    record {
+      first = rw e (k .first);
+      second = rw e (k .second);
+      different = λ q. k .there (rw q (m .loopless j (k .second)));
+      there = (rw (e, m .size) (digits-lt (k .first) (k .second)), rw e (k .there));
+      back = (rw (e, m .size) (digits-lt (k .second) (k .first)), rw e (λ z. k .there (m .symmetric i j (k .first) (k .second) ∙ z)));
+    }
+
+-- ---- kept and declined offers
+
+-- of an offer that passes the checks
+record AfterOffer (t : Table) (p : Pair) (o : Offered) : Type 0 where
+  after : Sound (splines t) (o .table)
+  one : OneOffer t p o
+
+module _ (t : Table) (p : Pair) (v : Unrefused t (p .a) (p .b)) where
+  abbrev n : ℕ
+  n = splines t
+
+  -- the entries with e for the pair
+  abbrev with-entry : ℕ → List ℕ
+  with-entry e = enterPair n (t .edgeMatrix) (p .a) (p .b) e
+
+  abbrev with-pair : List ℕ
+  with-pair = with-entry 1
+
+  -- colours in which neighbours clash only where they did before
+  abbrev ProperBut : ℕ → List ℕ → Type 0
+  ProperBut w coloring = Proper (Clash t) n with-pair w (record { coloring = coloring; queue = [] })
+
+  was : Matrix n (t .edgeMatrix)
+  was = sound-matrix t (v .isSound) (v .size)
+
+  becomes : (e : ℕ) → e ≤ 1 → Matrix n (with-entry e)
+  becomes e small = enter-matrix n (t .edgeMatrix) p (v .first) (v .second) (v .different) e small was
+
+  named : (e i j : ℕ) → Names p i j → entry n (with-entry e) i j ≡ e
+  named e i j names = enter-at n (t .edgeMatrix) p (v .first) (v .second) (v .different) e i j (v .size) names
+
+  unnamed : (e i j : ℕ) → i < n → j < n → ¬ Names p i j → entry n (with-entry e) i j ≡ entry n (t .edgeMatrix) i j
+  unnamed e = enter-other n (t .edgeMatrix) p (v .first) (v .second) (v .different) e
+
+  kept-or-named : (e i j : ℕ) → Joined n (with-entry e) i j → KeptPair t i j ⊎ Names p i j
+  kept-or-named e i j k = go (names? p i j)
+    where
+      go : Dec (Names p i j) → KeptPair t i j ⊎ Names p i j
+      go (yes names) = inr names
+      go (no other) =
+          inl (joined-kept _ t refl was i j
+          (record { first = k .first; second = k .second; there = rw (unnamed e i j (k .first) (k .second) other) at (k .there) }))
+
+  if-kept : (step : ℕ) (coloring : List ℕ) → ProperBut n coloring → AfterOffer t p (outcome (kept step) coloring with-pair)
+  if-kept step coloring c =
+      record {
+        after =
+            record {
+              splines = c .size;
+              size = rw (c .size) (becomes 1 (omega arith) .size);
+              isSound = matrix-sound after (rw (c .size) (becomes 1 (omega arith))) (λ i h. proper-color c i (rw (c .size) at h));
+            };
+        one =
+            record {
+              clashOnly =
+                  λ i j k. let s = joins i j (k .keptPair) in proper-old c i j (s .first) (s .second) (s .there) (k .sameColor);
+              keptOnly = λ i j k. ⊎-map (λ x. x) (λ names. (refl, names)) (kept-or-named 1 i j (joins i j k));
+              keptAll = λ apart i j k. joined-kept _ after (c .size) (becomes 1 (omega arith)) i j (all i j k (names? p i j));
+              unchanged = λ apart e. absurd (true≢false e);
+            };
+      }
+    where
+      after : Table
+      after = tableOf coloring with-pair
+
+      joins : (i j : ℕ) → KeptPair after i j → Joined n with-pair i j
+      joins = kept-joined _ after (c .size)
+
+      all : (i j : ℕ) → KeptPair t i j ⊎ ((true ≡ true) × Names p i j) → Dec (Names p i j) → Joined n with-pair i j
+      all i j k (yes names) =
+          record {
+            first = ⊎-elim (λ e. rw (← e .0) (v .first)) (λ e. rw (← e .1) (v .second)) names;
+            second = ⊎-elim (λ e. rw (← e .1) (v .second)) (λ e. rw (← e .0) (v .first)) names;
+            there = rw (named 1 i j names) (omega arith);
+          }
+      all i j (inr k) (no other) = absurd (other (k .1))
+      all i j (inl k) (no other) =
+          record {
+            first = k .first;
+            second = k .second;
+            there = rw (unnamed 1 i j (k .first) (k .second) other) (kept-joined _ t refl i j k .there);
+          }
+
+  -- the colours as they were, where the pair's two differ, or one of the two is left out
+  old-colors : (w : ℕ) → ((i j : ℕ) → Names p i j → i ≢ w → j ≢ w → getD (t .coloring) i 0 ≢ getD (t .coloring) j 0) → ProperBut w (t .coloring)
+  old-colors w pair =
+      record {
+        size = refl;
+        colored = λ i h iw. inl (sound-color t (v .isSound) i h);
+        proper =
+            λ i j hi hj iw jw e q. inl (⊎-elim (λ k. record { keptPair = k; sameColor = q }) (λ names. absurd (pair i j names iw jw q))
+            (kept-or-named 1 i j (record { first = hi; second = hj; there = e })));
+      }
+
+  if-declined : (step : ℕ) → getD (t .coloring) (p .a) 0 ≡ getD (t .coloring) (p .b) 0
+      → AfterOffer t p (outcome (declined step) (t .coloring) (enterPair n with-pair (p .a) (p .b) 0))
+  if-declined step e =
+      rw (enter-again n (t .edgeMatrix) p (v .first) (v .second) (v .different) 1 0)
+      (record {
+        after =
+            let dropped = becomes 0 (omega arith) in
+            record { splines = refl; size = dropped .size; isSound = matrix-sound after dropped (sound-color t (v .isSound)) };
+        one =
+            unkept t p _ refl (λ apart. ap (tableOf (t .coloring)) (same apart)) fewer
+            (λ i j c. record { keptPair = fewer i j (c .keptPair); sameColor = c .sameColor });
+      })
+    where
+      after : Table
+      after = tableOf (t .coloring) (with-entry 0)
+
+      fewer : (i j : ℕ) → KeptPair after i j → KeptPair t i j
+      fewer i j k =
+          let s = kept-joined _ after refl i j k in
+          ⊎-elim (λ x. x) (λ names. absurd (s .there (named 0 i j names))) (kept-or-named 0 i j s)
+
+      no-entry : ¬ Clash t (p .a) (p .b) → entry n (t .edgeMatrix) (p .a) (p .b) ≡ 0
+      no-entry apart = go (ℕ-discrete _ 0)
+        where
+          go : Dec (entry n (t .edgeMatrix) (p .a) (p .b) ≡ 0) → entry n (t .edgeMatrix) (p .a) (p .b) ≡ 0
+          go (yes z) = z
+          go (no z) =
+              let k = joined-kept _ t refl was (p .a) (p .b) (record { first = v .first; second = v .second; there = z }) in
+              absurd (apart (record { keptPair = k; sameColor = e }))
+
+      same : ¬ Clash t (p .a) (p .b) → with-entry 0 ≡ t .edgeMatrix
+      same apart =
+          enter-none n (t .edgeMatrix) p (v .first) (v .second) (v .different) (no-entry apart)
+          (sym (was .symmetric _ _ (v .first) (v .second)) ∙ no-entry apart)
+
+  -- the colours differ and b keeps its own, or b takes a free one, or it takes the first that a has not and a walk
+  -- follows
+  try-outcome : AfterOffer t p (tryAddEdge t (p .a) (p .b))
+  try-outcome =
+      rule-cases t (p .a) (p .b) (AfterOffer t p) (λ d. if-kept 0 (t .coloring) (old-colors n (λ i j names x z. differ d i j names)))
+      (λ e f. if-kept 0 _ (take-free (Clash t) n with-pair with-matrix (p .b) _ _ (possible-free _ _ (ne-eqb _ 0 f)) but-b))
+      (λ e f w q. ends w e (subst (Ends (Clash t) n with-pair) q (recolor-ends (Clash t) n with-pair with-matrix (t .coloring) (p .a) (p .b) color but-b)))
+    where
+      with-matrix : Matrix n with-pair
+      with-matrix = becomes 1 (omega arith)
+
+      color : getD (t .coloring) (p .a) 0 < 3
+      color = sound-color t (v .isSound) (p .a) (v .first)
+
+      but-b : ProperBut (p .b) (t .coloring)
+      but-b = old-colors (p .b) (λ i j names x y. absurd (⊎-elim (λ e. y (sym (e .1))) (λ e. x (sym (e .1))) names))
+
+      differ : getD (t .coloring) (p .a) 0 ≢ getD (t .coloring) (p .b) 0 → (i j : ℕ) → Names p i j → getD (t .coloring) i 0 ≢ getD (t .coloring) j 0
+      differ e i j (inl (x, y)) q = e (rw (x, y) q)
+      differ e i j (inr (x, y)) q = e (rw (x, y) (sym q))
+
+      ends : (w : Walk) → getD (t .coloring) (p .a) 0 ≡ getD (t .coloring) (p .b) 0 → Ends (Clash t) n with-pair w
+          → AfterOffer t p (settled w (t .coloring) with-pair (p .a) (p .b))
+      ends (recolored after step) e c = if-kept step after c
+      ends (stopped step) e c = if-declined step e
+
+-- ---- the offer
+
+-- an offer that passes the checks is `tryAddEdge`, and leaves a sound table
+pub offer-sound : (t : Table) (a b : ℕ) → Unrefused t a b → (offer t a b ≡ tryAddEdge t a b) × Sound (splines t) (tryAddEdge t a b .table)
+offer-sound t a b v = (offer-rule t a b v, try-outcome t (record { a = a; b = b }) v .after)
+
+pub one-offer : (t : Table) (p : Pair) → OneOffer t p (offer t (p .a) (p .b))
+one-offer t p =
+    offer-cases t (p .a) (p .b) (OneOffer t p) (λ r. unkept t p _ refl (λ apart. refl) (λ i j k. k) (λ i j c. c)) (λ v. try-outcome t p v .one)
