@@ -271,7 +271,12 @@ uint64_t merelsplum_edge_directions(
  * where a pair is kept apart, else 0; symmetric, 0 on the diagonal. An offer asks to keep the splines a and b apart
  * too. Where that works, the pair is kept and colours are changed as needed; where it does not within some 16 steps,
  * it is declined and the table stays as it is, but for this pair, whose two entries are 0. Refusals: 4 (n above 64),
- * 8 (edge_matrix has not n * n bytes), 10. */
+ * 8 (edge_matrix has not n * n bytes), 10.
+ *
+ * A table may start with clashes, pairs that are kept apart though their two colours are equal. No offer makes one: two
+ * splines that clash after any list of offers clashed before it. Of a list in which no pair clashes when it is offered,
+ * declined and refused offers can be left out: the others get the same answers, and the table ends the same. An offer
+ * of two splines that clash, if it is declined, drops their pair, and later answers may be others for it. */
 
 uint64_t merelsplum_try_add_edge(
     uint8_t *coloring, size_t coloring_len,

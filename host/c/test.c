@@ -275,6 +275,25 @@ static void offers(void) {
     CHECK(merelsplum_offer_refusal(answer) == MERELSPLUM_LENGTH_MISMATCH);
 }
 
+/* 0, 1, 2 and 3 are all kept apart, and 0 and 1 clash. What is offered beside them leaves their clash as it is; offered
+ * itself, it is declined and dropped, and the next answer is another one. */
+static void clashes(void) {
+    static const uint8_t colors[] = {0, 0, 1, 2, 0};
+    static const uint8_t pairs[] = {0, 1, 1, 1, 0, 1, 0, 1, 1, 0, 1, 1, 0, 1, 0, 1, 1, 1, 0, 0, 0, 0, 0, 0, 0};
+    uint8_t coloring[5], matrix[25];
+    memcpy(coloring, colors, 5);
+    memcpy(matrix, pairs, 25);
+    uint64_t answer = merelsplum_try_add_edge(coloring, 5, matrix, 25, 4, 0);
+    CHECK(answer == MERELSPLUM_OFFER_DECLINED + 17 && memcmp(coloring, colors, 5) == 0 && memcmp(matrix, pairs, 25) == 0);
+    answer = merelsplum_try_add_edge(coloring, 5, matrix, 25, 4, 2);
+    CHECK(answer == MERELSPLUM_OFFER_KEPT && memcmp(coloring, colors, 5) == 0 && matrix[22] == 1 && matrix[14] == 1);
+    memcpy(matrix, pairs, 25);
+    answer = merelsplum_try_add_edge(coloring, 5, matrix, 25, 0, 1);
+    CHECK(answer == MERELSPLUM_OFFER_DECLINED + 17 && memcmp(coloring, colors, 5) == 0 && matrix[1] == 0 && matrix[5] == 0);
+    answer = merelsplum_try_add_edge(coloring, 5, matrix, 25, 4, 0);
+    CHECK(answer == MERELSPLUM_OFFER_KEPT + 1 && memcmp(coloring, "\1\1\0\2\0", 5) == 0);
+}
+
 /* A square with sides 2^-520, whose squared sides are subnormal, loses its corners with flush to zero or
  * denormals-are-zero on. */
 static void floating_point_state(void) {
@@ -398,6 +417,7 @@ int main(int argc, char **argv) {
     teardrops();
     directions();
     offers();
+    clashes();
     floating_point_state();
     balanced_jobs();
     CHECK(argc == 2);

@@ -9,7 +9,7 @@ pub enum Offer {
         /// 0 to 15.
         steps: u8,
     },
-    /// The pair could not be kept, and all else is as it was.
+    /// The pair could not be kept, nor is it any longer if it was; all else is as before.
     Declined {
         /// 16 or 17.
         steps: u8,
@@ -58,6 +58,11 @@ impl SplineTable {
 
     /// Offers to keep `a` and `b` apart. Colours are changed as needed; where that does not end within some steps, the
     /// offer is declined.
+    ///
+    /// A table may start with clashes, kept pairs of one colour. No offer makes one: two splines that clash after any
+    /// list of offers clashed before it. Of a list in which no pair clashes when it is offered, declined and refused
+    /// offers can be left out: the others get the same answers, and the table ends the same. An offer of two splines
+    /// that clash, if it is declined, drops their pair, and later answers may be others for it.
     ///
     /// # Errors
     ///
