@@ -45,6 +45,13 @@ pub fn circle(x: f64, y: f64, radius: f64) -> Edges {
     )
 }
 
+/// Two triangles that meet in a point.
+pub fn bow_tie() -> Vec<Edges> {
+    let left = polygon(&[(0.0, 0.0), (-400.0, 300.0), (-400.0, -300.0)]);
+    let right = polygon(&[(0.0, 0.0), (400.0, -300.0), (400.0, 300.0)]);
+    vec![left, right]
+}
+
 /// Two cubics that meet smoothly at the foot and in a corner at the tip.
 pub fn teardrop() -> Edges {
     path(

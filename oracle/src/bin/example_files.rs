@@ -1,10 +1,11 @@
 //! Writes the job files of examples/ and the listing of each, in the folder that is named:
 //! `example_files ../examples`.
 
+use oracle::contours::Edges;
 use oracle::geometry::Shape;
 use oracle::given::by_distance_measured::spline_distances;
 use oracle::given::edge_coloring_by_distance;
-use oracle::glyphs::{doubled, long_teardrop, registered, teardrop};
+use oracle::glyphs::{bow_tie, doubled, long_teardrop, registered, teardrop};
 use oracle::job_files::{no_contours, square_job, with_balanced};
 use oracle::jobs::{Job, listing, outcome, records, write};
 use oracle::shapes::source_shape;
@@ -13,10 +14,9 @@ use std::path::Path;
 
 const SEED: u64 = 2024;
 
-/// The sign by a strategy. By distance it has the source's own distances, to the nearest 1/1024, and is
+/// An outline by a strategy. By distance it has the source's own distances, to the nearest 1/1024, and is
 /// coloured as the source does without them.
-fn sign(strategy: u8) -> Job {
-    let contours = registered();
+fn drawn(contours: Vec<Edges>, strategy: u8) -> Job {
     let mut job = Job { seed: SEED, contours, distances: Vec::new(), ..square_job(strategy) };
     if strategy == 3 {
         let mut shape: Shape = source_shape(&job.contours);
@@ -55,9 +55,10 @@ fn main() {
         ("square-ink-trap", write(&square_job(2))),
         ("square-by-distance", write(&square_job(3))),
         ("teardrop", write(&drop)),
-        ("registered", write(&sign(1))),
-        ("registered-ink-trap", write(&sign(2))),
-        ("registered-by-distance", write(&sign(3))),
+        ("registered", write(&drawn(registered(), 1))),
+        ("registered-ink-trap", write(&drawn(registered(), 2))),
+        ("registered-by-distance", write(&drawn(registered(), 3))),
+        ("bow-tie-by-distance", write(&drawn(bow_tie(), 3))),
         ("stand-ins", write(&stand_ins)),
         ("teardrop-47", write(&long_drop)),
         ("teardrop-47-balanced", write(&balanced)),
