@@ -19,7 +19,7 @@ use Rattle.coloring.proofs.recolor.FreeColorLaws.{possible-free}
 use Rattle.coloring.proofs.recolor.ProperLaws.{Proper, proper-color, proper-old, Ends, take-free, recolor-ends}
 use Rattle.coloring.proofs.spline_table.TableLaws.{splines, sound-color, sound-matrix, matrix-sound, names?}
 use Rattle.coloring.proofs.spline_table.TableLaws.{enter-at, enter-other, enter-matrix, enter-again, enter-none}
-use Rattle.coloring.proofs.spline_table.OfferLaws.{Unrefused, entered, rule-cases, offer-rule, offer-cases}
+use Rattle.coloring.proofs.spline_table.OfferLaws.{Unrefused, rule-cases, offer-rule, offer-cases}
 
 -- a sound table of n splines
 pub record Sound (n : ℕ) (t : Table) : Type 0 where
@@ -28,8 +28,10 @@ pub record Sound (n : ℕ) (t : Table) : Type 0 where
   pub isSound : sound t ≡ true
 
 pub record OneOffer (t : Table) (p : Pair) (o : Offered) : Type 0 where
+  -- of every offer
   pub clashOnly : (i j : ℕ) → Clash (o .table) i j → Clash t i j
   pub keptOnly : (i j : ℕ) → KeptPair (o .table) i j → KeptPair t i j ⊎ ((isKept (o .answer) ≡ true) × Names p i j)
+  -- of one whose pair does not clash
   pub keptAll : ¬ Clash t (p .a) (p .b) → (i j : ℕ) → KeptPair t i j ⊎ ((isKept (o .answer) ≡ true) × Names p i j) → KeptPair (o .table) i j
   pub unchanged : ¬ Clash t (p .a) (p .b) → isKept (o .answer) ≡ false → o .table ≡ t
 
@@ -92,8 +94,11 @@ module _ (t : Table) (p : Pair) (v : Unrefused t (p .a) (p .b)) where
   was : Matrix n (t .edgeMatrix)
   was = sound-matrix t (v .isSound) (v .size)
 
-  becomes : (e : ℕ) → e ≤ 1 → Matrix n (with-entry e)
-  becomes e small = enter-matrix n (t .edgeMatrix) p (v .first) (v .second) (v .different) e small was
+  matrix-with : (e : ℕ) → e ≤ 1 → Matrix n (with-entry e)
+  matrix-with e small = enter-matrix n (t .edgeMatrix) p (v .first) (v .second) (v .different) e small was
+
+  becomes : Matrix n with-pair
+  becomes = matrix-with 1 (omega arith)
 
   named : (e i j : ℕ) → Names p i j → entry n (with-entry e) i j ≡ e
   named e i j names = enter-at n (t .edgeMatrix) p (v .first) (v .second) (v .different) e i j (v .size) names
@@ -116,15 +121,15 @@ module _ (t : Table) (p : Pair) (v : Unrefused t (p .a) (p .b)) where
         after =
             record {
               splines = c .size;
-              size = rw (c .size) (becomes 1 (omega arith) .size);
-              isSound = matrix-sound after (rw (c .size) (becomes 1 (omega arith))) (λ i h. proper-color c i (rw (c .size) at h));
+              size = rw (c .size) (becomes .size);
+              isSound = matrix-sound after (rw (c .size) becomes) (λ i h. proper-color c i (rw (c .size) at h));
             };
         one =
             record {
               clashOnly =
                   λ i j k. let s = joins i j (k .keptPair) in proper-old c i j (s .first) (s .second) (s .there) (k .sameColor);
               keptOnly = λ i j k. ⊎-map (λ x. x) (λ names. (refl, names)) (kept-or-named 1 i j (joins i j k));
-              keptAll = λ apart i j k. joined-kept _ after (c .size) (becomes 1 (omega arith)) i j (all i j k (names? p i j));
+              keptAll = λ apart i j k. joined-kept _ after (c .size) becomes i j (all i j k (names? p i j));
               unchanged = λ apart e. absurd (true≢false e);
             };
       }
@@ -167,7 +172,7 @@ module _ (t : Table) (p : Pair) (v : Unrefused t (p .a) (p .b)) where
       rw (enter-again n (t .edgeMatrix) p (v .first) (v .second) (v .different) 1 0)
       (record {
         after =
-            let dropped = becomes 0 (omega arith) in
+            let dropped = matrix-with 0 (omega arith) in
             record { splines = refl; size = dropped .size; isSound = matrix-sound after dropped (sound-color t (v .isSound)) };
         one =
             unkept t p _ refl (λ apart. ap (tableOf (t .coloring)) (same apart)) fewer
@@ -201,12 +206,9 @@ module _ (t : Table) (p : Pair) (v : Unrefused t (p .a) (p .b)) where
   try-outcome : AfterOffer t p (tryAddEdge t (p .a) (p .b))
   try-outcome =
       rule-cases t (p .a) (p .b) (AfterOffer t p) (λ d. if-kept 0 (t .coloring) (old-colors n (λ i j names x z. differ d i j names)))
-      (λ e f. if-kept 0 _ (take-free (Clash t) n with-pair with-matrix (p .b) _ _ (possible-free _ _ (ne-eqb _ 0 f)) but-b))
-      (λ e f w q. ends w e (subst (Ends (Clash t) n with-pair) q (recolor-ends (Clash t) n with-pair with-matrix (t .coloring) (p .a) (p .b) color but-b)))
+      (λ e f. if-kept 0 _ (take-free (Clash t) n with-pair becomes (p .b) _ _ (possible-free _ _ (ne-eqb _ 0 f)) but-b))
+      (λ e f w q. ends w e (subst (Ends (Clash t) n with-pair) q (recolor-ends (Clash t) n with-pair becomes (t .coloring) (p .a) (p .b) color but-b)))
     where
-      with-matrix : Matrix n with-pair
-      with-matrix = becomes 1 (omega arith)
-
       color : getD (t .coloring) (p .a) 0 < 3
       color = sound-color t (v .isSound) (p .a) (v .first)
 
