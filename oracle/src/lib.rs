@@ -17,6 +17,7 @@ pub mod coloring;
 
 include!(concat!(env!("OUT_DIR"), "/copies.rs"));
 
+pub mod clashes;
 pub mod contours;
 pub mod direction_sample;
 pub mod directions;

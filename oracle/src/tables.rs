@@ -39,7 +39,7 @@ impl Table {
         self.edge_matrix[a * self.n() + b] != 0
     }
 
-    fn set(&mut self, (a, b): Pair, e: u8) {
+    pub(crate) fn set(&mut self, (a, b): Pair, e: u8) {
         let n = self.n();
         self.edge_matrix[a * n + b] = e;
         self.edge_matrix[b * n + a] = e;
@@ -131,7 +131,7 @@ fn colors(r: &mut Random, n: usize) -> Vec<u8> {
 
 /// A table of n splines whose pairs are kept at random, about `degree` a spline; where `clashes` is
 /// false, only pairs of two colours.
-fn random_pairs(r: &mut Random, n: usize, degree: u64, clashes: bool) -> Table {
+pub(crate) fn random_pairs(r: &mut Random, n: usize, degree: u64, clashes: bool) -> Table {
     let mut t = Table { coloring: colors(r, n), edge_matrix: vec![0; n * n] };
     let of_color = |c: u8| (0..n).fold(0, |m, i| m | ((t.coloring[i] == c) as u64) << i);
     let same = [of_color(0), of_color(1), of_color(2)];
@@ -182,7 +182,7 @@ pub fn pair(r: &mut Random, t: &Table) -> Pair {
 /// What can be wrong with an offer, each a way to make it so.
 pub type Fault = fn(&mut Random, &mut Table, &mut Pair);
 
-fn some(r: &mut Random, n: usize) -> usize {
+pub(crate) fn some(r: &mut Random, n: usize) -> usize {
     r.below(n.max(1) as u64) as usize
 }
 
@@ -195,7 +195,7 @@ fn above(r: &mut Random, good: u8) -> u8 {
     }
 }
 
-fn outside(r: &mut Random, n: usize) -> usize {
+pub(crate) fn outside(r: &mut Random, n: usize) -> usize {
     let far = [n, n + 1, 64, 255, 256, 1 << 32, usize::MAX - n, usize::MAX];
     loop {
         let x = if r.coin() { n } else { r.pick(&far) };
@@ -354,7 +354,7 @@ pub struct Run {
     pub after: Table,
 }
 
-fn run(before: Table, pairs: &[Pair]) -> Run {
+pub(crate) fn run(before: Table, pairs: &[Pair]) -> Run {
     let mut after = before.clone();
     let offers = pairs.iter().map(|&p| (p, offer(&mut after, p))).collect();
     Run { before, offers, after }

@@ -3,6 +3,7 @@
 //! `edges`, `tables`, `shapes`, `directions`, `distances`, `teardrops`, `jobs`, `channels`, or `root`, which a run of
 //! all leaves out. `speed` measures and compares nothing, and runs `pass` under callgrind.
 
+mod clashes;
 mod directions;
 mod distances;
 mod edges;

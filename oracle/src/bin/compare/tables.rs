@@ -1,6 +1,6 @@
 //! The spline table: single offers, refusals and lists of offers.
 
-use crate::Tally;
+use crate::{Tally, clashes};
 use oracle::numbers::Random;
 use oracle::tables::{Answer, FAULTS, Pair, Table, Way};
 use oracle::tables::{list, offer, pair, size, sound, start, way};
@@ -24,21 +24,21 @@ pub fn try_add_edge(coloring: &mut [u8], edge_matrix: &mut [u8], (a, b): Pair) -
 }
 
 /// A buffer with bytes before and after it that must stay as they are.
-struct Guarded(Vec<u8>);
+pub struct Guarded(Vec<u8>);
 
 impl Guarded {
     const MARGIN: [u8; 16] = [0xA5; 16];
 
-    fn new(bytes: &[u8]) -> Self {
+    pub fn new(bytes: &[u8]) -> Self {
         Guarded([&Self::MARGIN, bytes, &Self::MARGIN].concat())
     }
 
-    fn part(&mut self) -> &mut [u8] {
+    pub fn part(&mut self) -> &mut [u8] {
         let end = self.0.len() - 16;
         &mut self.0[16..end]
     }
 
-    fn is(&self, bytes: &[u8]) -> bool {
+    pub fn is(&self, bytes: &[u8]) -> bool {
         let end = self.0.len() - 16;
         self.0[..16] == Self::MARGIN && &self.0[16..end] == bytes && self.0[end..] == Self::MARGIN
     }
@@ -214,4 +214,5 @@ pub fn compare(all: &mut Tally) {
     offers(all);
     refusals(all);
     lists(all);
+    clashes::compare(all);
 }
