@@ -1,5 +1,6 @@
 //! Offers to a spline table: tables to try them on, SCOPE's refusals, and the source's answers.
 
+use crate::clashes;
 use crate::given::{by_distance_counted, by_distance_longer, probe};
 use crate::numbers::Random;
 
@@ -491,5 +492,6 @@ pub fn sample() -> Vec<(String, Vec<Run>)> {
     let mut lists: Vec<Run> = [5, 12, 24].map(|n| run(start(r, n, false), &list(r, n))).into();
     lists.push(run(ring(r, 64), &all_pairs(r, 64)));
     parts.push(("lists".to_string(), lists));
+    parts.extend(clashes::sample());
     parts
 }
