@@ -93,6 +93,10 @@ unfoldable pub WhenOffered : (Table → ℕ → ℕ → Type 0) → Table → Li
 WhenOffered P t [] = Unit {0}
 WhenOffered P t (p ∷ offers) = P t (p .a) (p .b) × WhenOffered P (offer t (p .a) (p .b) .table) offers
 
+-- each offered pair that is kept when it is offered stays kept: no offer drops its pair
+abbrev pub NoneDropped : Table → List Pair → Type 0
+NoneDropped t offers = WhenOffered (λ s i j. KeptPair s i j → KeptPair (offer s i j .table) i j) t offers
+
 -- no offered pair clashes when it is offered
 abbrev pub NoneClashes : Table → List Pair → Type 0
 NoneClashes t offers = WhenOffered (λ s i j. ¬ Clash s i j) t offers
@@ -112,7 +116,9 @@ Strikable t offers =
 pub record ClashRule (t : Table) (offers : List Pair) : Type 0 where
   -- 1. a clash after the list is a clash of the same two splines at first
   pub clashOnly : (i j : ℕ) → Clash (run t offers .table) i j → Clash t i j
-  -- 2. offers may be struck where no offered pair clashes when it is offered, and so where none is kept then
+  -- 2. offers may be struck where no offer drops its pair; so where no offered pair clashes when it is offered, and
+  -- where none is kept then
+  pub struckNoDrop : NoneDropped t offers → Strikable t offers
   pub struckNoClash : NoneClashes t offers → Strikable t offers
   pub struckNotKept : NoneKept t offers → Strikable t offers
 

@@ -60,9 +60,9 @@ impl SplineTable {
     /// offer is declined.
     ///
     /// A table may start with clashes, kept pairs of one colour. No offer makes one: two splines that clash after any
-    /// list of offers clashed before it. Of a list in which no pair clashes when it is offered, declined and refused
-    /// offers can be left out: the others get the same answers, and the table ends the same. An offer of two splines
-    /// that clash, if it is declined, drops their pair, and later answers may be others for it.
+    /// list of offers clashed with each other before it. A declined offer drops its pair if that was kept before; only
+    /// a pair that clashes can come to that. Of a list in which no offer drops its pair, declined and refused offers
+    /// can be left out: the others get the same answers, and the table ends the same.
     ///
     /// # Errors
     ///

@@ -1,6 +1,6 @@
 -- One offer of two different splines to a sound table leaves a sound table. One offer to any table: a clash afterwards
--- is one from before, and so is a kept pair, unless the answer is kept and the pair is the offer's own. Where the
--- offer's pair does not clash, no pair is dropped, and if the answer is not kept the table is as it was.
+-- is one from before, and so is a kept pair, unless the answer is kept and the pair is the offer's own. Only a pair
+-- that clashes can be dropped; where it is not, no pair is, and an answer that is not kept leaves the table as it was.
 use mathlib.Core.Path.{_≡_, refl, sym, ap, _∙_, subst}
 use mathlib.Core.Logic.{_⊎_, inl, inr, ⊎-elim, ⊎-map, _≢_}
 use mathlib.Core.Bool.{true, false, true≢false}
@@ -12,7 +12,7 @@ use lib.ListN.{length, getD}
 use lib.Arith.{digits-lt}
 use borrow.Author.Tests.{ne-eqb}
 use Rattle.coloring.specs.Recolor.{Walk, recolored, stopped}
-use Rattle.coloring.specs.SplineTable.{Table, tableOf, kept, declined, Offered, outcome, settled, entry, enterPair, sound, tryAddEdge, offer}
+use Rattle.coloring.specs.SplineTable.{Table, tableOf, kept, declined, refused, Offered, outcome, settled, entry, enterPair, sound, tryAddEdge, offer}
 use Rattle.coloring.specs.Sequence.{Pair, KeptPair, Clash, isKept, Names}
 use Rattle.coloring.proofs.recolor.RowLaws.{Matrix}
 use Rattle.coloring.proofs.recolor.FreeColorLaws.{possible-free}
@@ -27,25 +27,39 @@ pub record Sound (n : ℕ) (t : Table) : Type 0 where
   pub size : length (t .edgeMatrix) ≡ length (t .coloring) * length (t .coloring)
   pub isSound : sound t ≡ true
 
+-- the offer's pair, if it is kept before, is kept afterwards
+abbrev StaysKept : Table → Pair → Offered → Type 0
+StaysKept t p o = KeptPair t (p .a) (p .b) → KeptPair (o .table) (p .a) (p .b)
+
 pub record OneOffer (t : Table) (p : Pair) (o : Offered) : Type 0 where
-  -- of every offer
   pub clashOnly : (i j : ℕ) → Clash (o .table) i j → Clash t i j
   pub keptOnly : (i j : ℕ) → KeptPair (o .table) i j → KeptPair t i j ⊎ ((isKept (o .answer) ≡ true) × Names p i j)
-  -- of one whose pair does not clash
-  pub keptAll : ¬ Clash t (p .a) (p .b) → (i j : ℕ) → KeptPair t i j ⊎ ((isKept (o .answer) ≡ true) × Names p i j) → KeptPair (o .table) i j
-  pub unchanged : ¬ Clash t (p .a) (p .b) → isKept (o .answer) ≡ false → o .table ≡ t
+  -- only a pair that clashes is dropped
+  pub staysKept : ¬ Clash t (p .a) (p .b) → StaysKept t p o
+  -- where the offer's pair is not dropped
+  pub keptAll : StaysKept t p o → (i j : ℕ) → KeptPair t i j ⊎ ((isKept (o .answer) ≡ true) × Names p i j) → KeptPair (o .table) i j
+  pub unchanged : StaysKept t p o → isKept (o .answer) ≡ false → o .table ≡ t
 
 -- ---- declined and refused offers
 
-unkept : (t : Table) (p : Pair) (o : Offered) → isKept (o .answer) ≡ false → (¬ Clash t (p .a) (p .b) → o .table ≡ t)
-    → ((i j : ℕ) → KeptPair (o .table) i j → KeptPair t i j) → ((i j : ℕ) → Clash (o .table) i j → Clash t i j) → OneOffer t p o
-unkept t p o no-pair same fewer fewer-clash =
+-- they change no colour, and drop the offer's pair at most
+record NotKept (t : Table) (p : Pair) (o : Offered) : Type 0 where
+  answer : isKept (o .answer) ≡ false
+  coloring : o .table .coloring ≡ t .coloring
+  fewer : (i j : ℕ) → KeptPair (o .table) i j → KeptPair t i j
+  staysKept : ¬ Clash t (p .a) (p .b) → StaysKept t p o
+  unchanged : StaysKept t p o → o .table ≡ t
+
+not-kept : {t : Table} {p : Pair} {o : Offered} → NotKept t p o → OneOffer t p o
+not-kept {t} {p} {o} u =
     record {
-      clashOnly = fewer-clash;
-      keptOnly = λ i j k. inl (fewer i j k);
+      clashOnly = λ i j c. record { keptPair = u .fewer i j (c .keptPair); sameColor = rw (u .coloring) at (c .sameColor) };
+      keptOnly = λ i j k. inl (u .fewer i j k);
+      staysKept = u .staysKept;
       keptAll =
-          λ apart i j k. subst (λ s. KeptPair s i j) (sym (same apart)) (⊎-elim (λ x. x) (λ x. absurd (true≢false (sym (x .0) ∙ no-pair))) k);
-      unchanged = λ apart e. same apart;
+          λ stays i j k. subst (λ s. KeptPair s i j) (sym (u .unchanged stays))
+          (⊎-elim (λ x. x) (λ x. absurd (true≢false (sym (x .0) ∙ u .answer))) k);
+      unchanged = λ stays e. u .unchanged stays;
     }
 
 -- ---- kept pairs by the entries of a sound matrix
@@ -126,11 +140,11 @@ module _ (t : Table) (p : Pair) (v : Unrefused t (p .a) (p .b)) where
             };
         one =
             record {
-              clashOnly =
-                  λ i j k. let s = joins i j (k .keptPair) in proper-old c i j (s .first) (s .second) (s .there) (k .sameColor);
+              clashOnly = λ i j k. let s = joins i j (k .keptPair) in proper-old c i j (s .first) (s .second) (s .there) (k .sameColor);
               keptOnly = λ i j k. ⊎-map (λ x. x) (λ names. (refl, names)) (kept-or-named 1 i j (joins i j k));
-              keptAll = λ apart i j k. joined-kept _ after (c .size) becomes i j (all i j k (names? p i j));
-              unchanged = λ apart e. absurd (true≢false e);
+              staysKept = λ apart k. all (p .a) (p .b) (inl k);
+              keptAll = λ stays. all;
+              unchanged = λ stays e. absurd (true≢false e);
             };
       }
     where
@@ -140,20 +154,23 @@ module _ (t : Table) (p : Pair) (v : Unrefused t (p .a) (p .b)) where
       joins : (i j : ℕ) → KeptPair after i j → Joined n with-pair i j
       joins = kept-joined _ after (c .size)
 
-      all : (i j : ℕ) → KeptPair t i j ⊎ ((true ≡ true) × Names p i j) → Dec (Names p i j) → Joined n with-pair i j
-      all i j k (yes names) =
-          record {
-            first = ⊎-elim (λ e. rw (← e .0) (v .first)) (λ e. rw (← e .1) (v .second)) names;
-            second = ⊎-elim (λ e. rw (← e .1) (v .second)) (λ e. rw (← e .0) (v .first)) names;
-            there = rw (named 1 i j names) (omega arith);
-          }
-      all i j (inr k) (no other) = absurd (other (k .1))
-      all i j (inl k) (no other) =
-          record {
-            first = k .first;
-            second = k .second;
-            there = rw (unnamed 1 i j (k .first) (k .second) other) (kept-joined _ t refl i j k .there);
-          }
+      all : (i j : ℕ) → KeptPair t i j ⊎ ((true ≡ true) × Names p i j) → KeptPair after i j
+      all i j k = joined-kept _ after (c .size) becomes i j (go (names? p i j) k)
+        where
+          go : Dec (Names p i j) → KeptPair t i j ⊎ ((true ≡ true) × Names p i j) → Joined n with-pair i j
+          go (yes names) k =
+              record {
+                first = ⊎-elim (λ e. rw (← e .0) (v .first)) (λ e. rw (← e .1) (v .second)) names;
+                second = ⊎-elim (λ e. rw (← e .1) (v .second)) (λ e. rw (← e .0) (v .first)) names;
+                there = rw (named 1 i j names) (omega arith);
+              }
+          go (no other) (inr k) = absurd (other (k .1))
+          go (no other) (inl k) =
+              record {
+                first = k .first;
+                second = k .second;
+                there = rw (unnamed 1 i j (k .first) (k .second) other) (kept-joined _ t refl i j k .there);
+              }
 
   -- the colours as they were, where the pair's two differ, or one of the two is left out
   old-colors : (w : ℕ) → ((i j : ℕ) → Names p i j → i ≢ w → j ≢ w → getD (t .coloring) i 0 ≢ getD (t .coloring) j 0) → ProperBut w (t .coloring)
@@ -175,31 +192,32 @@ module _ (t : Table) (p : Pair) (v : Unrefused t (p .a) (p .b)) where
             let dropped = matrix-with 0 (omega arith) in
             record { splines = refl; size = dropped .size; isSound = matrix-sound after dropped (sound-color t (v .isSound)) };
         one =
-            unkept t p _ refl (λ apart. ap (tableOf (t .coloring)) (same apart)) fewer
-            (λ i j c. record { keptPair = fewer i j (c .keptPair); sameColor = c .sameColor });
+            not-kept (record {
+              answer = refl;
+              coloring = refl;
+              fewer = λ i j k. ⊎-elim (λ x. x) (λ names. absurd (gone i j names k)) (kept-or-named 0 i j (kept-joined _ after refl i j k));
+              staysKept = λ apart k. absurd (apart (record { keptPair = k; sameColor = e }));
+              unchanged = λ stays. ap (tableOf (t .coloring)) (same (λ k. gone (p .a) (p .b) (inl (refl, refl)) (stays k)));
+            });
       })
     where
       after : Table
       after = tableOf (t .coloring) (with-entry 0)
 
-      fewer : (i j : ℕ) → KeptPair after i j → KeptPair t i j
-      fewer i j k =
-          let s = kept-joined _ after refl i j k in
-          ⊎-elim (λ x. x) (λ names. absurd (s .there (named 0 i j names))) (kept-or-named 0 i j s)
+      gone : (i j : ℕ) → Names p i j → ¬ KeptPair after i j
+      gone i j names k = kept-joined _ after refl i j k .there (named 0 i j names)
 
-      no-entry : ¬ Clash t (p .a) (p .b) → entry n (t .edgeMatrix) (p .a) (p .b) ≡ 0
-      no-entry apart = go (ℕ-discrete _ 0)
+      no-entry : ¬ KeptPair t (p .a) (p .b) → entry n (t .edgeMatrix) (p .a) (p .b) ≡ 0
+      no-entry unkept = go (ℕ-discrete _ 0)
         where
           go : Dec (entry n (t .edgeMatrix) (p .a) (p .b) ≡ 0) → entry n (t .edgeMatrix) (p .a) (p .b) ≡ 0
           go (yes z) = z
-          go (no z) =
-              let k = joined-kept _ t refl was (p .a) (p .b) (record { first = v .first; second = v .second; there = z }) in
-              absurd (apart (record { keptPair = k; sameColor = e }))
+          go (no z) = absurd (unkept (joined-kept _ t refl was (p .a) (p .b) (record { first = v .first; second = v .second; there = z })))
 
-      same : ¬ Clash t (p .a) (p .b) → with-entry 0 ≡ t .edgeMatrix
-      same apart =
-          enter-none n (t .edgeMatrix) p (v .first) (v .second) (v .different) (no-entry apart)
-          (sym (was .symmetric _ _ (v .first) (v .second)) ∙ no-entry apart)
+      same : ¬ KeptPair t (p .a) (p .b) → with-entry 0 ≡ t .edgeMatrix
+      same unkept =
+          enter-none n (t .edgeMatrix) p (v .first) (v .second) (v .different) (no-entry unkept)
+          (sym (was .symmetric _ _ (v .first) (v .second)) ∙ no-entry unkept)
 
   -- the colours differ and b keeps its own, or b takes a free one, or it takes the first that a has not and a walk
   -- follows
@@ -231,5 +249,7 @@ pub offer-sound : (t : Table) (a b : ℕ) → Unrefused t a b → (offer t a b �
 offer-sound t a b v = (offer-rule t a b v, try-outcome t (record { a = a; b = b }) v .after)
 
 pub one-offer : (t : Table) (p : Pair) → OneOffer t p (offer t (p .a) (p .b))
-one-offer t p =
-    offer-cases t (p .a) (p .b) (OneOffer t p) (λ r. unkept t p _ refl (λ apart. refl) (λ i j k. k) (λ i j c. c)) (λ v. try-outcome t p v .one)
+one-offer t p = offer-cases t (p .a) (p .b) (OneOffer t p) (λ r. not-kept untouched) (λ v. try-outcome t p v .one)
+  where
+    untouched : {r : ℕ} → NotKept t p (record { answer = refused r; table = t })
+    untouched = record { answer = refl; coloring = refl; fewer = λ i j k. k; staysKept = λ apart k. k; unchanged = λ stays. refl }

@@ -9,7 +9,7 @@ use Prim.Native.Nat.{ℕ}
 use borrow.Author.Tests.{not-true}
 use Rattle.coloring.specs.SplineTable.{Table, OfferAnswer, kept, declined, refused, offer}
 use Rattle.coloring.specs.Sequence.{Pair, run, KeptPair, Clash, NoClash, isKept, KeptOffer, strike, MayStrike, allOthers}
-use Rattle.coloring.specs.Sequence.{WhenOffered, NoneClashes, NoneKept, Strikable, ClashRule, SequenceRule}
+use Rattle.coloring.specs.Sequence.{WhenOffered, NoneDropped, NoneClashes, NoneKept, Strikable, ClashRule, SequenceRule}
 use Rattle.coloring.proofs.spline_table.ClashLaws.{one-offer}
 
 -- ---- every list
@@ -36,10 +36,9 @@ kept-only t [] i j k = inl k
 kept-only t (p ∷ offers) i j k =
     regroup-right (⊎-map (one-offer t p .keptOnly i j) (λ later. later) (kept-only (offer t (p .a) (p .b) .table) offers i j k))
 
--- ---- lists in which no offered pair clashes when it is offered
+-- ---- lists in which no offer drops its pair
 
--- no pair is dropped
-pub kept-all : (t : Table) (offers : List Pair) → NoneClashes t offers → (i j : ℕ) → KeptPair t i j ⊎ KeptOffer offers (run t offers .answers) i j
+pub kept-all : (t : Table) (offers : List Pair) → NoneDropped t offers → (i j : ℕ) → KeptPair t i j ⊎ KeptOffer offers (run t offers .answers) i j
     → KeptPair (run t offers .table) i j
 unfolding run KeptOffer WhenOffered
 kept-all t [] none i j k = ⊎-elim (λ x. x) (λ x. absurd x) k
@@ -47,7 +46,7 @@ kept-all t (p ∷ offers) none i j k =
     kept-all (offer t (p .a) (p .b) .table) offers (none .1) i j (⊎-map (one-offer t p .keptAll (none .0) i j) (λ later. later) (regroup-left k))
 
 -- a struck offer left the table as it was
-pub struck-same : (t : Table) (offers : List Pair) → NoneClashes t offers → Strikable t offers
+struck-same : (t : Table) (offers : List Pair) → NoneDropped t offers → Strikable t offers
 unfolding run strike MayStrike WhenOffered
 struck-same t [] none [] may = refl
 struck-same t [] none (m ∷ marks) may = refl
@@ -59,11 +58,19 @@ struck-same t (p ∷ offers) none (false ∷ marks) may =
     ap (λ r. record { answers = offer t (p .a) (p .b) .answer ∷ r .answers; table = r .table })
     (struck-same (offer t (p .a) (p .b) .table) offers (none .1) marks (may .1))
 
--- a pair that is not kept does not clash
-unkept-none-clashes : (t : Table) (offers : List Pair) → NoneKept t offers → NoneClashes t offers
+-- ---- which lists these are
+
+when-offered : {P Q : Table → ℕ → ℕ → Type 0} → ((s : Table) (i j : ℕ) → P s i j → Q s i j)
+    → (t : Table) (offers : List Pair) → WhenOffered P t offers → WhenOffered Q t offers
 unfolding WhenOffered
-unkept-none-clashes t [] unkept = tt
-unkept-none-clashes t (p ∷ offers) unkept = (λ c. unkept .0 (c .keptPair), unkept-none-clashes (offer t (p .a) (p .b) .table) offers (unkept .1))
+when-offered f t [] each = tt
+when-offered f t (p ∷ offers) each = (f t (p .a) (p .b) (each .0), when-offered f (offer t (p .a) (p .b) .table) offers (each .1))
+
+none-kept : (t : Table) (offers : List Pair) → NoneKept t offers → NoneDropped t offers
+none-kept = when-offered (λ s i j unkept k. absurd (unkept k))
+
+none-clashes : (t : Table) (offers : List Pair) → NoneClashes t offers → NoneDropped t offers
+none-clashes = when-offered (λ s i j apart. one-offer s (record { a = i; b = j }) .staysKept apart)
 
 -- in a table that starts without a clash none comes
 no-clash : (t : Table) (offers : List Pair) → NoClash t → NoClash (run t offers .table)
@@ -71,13 +78,15 @@ no-clash t offers clear i j k same =
     let c = clash-only t offers i j (record { keptPair = k; sameColor = same }) in
     clear i j (c .keptPair) (c .sameColor)
 
-clear-none-clashes : (t : Table) (offers : List Pair) → NoClash t → NoneClashes t offers
+clear-clashes : (t : Table) (offers : List Pair) → NoClash t → NoneClashes t offers
 unfolding run WhenOffered
-clear-none-clashes t [] clear = tt
-clear-none-clashes t (p ∷ offers) clear =
-    (λ c. clear (p .a) (p .b) (c .keptPair) (c .sameColor), clear-none-clashes (offer t (p .a) (p .b) .table) offers (no-clash t (p ∷ []) clear))
+clear-clashes t [] clear = tt
+clear-clashes t (p ∷ offers) clear =
+    (λ c. clear (p .a) (p .b) (c .keptPair) (c .sameColor), clear-clashes (offer t (p .a) (p .b) .table) offers (no-clash t (p ∷ []) clear))
 
--- with all the others struck, the answers that are left are kept
+-- ---- with all declined and refused offers struck
+
+-- the answers that are left are kept
 others-struck : (answers : List OfferAnswer) → MayStrike (allOthers answers) answers
 unfolding MayStrike allOthers
 others-struck [] = tt
@@ -105,13 +114,14 @@ pub clash-rule : (t : Table) (offers : List Pair) → ClashRule t offers
 clash-rule t offers =
     record {
       clashOnly = clash-only t offers;
-      struckNoClash = struck-same t offers;
-      struckNotKept = λ unkept. struck-same t offers (unkept-none-clashes t offers unkept);
+      struckNoDrop = struck-same t offers;
+      struckNoClash = λ none. struck-same t offers (none-clashes t offers none);
+      struckNotKept = λ none. struck-same t offers (none-kept t offers none);
     }
 
 pub sequence-rule : (t : Table) (offers : List Pair) → NoClash t → SequenceRule t offers
 sequence-rule t offers clear =
-    let none = clear-none-clashes t offers clear in
+    let none = none-clashes t offers (clear-clashes t offers clear) in
     record {
       noClash = no-clash t offers clear;
       keptOnly = kept-only t offers;

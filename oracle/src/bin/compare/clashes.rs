@@ -66,7 +66,7 @@ fn run_both(part: &mut Tally, first: &Table, pairs: &[Pair]) -> Option<Both> {
 }
 
 /// The classes, and which of the three kinds of lists have them.
-const ROWS: [(&str, [bool; 3]); 25] = [
+const ROWS: [(&str, [bool; 3]); 26] = [
     ("a clash at first: all stay", [true; 3]),
     ("a clash at first: some go", [true; 3]),
     ("a clash at first: all go", [true; 3]),
@@ -89,6 +89,7 @@ const ROWS: [(&str, [bool; 3]); 25] = [
     ("struck: declined", [true; 3]),
     ("struck: refused", [true; 3]),
     ("struck: declined and refused", [true; 3]),
+    ("struck: a clash's offer is kept", [false, false, true]),
     ("struck drop: an answer differs", [false, false, true]),
     ("struck drop: only the table", [false, false, true]),
     ("struck drop: only its pair", [false, false, true]),
@@ -214,10 +215,10 @@ fn struck_drop(
     })
 }
 
-/// The places of the first few offers that dropped their pair.
+/// The places of the offers that dropped their pair.
 fn drops(whole: &Both) -> Vec<usize> {
     let drops = |s: &Step| s.clash && matches!(s.answer, Answer::Declined(_));
-    (0..whole.steps.len()).filter(|&k| drops(&whole.steps[k])).take(4).collect()
+    (0..whole.steps.len()).filter(|&k| drops(&whole.steps[k])).collect()
 }
 
 pub fn compare(all: &mut Tally) {
@@ -233,16 +234,20 @@ pub fn compare(all: &mut Tally) {
         let pairs = list(r, &t, kind, length);
         let Some(whole) = run_both(&mut part, &t, &pairs) else { continue };
         classes.note_list(kind, &t, &whole);
-        if kind == Kind::Any && !fault && !clashes(&t).is_empty() {
-            for drop in drops(&whole) {
-                let class = struck_drop(&mut part, &t, &pairs, &whole, drop);
-                class.inspect(|name| classes.note(kind, name));
-            }
+        let drops = drops(&whole);
+        for &drop in drops.iter().take(4) {
+            let class = struck_drop(&mut part, &t, &pairs, &whole, drop);
+            class.inspect(|name| classes.note(kind, name));
+        }
+        if !drops.is_empty() {
             continue;
         }
         for marks in strikings(r, &whole.answers()) {
             struck(&mut part, &t, &pairs, &whole, &marks);
             classes.note(kind, struck_class(&whole.answers(), &marks));
+            if !fault && whole.steps.iter().any(|s| s.clash) {
+                classes.note(kind, "struck: a clash's offer is kept");
+            }
         }
     }
     // rare: the answers stay, and the table alone is another
