@@ -274,9 +274,10 @@ uint64_t merelsplum_edge_directions(
  * 8 (edge_matrix has not n * n bytes), 10.
  *
  * A table may start with clashes, pairs that are kept apart though their two colours are equal. No offer makes one: two
- * splines that clash after any list of offers clashed with each other before it. A declined offer drops its pair if
- * that was kept before; only a pair that clashes can come to that. Of a list in which no offer drops its pair, declined
- * and refused offers can be left out: the others get the same answers, and the table ends the same. */
+ * splines that clash after any list of offers clashed with each other before it, and no offer of them was kept. A
+ * declined offer drops its pair if that was kept before; only a pair that clashes can come to that. Of a list in which
+ * no offer drops its pair, declined and refused offers can be left out: the others get the same answers, and the table
+ * ends the same. It is enough that none of the offered pairs clashes before the first offer. */
 
 uint64_t merelsplum_try_add_edge(
     uint8_t *coloring, size_t coloring_len,

@@ -114,9 +114,14 @@ Strikable t offers =
     → run t (strike marks offers) ≡ record { answers = strike marks (run t offers .answers); table = run t offers .table }
 
 pub record ClashRule (t : Table) (offers : List Pair) : Type 0 where
-  -- 1. a clash after the list is a clash of the same two splines at first
+  -- 1. a clash after the list is a clash of the same two splines at first, which no kept offer names
   pub clashOnly : (i j : ℕ) → Clash (run t offers .table) i j → Clash t i j
-  -- 2. offers may be struck where no offer drops its pair; so where no offered pair clashes when it is offered, and
+  pub keptApart : (i j : ℕ) → KeptOffer offers (run t offers .answers) i j → ¬ Clash (run t offers .table) i j
+  -- 2. a pair that is kept at the end was kept at first or some kept offer names it; where no offer drops its pair, all
+  -- of these are
+  pub keptOnly : (i j : ℕ) → KeptPair (run t offers .table) i j → KeptPair t i j ⊎ KeptOffer offers (run t offers .answers) i j
+  pub keptAll : NoneDropped t offers → (i j : ℕ) → KeptPair t i j ⊎ KeptOffer offers (run t offers .answers) i j → KeptPair (run t offers .table) i j
+  -- 3. offers may be struck where no offer drops its pair; so where no offered pair clashes when it is offered, and
   -- where none is kept then
   pub struckNoDrop : NoneDropped t offers → Strikable t offers
   pub struckNoClash : NoneClashes t offers → Strikable t offers

@@ -5,7 +5,7 @@ use mathlib.Core.Path.{_≡_, refl, ap}
 use mathlib.Core.Bool.{true, false, false≢true}
 use mathlib.Core.List.{List, [], _∷_, _++_}
 use Rattle.coloring.specs.SplineTable.{Table, tableOf, OfferAnswer, kept, declined, refused, offer}
-use Rattle.coloring.specs.Sequence.{Pair, Run, run, strike, MayStrike, Strikable}
+use Rattle.coloring.specs.Sequence.{Pair, Run, run, strike, MayStrike, WhenOffered, NoneKept, Strikable}
 
 abbrev pair : ℕ → ℕ → Pair
 pair a b = record { a = a; b = b }
@@ -34,7 +34,7 @@ pub struck-then-declined : run fourTouch (strike (true ∷ false ∷ []) (pair 0
 unfolding run offer strike
 struck-then-declined = refl
 
--- so that not every list may be struck
+-- so that not every list may be struck: an offer that drops its pair must stay
 pub not-strikable : ¬ Strikable fourTouch (pair 0 1 ∷ pair 4 0 ∷ [])
 unfolding run offer strike MayStrike
 not-strikable may =
@@ -50,14 +50,20 @@ oneClash =
     tableOf (0 ∷ 2 ∷ 1 ∷ 1 ∷ 0 ∷ [])
     ((0 ∷ 1 ∷ 1 ∷ 1 ∷ 1 ∷ []) ++ (1 ∷ 0 ∷ 1 ∷ 1 ∷ 0 ∷ []) ++ (1 ∷ 1 ∷ 0 ∷ 0 ∷ 0 ∷ []) ++ (1 ∷ 1 ∷ 0 ∷ 0 ∷ 0 ∷ []) ++ (1 ∷ 0 ∷ 0 ∷ 0 ∷ 0 ∷ []))
 
--- refutes one that refuses or declines whatever is offered to a table with a clash; 2 and 3 may be struck
+-- refutes one that refuses or declines whatever is offered to a table with a clash. The declined offer and the refused
+-- one can be left out,
 pub answered-beside-a-clash :
     (run oneClash (pair 2 3 ∷ pair 2 2 ∷ pair 4 1 ∷ []) .answers ≡ declined 16 ∷ refused 10 ∷ kept 0 ∷ [])
     × (run oneClash (pair 4 1 ∷ []) ≡ ends (kept 0 ∷ []) (run oneClash (pair 2 3 ∷ pair 2 2 ∷ pair 4 1 ∷ []) .table))
 unfolding run offer
 answered-beside-a-clash = (refl, refl)
 
--- refutes one that mends a clash on its way: a walk for 4 and 0 leaves that of 1 and 2
+-- since none of the three pairs is kept when it is offered
+pub none-kept-beside-a-clash : NoneKept oneClash (pair 2 3 ∷ pair 2 2 ∷ pair 4 1 ∷ [])
+unfolding WhenOffered offer
+none-kept-beside-a-clash = (λ k. k .there .1 refl, (λ k. k .different refl, (λ k. k .there .1 refl, tt)))
+
+-- refutes one that mends every clash: the walk for 4 and 0 does not come to 1 and 2, which clash as before
 pub clash-stays :
     run (tableOf (0 ∷ 2 ∷ 2 ∷ 1 ∷ 0 ∷ [])
     ((0 ∷ 1 ∷ 0 ∷ 1 ∷ 0 ∷ []) ++ (1 ∷ 0 ∷ 1 ∷ 0 ∷ 0 ∷ []) ++ (0 ∷ 1 ∷ 0 ∷ 0 ∷ 0 ∷ []) ++ (1 ∷ 0 ∷ 0 ∷ 0 ∷ 0 ∷ []) ++ (0 ∷ 0 ∷ 0 ∷ 0 ∷ 0 ∷ [])))
@@ -67,7 +73,7 @@ pub clash-stays :
 unfolding run offer
 clash-stays = refl
 
--- refutes one that takes a kept pair for settled: 0 and 1 clash, are offered again, and differ
+-- refutes one that takes a kept pair for settled: 0 and 1 are kept and clash; offered, they get two colours
 pub clash-goes : run (tableOf (0 ∷ 0 ∷ []) (0 ∷ 1 ∷ 1 ∷ 0 ∷ [])) (pair 0 1 ∷ []) ≡ ends (kept 0 ∷ []) (tableOf (0 ∷ 1 ∷ []) (0 ∷ 1 ∷ 1 ∷ 0 ∷ []))
 unfolding run offer
 clash-goes = refl

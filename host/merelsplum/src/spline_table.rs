@@ -9,7 +9,7 @@ pub enum Offer {
         /// 0 to 15.
         steps: u8,
     },
-    /// The pair could not be kept, nor is it any longer if it was; all else is as before.
+    /// The pair could not be kept; if it was kept before, it no longer is. All else is as it was.
     Declined {
         /// 16 or 17.
         steps: u8,
@@ -60,9 +60,10 @@ impl SplineTable {
     /// offer is declined.
     ///
     /// A table may start with clashes, kept pairs of one colour. No offer makes one: two splines that clash after any
-    /// list of offers clashed with each other before it. A declined offer drops its pair if that was kept before; only
-    /// a pair that clashes can come to that. Of a list in which no offer drops its pair, declined and refused offers
-    /// can be left out: the others get the same answers, and the table ends the same.
+    /// list of offers clashed with each other before it, and no offer of them was kept. A declined offer drops its pair
+    /// if that was kept before; only a pair that clashes can come to that. Of a list in which no offer drops its pair,
+    /// declined and refused offers can be left out: the others get the same answers, and the table ends the same. It is
+    /// enough that none of the offered pairs clashes before the first offer.
     ///
     /// # Errors
     ///

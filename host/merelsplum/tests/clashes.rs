@@ -34,7 +34,7 @@ fn run(table: &SplineTable, offers: &[Pair]) -> (Vec<Result<Offer, Refusal>>, Sp
 }
 
 /// Tables of up to 12 splines, most of them with clashes, and a list of offers.
-fn tables_and_offers() -> impl proptest::strategy::Strategy<Value = (SplineTable, Vec<Pair>)> {
+fn tables_and_offers() -> impl Strategy<Value = (SplineTable, Vec<Pair>)> {
     let pairs = |most| vec((0usize..12, 0usize..12), 0..most);
     (vec(0u8..3, 2..=12), pairs(80), pairs(60)).prop_map(|(colors, kept, offers)| (table(&colors, &kept), offers))
 }
@@ -42,14 +42,17 @@ fn tables_and_offers() -> impl proptest::strategy::Strategy<Value = (SplineTable
 proptest! {
     #![proptest_config(ProptestConfig::with_cases(4000))]
 
-    /// Two splines that clash after a list of offers clashed before it.
+    /// Two splines that clash after a list of offers clashed before it, and no offer of them was kept.
     #[test]
     fn none_comes((first, offers) in tables_and_offers()) {
         let mut table = first.clone();
         for (a, b) in offers {
             let before = clashes(&table);
-            let _ = table.offer(a, b);
+            let answer = table.offer(a, b);
             prop_assert!(clashes(&table).iter().all(|pair| before.contains(pair)), "{first:?}, offer {a} {b}");
+            if let Ok(Offer::Kept { .. }) = answer {
+                prop_assert!(table.is_kept(a, b) && !clash(&table, (a, b)), "{first:?}, offer {a} {b}");
+            }
         }
     }
 
@@ -90,13 +93,13 @@ fn dropped() {
     assert_eq!(run(&first, &[(4, 0)]), (vec![Ok(Offer::Declined { steps: 17 })], first));
 }
 
-/// What is offered beside a clash leaves it as it is, and is answered by itself.
+/// These offers do not come to the clash beside them: it stays, and they are answered as elsewhere.
 #[test]
 fn beside() {
     let first = table(&[0, 0, 1, 2, 0], &FOUR);
     let (answers, last) = run(&first, &[(4, 2), (4, 3), (4, 4), (4, 0)]);
     let kept = Ok(Offer::Kept { steps: 0 });
-    assert_eq!(answers[..3], [kept, kept, Err(Refusal::BadTable)]);
+    assert_eq!(answers, [kept, kept, Err(Refusal::BadTable), Ok(Offer::Declined { steps: 17 })]);
     assert_eq!(clashes(&first), [(1, 0)]);
     assert_eq!(clashes(&last), [(1, 0)]);
 }

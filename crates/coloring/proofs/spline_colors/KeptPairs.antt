@@ -1,6 +1,6 @@
 -- The rules for lists of offers, applied to those of by-distance colouring. Two splines that clash at the end clashed
--- before the first offer, as a zero pair in its starting colours: `clashes-from-start`. Where no zero pair starts with
--- a clash, no pair that is kept at the end has one colour on both sides: `kept-pairs-differ`.
+-- before the first offer, as a zero pair whose two starting colours are equal: `clashes-from-start`. Where no zero pair
+-- starts with a clash, no pair that is kept at the end has one colour on both sides: `kept-pairs-differ`.
 use Prim.Native.Nat.{ℕ}
 use mathlib.Core.List.{List}
 use lib.Ieee.{Float}

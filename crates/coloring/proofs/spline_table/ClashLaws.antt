@@ -1,6 +1,7 @@
 -- One offer of two different splines to a sound table leaves a sound table. One offer to any table: a clash afterwards
--- is one from before, and so is a kept pair, unless the answer is kept and the pair is the offer's own. Only a pair
--- that clashes can be dropped; where it is not, no pair is, and an answer that is not kept leaves the table as it was.
+-- is one from before, and so is a kept pair, unless the answer is kept and the pair is the offer's own, which does not
+-- clash. Only a pair that clashes can be dropped; where it is not, no pair is, and an answer that is not kept leaves
+-- the table as it was.
 use mathlib.Core.Path.{_≡_, refl, sym, ap, _∙_, subst}
 use mathlib.Core.Logic.{_⊎_, inl, inr, ⊎-elim, ⊎-map, _≢_}
 use mathlib.Core.Bool.{true, false, true≢false}
@@ -33,6 +34,7 @@ StaysKept t p o = KeptPair t (p .a) (p .b) → KeptPair (o .table) (p .a) (p .b)
 
 pub record OneOffer (t : Table) (p : Pair) (o : Offered) : Type 0 where
   pub clashOnly : (i j : ℕ) → Clash (o .table) i j → Clash t i j
+  pub keptApart : (i j : ℕ) → (isKept (o .answer) ≡ true) × Names p i j → ¬ Clash (o .table) i j
   pub keptOnly : (i j : ℕ) → KeptPair (o .table) i j → KeptPair t i j ⊎ ((isKept (o .answer) ≡ true) × Names p i j)
   -- only a pair that clashes is dropped
   pub staysKept : ¬ Clash t (p .a) (p .b) → StaysKept t p o
@@ -54,13 +56,16 @@ not-kept : {t : Table} {p : Pair} {o : Offered} → NotKept t p o → OneOffer t
 not-kept {t} {p} {o} u =
     record {
       clashOnly = λ i j c. record { keptPair = u .fewer i j (c .keptPair); sameColor = rw (u .coloring) at (c .sameColor) };
+      keptApart = λ i j named c. not-named i j named;
       keptOnly = λ i j k. inl (u .fewer i j k);
       staysKept = u .staysKept;
       keptAll =
-          λ stays i j k. subst (λ s. KeptPair s i j) (sym (u .unchanged stays))
-          (⊎-elim (λ x. x) (λ x. absurd (true≢false (sym (x .0) ∙ u .answer))) k);
+          λ stays i j k. subst (λ s. KeptPair s i j) (sym (u .unchanged stays)) (⊎-elim (λ x. x) (λ x. absurd (not-named i j x)) k);
       unchanged = λ stays e. u .unchanged stays;
     }
+  where
+    not-named : (i j : ℕ) → (isKept (o .answer) ≡ true) × Names p i j → ⊥
+    not-named i j x = true≢false (sym (x .0) ∙ u .answer)
 
 -- ---- kept pairs by the entries of a sound matrix
 
@@ -101,9 +106,13 @@ module _ (t : Table) (p : Pair) (v : Unrefused t (p .a) (p .b)) where
   abbrev with-pair : List ℕ
   with-pair = with-entry 1
 
-  -- colours in which neighbours clash only where they did before
+  -- a clash from before, of another pair than the offer's
+  abbrev Other : ℕ → ℕ → Type 0
+  Other i j = Clash t i j × ¬ Names p i j
+
+  -- colours in which only such pairs clash
   abbrev ProperBut : ℕ → List ℕ → Type 0
-  ProperBut w coloring = Proper (Clash t) n with-pair w (record { coloring = coloring; queue = [] })
+  ProperBut w coloring = Proper Other n with-pair w (record { coloring = coloring; queue = [] })
 
   was : Matrix n (t .edgeMatrix)
   was = sound-matrix t (v .isSound) (v .size)
@@ -140,7 +149,8 @@ module _ (t : Table) (p : Pair) (v : Unrefused t (p .a) (p .b)) where
             };
         one =
             record {
-              clashOnly = λ i j k. let s = joins i j (k .keptPair) in proper-old c i j (s .first) (s .second) (s .there) (k .sameColor);
+              clashOnly = λ i j k. other i j k .0;
+              keptApart = λ i j named k. other i j k .1 (named .1);
               keptOnly = λ i j k. ⊎-map (λ x. x) (λ names. (refl, names)) (kept-or-named 1 i j (joins i j k));
               staysKept = λ apart k. all (p .a) (p .b) (inl k);
               keptAll = λ stays. all;
@@ -153,6 +163,9 @@ module _ (t : Table) (p : Pair) (v : Unrefused t (p .a) (p .b)) where
 
       joins : (i j : ℕ) → KeptPair after i j → Joined n with-pair i j
       joins = kept-joined _ after (c .size)
+
+      other : (i j : ℕ) → Clash after i j → Other i j
+      other i j k = let s = joins i j (k .keptPair) in proper-old c i j (s .first) (s .second) (s .there) (k .sameColor)
 
       all : (i j : ℕ) → KeptPair t i j ⊎ ((true ≡ true) × Names p i j) → KeptPair after i j
       all i j k = joined-kept _ after (c .size) becomes i j (go (names? p i j) k)
@@ -179,7 +192,8 @@ module _ (t : Table) (p : Pair) (v : Unrefused t (p .a) (p .b)) where
         size = refl;
         colored = λ i h iw. inl (sound-color t (v .isSound) i h);
         proper =
-            λ i j hi hj iw jw e q. inl (⊎-elim (λ k. record { keptPair = k; sameColor = q }) (λ names. absurd (pair i j names iw jw q))
+            λ i j hi hj iw jw e q. let differ : ¬ Names p i j = λ names. pair i j names iw jw q in
+            inl (⊎-elim (λ k. (record { keptPair = k; sameColor = q }, differ)) (λ names. absurd (differ names))
             (kept-or-named 1 i j (record { first = hi; second = hj; there = e })));
       }
 
@@ -224,8 +238,8 @@ module _ (t : Table) (p : Pair) (v : Unrefused t (p .a) (p .b)) where
   try-outcome : AfterOffer t p (tryAddEdge t (p .a) (p .b))
   try-outcome =
       rule-cases t (p .a) (p .b) (AfterOffer t p) (λ d. if-kept 0 (t .coloring) (old-colors n (λ i j names x z. differ d i j names)))
-      (λ e f. if-kept 0 _ (take-free (Clash t) n with-pair becomes (p .b) _ _ (possible-free _ _ (ne-eqb _ 0 f)) but-b))
-      (λ e f w q. ends w e (subst (Ends (Clash t) n with-pair) q (recolor-ends (Clash t) n with-pair becomes (t .coloring) (p .a) (p .b) color but-b)))
+      (λ e f. if-kept 0 _ (take-free Other n with-pair becomes (p .b) _ _ (possible-free _ _ (ne-eqb _ 0 f)) but-b))
+      (λ e f w q. ends w e (subst (Ends Other n with-pair) q (recolor-ends Other n with-pair becomes (t .coloring) (p .a) (p .b) color but-b)))
     where
       color : getD (t .coloring) (p .a) 0 < 3
       color = sound-color t (v .isSound) (p .a) (v .first)
@@ -237,7 +251,7 @@ module _ (t : Table) (p : Pair) (v : Unrefused t (p .a) (p .b)) where
       differ e i j (inl (x, y)) q = e (rw (x, y) q)
       differ e i j (inr (x, y)) q = e (rw (x, y) (sym q))
 
-      ends : (w : Walk) → getD (t .coloring) (p .a) 0 ≡ getD (t .coloring) (p .b) 0 → Ends (Clash t) n with-pair w
+      ends : (w : Walk) → getD (t .coloring) (p .a) 0 ≡ getD (t .coloring) (p .b) 0 → Ends Other n with-pair w
           → AfterOffer t p (settled w (t .coloring) with-pair (p .a) (p .b))
       ends (recolored after step) e c = if-kept step after c
       ends (stopped step) e c = if-declined step e

@@ -1,10 +1,9 @@
--- Lists of offers. What `ClashRule` says holds of every table and every list: `clash-rule`. What `SequenceRule` says
--- (demand 3) holds of every table without a clash and every list: `sequence-rule`. Both are made of the same laws,
--- which are of any table.
+-- Lists of offers. What `ClashRule` says holds of every table and every list: `clash-rule`. From it follows what
+-- `SequenceRule` says (demand 3) of every table without a clash and every list: `sequence-rule`.
 use mathlib.Core.Path.{_≡_, refl, sym, ap, _∙_}
 use mathlib.Core.Logic.{_⊎_, inl, inr, ⊎-elim, ⊎-map}
 use mathlib.Core.Bool.{true, false}
-use mathlib.Core.List.{List, [], _∷_, map}
+use mathlib.Core.List.{List, [], _∷_, map, List·Memᴰ, List·Memᴰ·head, List·Memᴰ·tail}
 use Prim.Native.Nat.{ℕ}
 use borrow.Author.Tests.{not-true}
 use Rattle.coloring.specs.SplineTable.{Table, OfferAnswer, kept, declined, refused, offer}
@@ -20,6 +19,14 @@ unfolding run
 clash-only t [] i j c = c
 clash-only t (p ∷ offers) i j c = one-offer t p .clashOnly i j (clash-only (offer t (p .a) (p .b) .table) offers i j c)
 
+-- a pair that some kept offer names does not clash
+kept-apart : (t : Table) (offers : List Pair) (i j : ℕ) → KeptOffer offers (run t offers .answers) i j → ¬ Clash (run t offers .table) i j
+unfolding run KeptOffer
+kept-apart t [] i j k c = k
+kept-apart t (p ∷ offers) i j (inl named) c =
+    one-offer t p .keptApart i j named (clash-only (offer t (p .a) (p .b) .table) offers i j c)
+kept-apart t (p ∷ offers) i j (inr later) c = kept-apart (offer t (p .a) (p .b) .table) offers i j later c
+
 -- the pairs kept at the end: kept at first, by the first offer, or by a later one
 regroup-right : {A B C : Type 0} → (A ⊎ B) ⊎ C → A ⊎ (B ⊎ C)
 regroup-right (inl x) = ⊎-elim inl (λ b. inr (inl b)) x
@@ -29,7 +36,7 @@ regroup-left : {A B C : Type 0} → A ⊎ (B ⊎ C) → (A ⊎ B) ⊎ C
 regroup-left (inl a) = inl (inl a)
 regroup-left (inr x) = ⊎-elim (λ b. inl (inr b)) inr x
 
-pub kept-only : (t : Table) (offers : List Pair) (i j : ℕ) → KeptPair (run t offers .table) i j
+kept-only : (t : Table) (offers : List Pair) (i j : ℕ) → KeptPair (run t offers .table) i j
     → KeptPair t i j ⊎ KeptOffer offers (run t offers .answers) i j
 unfolding run KeptOffer
 kept-only t [] i j k = inl k
@@ -38,7 +45,7 @@ kept-only t (p ∷ offers) i j k =
 
 -- ---- lists in which no offer drops its pair
 
-pub kept-all : (t : Table) (offers : List Pair) → NoneDropped t offers → (i j : ℕ) → KeptPair t i j ⊎ KeptOffer offers (run t offers .answers) i j
+kept-all : (t : Table) (offers : List Pair) → NoneDropped t offers → (i j : ℕ) → KeptPair t i j ⊎ KeptOffer offers (run t offers .answers) i j
     → KeptPair (run t offers .table) i j
 unfolding run KeptOffer WhenOffered
 kept-all t [] none i j k = ⊎-elim (λ x. x) (λ x. absurd x) k
@@ -72,17 +79,15 @@ none-kept = when-offered (λ s i j unkept k. absurd (unkept k))
 none-clashes : (t : Table) (offers : List Pair) → NoneClashes t offers → NoneDropped t offers
 none-clashes = when-offered (λ s i j apart. one-offer s (record { a = i; b = j }) .staysKept apart)
 
--- in a table that starts without a clash none comes
-no-clash : (t : Table) (offers : List Pair) → NoClash t → NoClash (run t offers .table)
-no-clash t offers clear i j k same =
-    let c = clash-only t offers i j (record { keptPair = k; sameColor = same }) in
-    clear i j (c .keptPair) (c .sameColor)
-
-clear-clashes : (t : Table) (offers : List Pair) → NoClash t → NoneClashes t offers
-unfolding run WhenOffered
-clear-clashes t [] clear = tt
-clear-clashes t (p ∷ offers) clear =
-    (λ c. clear (p .a) (p .b) (c .keptPair) (c .sameColor), clear-clashes (offer t (p .a) (p .b) .table) offers (no-clash t (p ∷ []) clear))
+-- no offered pair clashes at first: then none does when it is offered
+pub no-clash-at-first : (t : Table) (offers : List Pair) → ((p : Pair) → List·Memᴰ p offers → ¬ Clash t (p .a) (p .b)) → NoneClashes t offers
+unfolding WhenOffered
+no-clash-at-first t [] apart = tt
+no-clash-at-first t (p ∷ offers) apart = (
+  apart p (List·Memᴰ·head refl),
+  no-clash-at-first (offer t (p .a) (p .b) .table) offers
+      (λ q m c. apart q (List·Memᴰ·tail m) (one-offer t p .clashOnly (q .a) (q .b) c)),
+)
 
 -- ---- with all declined and refused offers struck
 
@@ -114,6 +119,9 @@ pub clash-rule : (t : Table) (offers : List Pair) → ClashRule t offers
 clash-rule t offers =
     record {
       clashOnly = clash-only t offers;
+      keptApart = kept-apart t offers;
+      keptOnly = kept-only t offers;
+      keptAll = kept-all t offers;
       struckNoDrop = struck-same t offers;
       struckNoClash = λ none. struck-same t offers (none-clashes t offers none);
       struckNotKept = λ none. struck-same t offers (none-kept t offers none);
@@ -121,11 +129,13 @@ clash-rule t offers =
 
 pub sequence-rule : (t : Table) (offers : List Pair) → NoClash t → SequenceRule t offers
 sequence-rule t offers clear =
-    let none = none-clashes t offers (clear-clashes t offers clear) in
+    let rule = clash-rule t offers in
+    let apart : (i j : ℕ) → ¬ Clash t i j = λ i j c. clear i j (c .keptPair) (c .sameColor) in
+    let none = none-clashes t offers (no-clash-at-first t offers (λ p m. apart (p .a) (p .b))) in
     record {
-      noClash = no-clash t offers clear;
-      keptOnly = kept-only t offers;
-      keptAll = kept-all t offers none;
-      struck = struck-same t offers none;
-      allKept = ap (λ r. map isKept (r .answers)) (struck-same t offers none _ (others-struck (run t offers .answers))) ∙ only-kept t offers;
+      noClash = λ i j k same. apart i j (rule .clashOnly i j (record { keptPair = k; sameColor = same }));
+      keptOnly = rule .keptOnly;
+      keptAll = rule .keptAll none;
+      struck = rule .struckNoDrop none;
+      allKept = ap (λ r. map isKept (r .answers)) (rule .struckNoDrop none _ (others-struck (run t offers .answers))) ∙ only-kept t offers;
     }

@@ -35,12 +35,13 @@ impl Both {
 }
 
 /// Makes the offers on both sides and compares answer, counter and every byte after each. Then each clash that the
-/// proved code leaves must be one before the offer, and one in the first table. None where something differs.
+/// proved code leaves must be one before the offer, one in the first table, and of no offer that was kept. None where
+/// something differs.
 fn run_both(part: &mut Tally, first: &Table, pairs: &[Pair]) -> Option<Both> {
     let (mut proved, mut source) = (first.clone(), first.clone());
     let mut coloring = Guarded::new(&first.coloring);
     let mut edge_matrix = Guarded::new(&first.edge_matrix);
-    let mut steps = Vec::new();
+    let (mut steps, mut apart) = (Vec::new(), Vec::new());
     for (place, &p) in pairs.iter().enumerate() {
         let way = refusal(&source, p).is_none().then(|| way(&source, p));
         let (was_kept, was_clash) = (kept(&source, p), clash(&source, p));
@@ -55,7 +56,11 @@ fn run_both(part: &mut Tally, first: &Table, pairs: &[Pair]) -> Option<Both> {
         let before = proved;
         proved =
             Table { coloring: coloring.part().to_vec(), edge_matrix: edge_matrix.part().to_vec() };
-        let go = clashes(&proved).iter().all(|&c| clash(&before, c) && clash(first, c));
+        if let Answer::Kept(_) = answer {
+            apart.push((p.0.max(p.1), p.0.min(p.1)));
+        }
+        let old = |c: Pair| clash(&before, c) && clash(first, c) && !apart.contains(&c);
+        let go = clashes(&proved).into_iter().all(old);
         part.note(go, || format!("a clash comes, offer {place} of {pairs:?} to {first:?}"));
         if !agree || !go {
             return None;
