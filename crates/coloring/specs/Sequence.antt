@@ -88,22 +88,22 @@ allOthers answers = map (λ o. not (isKept o)) answers
 
 -- ---- what each pair is when it is offered
 
--- P holds of each offered pair and the buffers that it is offered to, those of the run itself
-unfoldable pub WhenOffered : (Table → ℕ → ℕ → Type 0) → Table → List Pair → Type 0
+-- P holds of each offer and the buffers that it is made to, those of the run itself
+unfoldable pub WhenOffered : (Table → Pair → Type 0) → Table → List Pair → Type 0
 WhenOffered P t [] = Unit {0}
-WhenOffered P t (p ∷ offers) = P t (p .a) (p .b) × WhenOffered P (offer t (p .a) (p .b) .table) offers
+WhenOffered P t (p ∷ offers) = P t p × WhenOffered P (offer t (p .a) (p .b) .table) offers
 
 -- each offered pair that is kept when it is offered stays kept: no offer drops its pair
 abbrev pub NoneDropped : Table → List Pair → Type 0
-NoneDropped t offers = WhenOffered (λ s i j. KeptPair s i j → KeptPair (offer s i j .table) i j) t offers
+NoneDropped t offers = WhenOffered (λ s p. KeptPair s (p .a) (p .b) → KeptPair (offer s (p .a) (p .b) .table) (p .a) (p .b)) t offers
 
 -- no offered pair clashes when it is offered
 abbrev pub NoneClashes : Table → List Pair → Type 0
-NoneClashes t offers = WhenOffered (λ s i j. ¬ Clash s i j) t offers
+NoneClashes t offers = WhenOffered (λ s p. ¬ Clash s (p .a) (p .b)) t offers
 
 -- no offered pair is kept when it is offered
 abbrev pub NoneKept : Table → List Pair → Type 0
-NoneKept t offers = WhenOffered (λ s i j. ¬ KeptPair s i j) t offers
+NoneKept t offers = WhenOffered (λ s p. ¬ KeptPair s (p .a) (p .b)) t offers
 
 -- ---- the rule for any table
 

@@ -67,17 +67,17 @@ struck-same t (p ∷ offers) none (false ∷ marks) may =
 
 -- ---- which lists these are
 
-when-offered : {P Q : Table → ℕ → ℕ → Type 0} → ((s : Table) (i j : ℕ) → P s i j → Q s i j)
+when-offered : {P Q : Table → Pair → Type 0} → ((s : Table) (p : Pair) → P s p → Q s p)
     → (t : Table) (offers : List Pair) → WhenOffered P t offers → WhenOffered Q t offers
 unfolding WhenOffered
 when-offered f t [] each = tt
-when-offered f t (p ∷ offers) each = (f t (p .a) (p .b) (each .0), when-offered f (offer t (p .a) (p .b) .table) offers (each .1))
+when-offered f t (p ∷ offers) each = (f t p (each .0), when-offered f (offer t (p .a) (p .b) .table) offers (each .1))
 
 none-kept : (t : Table) (offers : List Pair) → NoneKept t offers → NoneDropped t offers
-none-kept = when-offered (λ s i j unkept k. absurd (unkept k))
+none-kept = when-offered (λ s p unkept k. absurd (unkept k))
 
 none-clashes : (t : Table) (offers : List Pair) → NoneClashes t offers → NoneDropped t offers
-none-clashes = when-offered (λ s i j apart. one-offer s (record { a = i; b = j }) .staysKept apart)
+none-clashes = when-offered (λ s p apart. one-offer s p .staysKept apart)
 
 -- no offered pair clashes at first: then none does when it is offered
 pub no-clash-at-first : (t : Table) (offers : List Pair) → ((p : Pair) → List·Memᴰ p offers → ¬ Clash t (p .a) (p .b)) → NoneClashes t offers
