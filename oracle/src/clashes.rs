@@ -170,7 +170,7 @@ pub fn list(r: &mut Random, first: &Table, kind: Kind, length: usize) -> Vec<Pai
 
 // ---- striking
 
-pub fn is_kept(answer: Answer) -> bool {
+fn is_kept(answer: Answer) -> bool {
     matches!(answer, Answer::Kept(_))
 }
 

@@ -13,7 +13,7 @@ pair a b = record { a = a; b = b }
 abbrev ends : List OfferAnswer → Table → Run
 ends answers t = record { answers = answers; table = t }
 
--- ---- why a pair that clashes is left out of the striking
+-- ---- why lists in which an offer drops its pair are left out of the striking
 
 -- five splines, of which 0, 1, 2 and 3 all touch: 0 and 1 clash
 abbrev fourTouch : Table
@@ -34,7 +34,7 @@ pub struck-then-declined : run fourTouch (strike (true ∷ false ∷ []) (pair 0
 unfolding run offer strike
 struck-then-declined = refl
 
--- so that not every list may be struck: an offer that drops its pair must stay
+-- so that not every list may be struck: here the offer that drops its pair must stay
 pub not-strikable : ¬ Strikable fourTouch (pair 0 1 ∷ pair 4 0 ∷ [])
 unfolding run offer strike MayStrike
 not-strikable may =

@@ -93,7 +93,7 @@ fn dropped() {
     assert_eq!(run(&first, &[(4, 0)]), (vec![Ok(Offer::Declined { steps: 17 })], first));
 }
 
-/// These offers do not come to the clash beside them: it stays, and they are answered as elsewhere.
+/// Offers beside a clash that leave it as it is: two kept, one refused, and one declined, which drops nothing.
 #[test]
 fn beside() {
     let first = table(&[0, 0, 1, 2, 0], &FOUR);

@@ -97,7 +97,7 @@ const ROWS: [(&str, [bool; 3]); 26] = [
     ("struck: a clash's offer is kept", [false, false, true]),
     ("struck drop: an answer differs", [false, false, true]),
     ("struck drop: only the table", [false, false, true]),
-    ("struck drop: only its pair", [false, false, true]),
+    ("struck drop: its pair at most", [false, false, true]),
 ];
 
 /// How often each class was met, by the kind of the list, and each counter of a walk that is kept.
@@ -216,7 +216,7 @@ fn struck_drop(
     Some(match answers {
         false => "struck drop: an answer differs",
         true if rest.source != whole.source => "struck drop: only the table",
-        true => "struck drop: only its pair",
+        true => "struck drop: its pair at most",
     })
 }
 
