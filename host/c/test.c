@@ -275,8 +275,8 @@ static void offers(void) {
     CHECK(merelsplum_offer_refusal(answer) == MERELSPLUM_LENGTH_MISMATCH);
 }
 
-/* 0, 1, 2 and 3 are all kept apart, and 0 and 1 clash. What is offered beside them leaves their clash as it is; offered
- * itself, it is declined and dropped, and the next answer is another one. */
+/* 0, 1, 2 and 3 are all kept apart, and 0 and 1 clash. Two offers beside them leave their clash as it is; offered
+ * itself, it is declined and dropped, and then the first of the two is answered otherwise. */
 static void clashes(void) {
     static const uint8_t colors[] = {0, 0, 1, 2, 0};
     static const uint8_t pairs[] = {0, 1, 1, 1, 0, 1, 0, 1, 1, 0, 1, 1, 0, 1, 0, 1, 1, 1, 0, 0, 0, 0, 0, 0, 0};

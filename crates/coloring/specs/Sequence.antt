@@ -7,7 +7,8 @@ use Prim.Native.Nat.{ℕ, _+_, _*_, _<_}
 use mathlib.Core.Bool.{Bool, true, false, not}
 use mathlib.Core.List.{List, [], _∷_, map}
 use lib.ListN.{length, getD}
-use Rattle.coloring.specs.SplineTable.{Table, OfferAnswer, kept, declined, refused, offer}
+use Rattle.coloring.specs.Limits.{maxSplines}
+use Rattle.coloring.specs.SplineTable.{Table, OfferAnswer, kept, declined, refused, sound, offer}
 
 -- one offer's two numbers, of any value
 pub record Pair : Type 0 where
@@ -86,7 +87,12 @@ MayStrike (m ∷ marks) (o ∷ answers) = (m ≡ true → isKept o ≡ false) ×
 unfoldable pub allOthers : List OfferAnswer → List Bool
 allOthers answers = map (λ o. not (isKept o)) answers
 
--- ---- what each pair is when it is offered
+-- ---- where offers may be struck
+
+-- a table at fault in itself, which refuses every offer: by its splines, its entries, or what they hold
+abbrev pub AtFault : Table → Type 0
+AtFault t =
+    (maxSplines < length (t .coloring)) ⊎ ((length (t .edgeMatrix) ≢ length (t .coloring) * length (t .coloring)) ⊎ (sound t ≡ false))
 
 -- P holds of each offer and the buffers that it is made to, those of the run itself
 unfoldable pub WhenOffered : (Table → Pair → Type 0) → Table → List Pair → Type 0
@@ -121,9 +127,10 @@ pub record ClashRule (t : Table) (offers : List Pair) : Type 0 where
   -- of these are
   pub keptOnly : (i j : ℕ) → KeptPair (run t offers .table) i j → KeptPair t i j ⊎ KeptOffer offers (run t offers .answers) i j
   pub keptAll : NoneDropped t offers → (i j : ℕ) → KeptPair t i j ⊎ KeptOffer offers (run t offers .answers) i j → KeptPair (run t offers .table) i j
-  -- 3. offers may be struck where no offer drops its pair; so where no offered pair clashes when it is offered, and
-  -- where none is kept then
+  -- 3. offers may be struck where no offer drops its pair; so where the table is at fault, where no offered pair
+  -- clashes when it is offered, and where none is kept then
   pub struckNoDrop : NoneDropped t offers → Strikable t offers
+  pub struckAtFault : AtFault t → Strikable t offers
   pub struckNoClash : NoneClashes t offers → Strikable t offers
   pub struckNotKept : NoneKept t offers → Strikable t offers
 

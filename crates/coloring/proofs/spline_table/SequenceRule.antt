@@ -1,14 +1,16 @@
 -- Lists of offers. What `ClashRule` says holds of every table and every list: `clash-rule`. From it follows what
 -- `SequenceRule` says (demand 3) of every table without a clash and every list: `sequence-rule`.
-use mathlib.Core.Path.{_≡_, refl, sym, ap, _∙_}
+use mathlib.Core.Path.{_≡_, refl, sym, ap, _∙_, subst}
 use mathlib.Core.Logic.{_⊎_, inl, inr, ⊎-elim, ⊎-map}
-use mathlib.Core.Bool.{true, false}
+use mathlib.Core.Bool.{true, false, true≢false}
 use mathlib.Core.List.{List, [], _∷_, map, List·Memᴰ, List·Memᴰ·head, List·Memᴰ·tail}
 use Prim.Native.Nat.{ℕ}
+use native.Mathlib.Omega.{arith}
 use borrow.Author.Tests.{not-true}
 use Rattle.coloring.specs.SplineTable.{Table, OfferAnswer, kept, declined, refused, offer}
 use Rattle.coloring.specs.Sequence.{Pair, run, KeptPair, Clash, NoClash, isKept, KeptOffer, strike, MayStrike, allOthers}
-use Rattle.coloring.specs.Sequence.{WhenOffered, NoneDropped, NoneClashes, NoneKept, Strikable, ClashRule, SequenceRule}
+use Rattle.coloring.specs.Sequence.{AtFault, WhenOffered, NoneDropped, NoneClashes, NoneKept, Strikable, ClashRule, SequenceRule}
+use Rattle.coloring.proofs.spline_table.OfferLaws.{Unrefused, offer-cases}
 use Rattle.coloring.proofs.spline_table.ClashLaws.{one-offer}
 
 -- ---- every list
@@ -79,6 +81,19 @@ none-kept = when-offered (λ s p unkept k. absurd (unkept k))
 none-clashes : (t : Table) (offers : List Pair) → NoneClashes t offers → NoneDropped t offers
 none-clashes = when-offered (λ s p apart. one-offer s p .staysKept apart)
 
+-- no offer to a table at fault passes the checks, and each leaves it as it is
+fault-refuses : (t : Table) (a b : ℕ) → AtFault t → ¬ Unrefused t a b
+fault-refuses t a b (inl many) v = omega (arith, v .few)
+fault-refuses t a b (inr (inl lengths)) v = lengths (v .size)
+fault-refuses t a b (inr (inr unsound)) v = true≢false (sym (v .isSound) ∙ unsound)
+
+at-fault : (t : Table) (offers : List Pair) → AtFault t → NoneDropped t offers
+unfolding WhenOffered
+at-fault t [] fault = tt
+at-fault t (p ∷ offers) fault =
+    let same = offer-cases t (p .a) (p .b) (λ o. o .table ≡ t) (λ number. refl) (λ v. absurd (fault-refuses t (p .a) (p .b) fault v)) in
+    (λ k. subst (λ s. KeptPair s (p .a) (p .b)) (sym same) k, subst (λ s. NoneDropped s offers) (sym same) (at-fault t offers fault))
+
 -- no offered pair clashes at first: then none does when it is offered
 pub no-clash-at-first : (t : Table) (offers : List Pair) → ((p : Pair) → List·Memᴰ p offers → ¬ Clash t (p .a) (p .b)) → NoneClashes t offers
 unfolding WhenOffered
@@ -123,6 +138,7 @@ clash-rule t offers =
       keptOnly = kept-only t offers;
       keptAll = kept-all t offers;
       struckNoDrop = struck-same t offers;
+      struckAtFault = λ fault. struck-same t offers (at-fault t offers fault);
       struckNoClash = λ none. struck-same t offers (none-clashes t offers none);
       struckNotKept = λ none. struck-same t offers (none-kept t offers none);
     }
