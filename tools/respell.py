@@ -8,7 +8,7 @@ import glob
 import re
 import sys
 
-W = r"[^\s(){}.;,@\"«»\[\]\\`]+"
+W = r"[^\s(){}.;,:/@\"«»\[\]\\`]+"
 DECLARED = re.compile(r"^ *((?:(?:pub|abbrev|unfoldable|data|record) )*)([^\s(){}.;,@\"«»\[\]\\:]+) :(.*)", re.M)
 MADE = re.compile(r"(invariant|decreases)-|.*-spec$|.*_spec$")
 # names of the library that lemmas of the repository are about
@@ -66,6 +66,18 @@ def joined(name, words):
     return out
 
 
+def ghost(text):
+    """The parts of a source file that speak of definitions: comments, `ghost use` items and clauses."""
+    spans = [m.span() for m in re.finditer(r"//[^\n]*|^ghost use [^;]*;", text, re.M)]
+    for m in re.finditer(r"^ *(?:requires|ensures)\b[^{\n]*\{", text, re.M):
+        at, depth = m.end(), 1
+        while depth and at < len(text):
+            depth += {"{": 1, "}": -1}.get(text[at], 0)
+            at += 1
+        spans.append((m.end(), at))
+    return sorted(spans)
+
+
 def main():
     files = [p for g in ("crates/**/*.antt", "crates/**/*.rt", "crates/**/*.edit", "*.md", "docs/*.md", "docs/changes/*.md", "docs/pictures/*.md",
                          "oracle/**/*.md", "host/**/*.md", "examples/*.md") for p in glob.glob(g, recursive=True) if "/out/" not in p and "/target/" not in p]
@@ -86,6 +98,15 @@ def main():
     for p, t in texts.items():
         if p.endswith(".md"):
             new = re.sub(r"`([^`\n]+)`", lambda m: "`" + (re.sub(W, one, m.group(1)) if not re.search(r"[/]|\.(rt|antt|rs)\b", m.group(1)) else m.group(1)) + "`", t)
+        elif p.endswith(".rt"):
+            new, at = "", 0
+            for a, b in ghost(t):
+                if a >= at:
+                    new += t[at:a] + re.sub(W, one, t[a:b])
+                    at = b
+            new += t[at:]
+        elif p.endswith(".edit") and re.search(r"^file: src/", t, re.M):
+            new = re.sub(r"^#.*|^(?:old|new):.*(?:ghost use|requires|ensures).*", lambda m: re.sub(W, one, m.group(0)), t, flags=re.M)
         else:
             new = re.sub(W, one, t)
         if new != t and "--list" not in sys.argv:

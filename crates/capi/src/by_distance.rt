@@ -7,7 +7,7 @@ ghost use Rattle.capi.specs.EdgeColoring.{collected_code, colored_code, handed, 
 use crate::edge_coloring::code;
 use crate::wide;
 use coloring::by_distance;
-use coloring::outline::colored;
+use coloring::outline::Colored;
 
 // The number of edges, 2^16 times that of splines and 2^48 times that of stand-ins, or 2^32 and the number of the
 // refusal.

@@ -6,7 +6,7 @@ ghost use Rattle.capi.specs.Answers.{count_code, handed_buffer, hand_out_buffer}
 
 use crate::wide;
 use coloring::directions;
-use coloring::directions::directed;
+use coloring::directions::Directed;
 
 // The number of edges, or 2^32 and the number of the refusal.
 fn code(answer: Directed) -> u64

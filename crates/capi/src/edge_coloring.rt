@@ -6,7 +6,7 @@ ghost use Rattle.capi.specs.EdgeColoring.{colored_code, handed, hand_out};
 
 use crate::wide;
 use coloring::edge_coloring;
-use coloring::outline::colored;
+use coloring::outline::Colored;
 
 // The number of edges and 2^48 times that of stand-ins, or 2^32 and the number of the refusal.
 pub(crate) fn code(answer: Colored) -> u64

@@ -12,9 +12,9 @@ ghost use Rattle.capi.specs.JobFile.{read_code, numbers_after, handed_job, hand_
 
 use crate::edge_coloring::code;
 use crate::wide;
-use coloring::settings::division;
-use job::listing::listed;
-use job::progress::read;
+use coloring::settings::Division;
+use job::listing::Listed;
+use job::progress::Read;
 use job::{color, listing, part, reader};
 
 // 0, or 2^32 and the number of the refusal.

@@ -5,7 +5,7 @@ ghost use Rattle.coloring.specs.Outline.{given, at_entry, at_exit, colored_answe
 ghost use Rattle.coloring.specs.EdgeColoring.{collect_splines, edge_coloring_by_distance};
 
 use crate::edge_coloring::edge_coloring;
-use crate::outline::colored;
+use crate::outline::Colored;
 use crate::settings::{Division, Marking, Settings};
 
 // The split outline, each edge with the number of its spline, or 255 where it is White.

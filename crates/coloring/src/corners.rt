@@ -11,7 +11,7 @@ ghost use Rattle.coloring.specs.Outline.{edges_of, contours, given, Cut};
 
 use crate::directions::{count_marks, ends_at, unit_directions};
 use crate::limits::{FEW_DIRECTION_PLACES, FEW_STAND_INS, MAX_DIRECTION_PLACES, MAX_STAND_INS};
-use geometry::edge_segment::edge_segment;
+use geometry::edge_segment::EdgeSegment;
 use math::vector2::{Vector2, cross, dot};
 
 // Whether the magnitude of x is above the threshold.

@@ -12,7 +12,7 @@ ghost use Rattle.coloring.specs.Directions.{direction_places, encode_directions,
 
 use crate::outline::{check_outline, edge_at};
 use crate::refusal::{Checked, Refusal};
-use geometry::edge_segment::directions;
+use geometry::edge_segment::Directions;
 use math::vector2::{Normalized, Vector2};
 
 // The answer of `edge_directions`: how many edges there are, or the refusal.

@@ -9,11 +9,11 @@ ghost use Rattle.coloring.specs.Outline.{whole, Matching};
 ghost use Rattle.coloring.specs.InkTrap.{corner_at, closed, with_minor, with_color, is_black, ink_trap_colors};
 
 use crate::corners::estimate_edge_length;
-use crate::limits::max_edges;
+use crate::limits::MAX_EDGES;
 use crate::outline::edge_at;
 use crate::simple::simple_colors;
 use crate::switching::{Pen, banned_before, switch_color_banned};
-use geometry::edge_color::edge_color;
+use geometry::edge_color::EdgeColor;
 
 // A corner of the ink-trap colouring: its place, the estimated length of the spline before it, whether it is minor, its
 // colour.

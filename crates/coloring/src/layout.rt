@@ -12,7 +12,7 @@ ghost use Rattle.coloring.specs.Outline.{part, Stored, Laid, LaidFrom, ResultRoo
 
 use crate::corners::{count_corners, first_corner};
 use crate::outline::{copy_edges, edge_at, write_edge};
-use geometry::edge_segment::edge_segment;
+use geometry::edge_segment::EdgeSegment;
 
 // ---- one contour
 

@@ -11,7 +11,7 @@ ghost use Rattle.coloring.specs.Places.{total};
 use crate::limits::{MAX_CONTOURS, MAX_COORDINATE, MAX_EDGES};
 use crate::refusal::{Checked, Refusal};
 use geometry::edge_segment::{Decoded, EdgeSegment};
-use math::vector2::vector2;
+use math::vector2::Vector2;
 
 // What a colouring wrote, how many contours and edges, and how many splines they have; and how many of the directions
 // of the outline's edges, two an edge, had no length, so that (0, 1) stands in for them.

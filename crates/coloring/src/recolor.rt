@@ -7,7 +7,7 @@ ghost use Rattle.coloring.specs.Recolor as defined;
 ghost use Rattle.coloring.specs.Recolor.{vertex_possible_colors, first_possible_color, uncolor_one, uncolor_from, uncolor_same_neighbors};
 ghost use Rattle.coloring.specs.Recolor.{Uncoloring, Walking, Offerable, recoloring, walk_from, ended};
 
-use crate::limits::max_splines;
+use crate::limits::MAX_SPLINES;
 
 const UNCOLORED: u8 = 3;
 

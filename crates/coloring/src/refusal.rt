@@ -27,6 +27,8 @@ pub enum Refusal {
     BadTable,
     // 11, "short tray": the result would not fit
     ResultTooShort,
+    // 13, "no such foundry"
+    UnknownFoundry,
 }
 
 impl Refusal {
@@ -46,6 +48,7 @@ impl Refusal {
             Refusal::BadDistance => 9,
             Refusal::BadTable => 10,
             Refusal::ResultTooShort => 11,
+            Refusal::UnknownFoundry => 13,
         }
     }
 }

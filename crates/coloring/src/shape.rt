@@ -11,7 +11,7 @@ use crate::layout::{lay_out, part_edges};
 use crate::limits::{MAX_RESULT_EDGES, MAX_SHAPE_SPLINES};
 use crate::outline::{Colored, Counts};
 use crate::refusal::{Checked, Refusal};
-use crate::settings::settings;
+use crate::settings::Settings;
 use crate::splines::{paint_contours, part_splines};
 use crate::values::{middle_value, spline_values};
 

@@ -8,7 +8,7 @@ ghost use Rattle.coloring.specs.Splines.{spline_count, spread, paint, paint_cont
 ghost use Rattle.coloring.specs.Outline.{cut};
 
 use crate::corners::{count_corners, first_corner};
-use crate::settings::division;
+use crate::settings::Division;
 use crate::teardrop::paint_runs;
 
 // How many splines a contour has.

@@ -3,7 +3,7 @@ ghost use Rattle.std.specs.Prelude.{◌≡◌, length};
 ghost use Rattle.coloring.specs.Switching.{init_color, switch_color, one_channel, switch_color_banned, banned_before, switch_each, ColorsHeld};
 
 use crate::seed::{seed_extract2, seed_extract3};
-use geometry::edge_color::edge_color;
+use geometry::edge_color::EdgeColor;
 
 // The colour that is being drawn with, and the seed that is left.
 #[derive(Drop)]

@@ -5,7 +5,7 @@ ghost use Rattle.coloring.specs.Limits.{max_result_edges};
 ghost use Rattle.coloring.specs.Places.{by_place};
 ghost use Rattle.coloring.specs.Teardrop.{third_of, runs};
 
-use crate::settings::division;
+use crate::settings::Division;
 use crate::trichotomy::third_by;
 
 // What a third gets: first, middle, last for -1, 0, 1.

@@ -4,7 +4,7 @@ ghost use Rattle.std.specs.Prelude.{◌≡◌, ◌≤◌, ◌<◌};
 ghost use Rattle.coloring.specs.Limits.{max_result_edges};
 ghost use Rattle.coloring.specs.Trichotomy.{symmetrical_trichotomy, balanced, third_by};
 
-use crate::settings::division;
+use crate::settings::Division;
 
 // -1 near the start, 0 in the middle, 1 near the end of n places.
 fn symmetrical_trichotomy(position: usize, n: usize) -> i32

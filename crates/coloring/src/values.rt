@@ -15,14 +15,14 @@ ghost use Rattle.coloring.specs.Outline.{edges_of, cut, whole, Matching, Cut, Pa
 
 use crate::corners::count_corners;
 use crate::ink_trap::ink_trap_colors;
-use crate::limits::max_splines;
+use crate::limits::MAX_SPLINES;
 use crate::refusal::{Checked, Refusal};
 use crate::settings::{Marking, Strategy};
 use crate::simple::simple_colors;
 use crate::spline_colors::color_splines;
 use crate::splines::part_splines;
 use crate::switching::{Pen, init_color, switch_each};
-use geometry::edge_color::edge_color;
+use geometry::edge_color::EdgeColor;
 
 // ---- colours
 

@@ -7,7 +7,7 @@ ghost use Rattle.job.specs.declared.records.Mark.TheVariants.{Edge};
 ghost use Rattle.job.specs.Records.{body_size};
 ghost use Rattle.job.specs.Buffers.{buffers, kind_number, points_read, written, RecordFits, Hold};
 
-use crate::progress::numbers;
+use crate::progress::Numbers;
 use crate::records::{Item, Kind, Mark};
 use crate::{patterns, records};
 use math::bits::float;

@@ -9,13 +9,13 @@ ghost use Rattle.job.specs.Color.{marking_by, job_settings, color_file, check_fi
 
 use crate::limits::{MAX_PLACES, MAX_RESULT_PLACES};
 use crate::progress::{Numbers, Read};
-use crate::records::strategy;
+use crate::records::Strategy;
 use crate::{progress, reader, records};
 use coloring::by_distance::collect_splines;
 use coloring::edge_coloring::edge_coloring;
 use coloring::limits::{MAX_CONTOURS, MAX_DISTANCES, MAX_EDGES, MAX_RESULT_EDGES, MAX_SPLINES};
-use coloring::outline::colored;
-use coloring::refusal::refusal;
+use coloring::outline::Colored;
+use coloring::refusal::Refusal;
 use coloring::settings::{Marking, Settings, Strategy as Pen};
 use math::bits::float;
 

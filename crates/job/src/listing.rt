@@ -12,8 +12,8 @@ ghost use Rattle.job.specs.Listing.{file_text, list_file, listed_answer, Pasted,
 use crate::color;
 use crate::limits::{MAX_RESULT_PLACES, MAX_TEXT};
 use coloring::limits::{MAX_CONTOURS, MAX_RESULT_EDGES};
-use coloring::outline::colored;
-use coloring::refusal::refusal;
+use coloring::outline::Colored;
+use coloring::refusal::Refusal;
 
 // The answer of a listing: how many bytes were written, or 11.
 #[derive(Drop)]
@@ -60,9 +60,9 @@ fn letter(kind: u8) -> u8
 {
     match kind {
         0 => b'?',
-        1 => b'_l',
-        2 => b'_q',
-        _ => b'_c',
+        1 => b'L',
+        2 => b'Q',
+        _ => b'C',
     }
 }
 

@@ -5,7 +5,7 @@ ghost use Rattle.coloring.specs.Answers.{succeeds};
 ghost use Rattle.job.specs.Color.{accepted};
 ghost use Rattle.job.specs.Part.{sought, span_of, place_in, contour_place, contour_part, Inside};
 
-use crate::progress::read;
+use crate::progress::Read;
 use crate::records::{Found, Item};
 use crate::{color, progress, records};
 

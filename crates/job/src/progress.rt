@@ -6,8 +6,8 @@ ghost use Rattle.job.specs.Progress.{read_answer, begin, advanced, answer_of, Ca
 
 use crate::records;
 use crate::records::{Found, Header, Item, Phase, State, Strategy};
-use coloring::refusal::refusal;
-use coloring::settings::division;
+use coloring::refusal::Refusal;
+use coloring::settings::Division;
 
 // The numbers of a job: its header, the division of its teardrops, and how many contours, edges and distances it has.
 #[derive(Drop)]

@@ -8,9 +8,9 @@ ghost use Rattle.job.specs.Progress.{read_answer};
 ghost use Rattle.job.specs.Reader.{read_outcome, job_at_entry, job_at_exit, read_into, Fits, filled};
 
 use crate::progress::{Numbers, Read};
-use crate::records::found;
+use crate::records::Found;
 use crate::{buffers, color, progress, records};
-use coloring::refusal::refusal;
+use coloring::refusal::Refusal;
 
 // The job of a file that is read and has room, written into the buffers.
 pub(crate) fn fill(

@@ -7,10 +7,10 @@ ghost use Rattle.job.specs.Records.{at_start, headed, inside, among, closing, al
 ghost use Rattle.job.specs.Records.{read_header, read_edge, read_distances, read_end, read_body, read_marked, read_record};
 
 use crate::patterns;
-use crate::patterns::range;
-use crate::progress::numbers;
+use crate::patterns::Range;
+use crate::progress::Numbers;
 use coloring::limits::{MAX_CONTOURS, MAX_DISTANCES, MAX_EDGES};
-use coloring::refusal::refusal;
+use coloring::refusal::Refusal;
 
 #[derive(Drop)]
 pub enum Strategy {
@@ -113,47 +113,47 @@ pub enum Found {
 pub(crate) fn mark_of(a: u8, b: u8) -> Marked
     ensures { result ≡ mark_of a b }
 {
-    if a == b'_j' {
-        if b == b'_b' {
+    if a == b'J' {
+        if b == b'B' {
             return Marked::Known(Mark::Header);
         }
         return Marked::Unknown;
     }
-    if a == b'_b' {
-        if b == b'_l' {
+    if a == b'B' {
+        if b == b'L' {
             return Marked::Known(Mark::Balanced);
         }
         return Marked::Unknown;
     }
-    if a == b'_c' {
-        if b == b'_t' {
+    if a == b'C' {
+        if b == b'T' {
             return Marked::Known(Mark::Contour);
         }
-        if b == b'_b' {
+        if b == b'B' {
             return Marked::Known(Mark::Edge(Kind::Cubic));
         }
         return Marked::Unknown;
     }
-    if a == b'_l' {
-        if b == b'_n' {
+    if a == b'L' {
+        if b == b'N' {
             return Marked::Known(Mark::Edge(Kind::Line));
         }
         return Marked::Unknown;
     }
-    if a == b'_q' {
-        if b == b'_d' {
+    if a == b'Q' {
+        if b == b'D' {
             return Marked::Known(Mark::Edge(Kind::Quadratic));
         }
         return Marked::Unknown;
     }
-    if a == b'_d' {
-        if b == b'_s' {
+    if a == b'D' {
+        if b == b'S' {
             return Marked::Known(Mark::Distances);
         }
         return Marked::Unknown;
     }
-    if a == b'_e' {
-        if b == b'_n' {
+    if a == b'E' {
+        if b == b'N' {
             return Marked::Known(Mark::End);
         }
         return Marked::Unknown;

@@ -2,7 +2,7 @@
 // parameter; a number and eight places that are the answer. Where the kind is unknown the answer is the number 0.
 use crate::leaves::vector;
 use crate::words::{number, same, word};
-use geometry::edge_color::edge_color;
+use geometry::edge_color::EdgeColor;
 use geometry::edge_segment::{Decoded, EdgeSegment, Thirds};
 use math::vector2::{Normalized, Vector2};
 

@@ -9,6 +9,7 @@ mod distances;
 mod edges;
 mod jobs;
 mod leaves;
+mod owners;
 mod records;
 mod root;
 mod shapes;

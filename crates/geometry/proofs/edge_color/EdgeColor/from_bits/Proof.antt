@@ -1,4 +1,4 @@
--- `geometry::edge_color::edge_color::from_bits` meets its contract.
+-- `geometry::edge_color::EdgeColor::from_bits` meets its contract.
 use lib.Dec.{lit<}
 use native.Mathlib.Nat.{mod-lt}
 use native.Mathlib.Omega.{arith}

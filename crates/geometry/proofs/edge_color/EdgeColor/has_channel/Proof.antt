@@ -1,4 +1,4 @@
--- `geometry::edge_color::edge_color::has_channel` meets its contract.
+-- `geometry::edge_color::EdgeColor::has_channel` meets its contract.
 use Prim.Native.Nat.{ℕ, zero, suc}
 use mathlib.Core.Path.{◌≡◌, refl}
 use mathlib.Core.Bool.{false}

@@ -1,4 +1,4 @@
--- `geometry::edge_color::edge_color::has_green` meets its contract.
+-- `geometry::edge_color::EdgeColor::has_green` meets its contract.
 use borrow.Author.Rules.{rules}
 use Rattle.geometry.proofs.edge_color.EdgeColor.has_green.Statement.{statement}
 use Rattle.geometry.proofs.edge_color.EdgeColor.has_green.Tie as tie

@@ -1,4 +1,4 @@
--- `geometry::edge_color::edge_color::has_red` meets its contract.
+-- `geometry::edge_color::EdgeColor::has_red` meets its contract.
 use borrow.Author.Rules.{rules}
 use Rattle.geometry.proofs.edge_color.EdgeColor.has_red.Statement.{statement}
 use Rattle.geometry.proofs.edge_color.EdgeColor.has_red.Tie as tie

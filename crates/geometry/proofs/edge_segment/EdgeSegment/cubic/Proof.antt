@@ -1,4 +1,4 @@
--- `geometry::edge_segment::edge_segment::cubic` meets its contract.
+-- `geometry::edge_segment::EdgeSegment::cubic` meets its contract.
 use Rattle.geometry.specs.EdgeSegment.{cubic}
 use borrow.Author.Rules.{rules}
 use Rattle.geometry.proofs.edge_segment.EdgeSegment.cubic.Statement.{statement}

@@ -1,4 +1,4 @@
--- `geometry::edge_segment::edge_segment::direction` meets its contract.
+-- `geometry::edge_segment::EdgeSegment::direction` meets its contract.
 use Rattle.geometry.specs.EdgeSegment.{direction}
 use borrow.Author.Rules.{rules}
 use Rattle.geometry.proofs.edge_segment.EdgeSegment.direction.Statement.{statement}

@@ -1,4 +1,4 @@
--- `geometry::edge_segment::edge_segment::from_stored` meets its contract.
+-- `geometry::edge_segment::EdgeSegment::from_stored` meets its contract.
 use Prim.Native.Nat.{ℕ, zero, suc}
 use mathlib.Core.Path.{◌≡◌, refl}
 use mathlib.Core.List.{List}

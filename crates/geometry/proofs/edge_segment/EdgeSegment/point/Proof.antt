@@ -1,4 +1,4 @@
--- `geometry::edge_segment::edge_segment::point` meets its contract.
+-- `geometry::edge_segment::EdgeSegment::point` meets its contract.
 use Rattle.geometry.specs.EdgeSegment.{point}
 use borrow.Author.Rules.{rules}
 use Rattle.geometry.proofs.edge_segment.EdgeSegment.point.Statement.{statement}

@@ -1,4 +1,4 @@
--- `geometry::edge_segment::edge_segment::quadratic` meets its contract.
+-- `geometry::edge_segment::EdgeSegment::quadratic` meets its contract.
 use Rattle.geometry.specs.EdgeSegment.{quadratic}
 use borrow.Author.Rules.{rules}
 use Rattle.geometry.proofs.edge_segment.EdgeSegment.quadratic.Statement.{statement}

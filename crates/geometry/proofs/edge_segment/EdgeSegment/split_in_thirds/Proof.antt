@@ -1,4 +1,4 @@
--- `geometry::edge_segment::edge_segment::split_in_thirds` meets its contract.
+-- `geometry::edge_segment::EdgeSegment::split_in_thirds` meets its contract.
 use Rattle.geometry.specs.EdgeSegment.{split_in_thirds}
 use borrow.Author.Rules.{rules}
 use Rattle.geometry.proofs.edge_segment.EdgeSegment.split_in_thirds.Statement.{statement}

@@ -1,4 +1,4 @@
--- `geometry::edge_segment::edge_segment::to_stored` meets its contract.
+-- `geometry::edge_segment::EdgeSegment::to_stored` meets its contract.
 use Rattle.geometry.specs.EdgeSegment.{to_stored}
 use borrow.Author.Rules.{rules}
 use Rattle.geometry.proofs.edge_segment.EdgeSegment.to_stored.Statement.{statement}

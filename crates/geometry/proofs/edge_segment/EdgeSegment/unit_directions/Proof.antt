@@ -1,4 +1,4 @@
--- `geometry::edge_segment::edge_segment::unit_directions` meets its contract: a line has one direction.
+-- `geometry::edge_segment::EdgeSegment::unit_directions` meets its contract: a line has one direction.
 use mathlib.Core.Path.{◌≡◌, sym, ap₂, ◌∙◌}
 use borrow.Author.Rules.{rules}
 use Rattle.math.specs.declared.vector2.Normalized.{Normalized}

@@ -1,4 +1,4 @@
--- `math::vector2::vector2::add` meets its contract.
+-- `math::vector2::Vector2::add` meets its contract.
 use Rattle.std.proofs.Common.{rules}
 use Rattle.math.specs.Vector2.{add}
 use Rattle.math.proofs.vector2.Vector2.add.Statement.{statement}

@@ -1,4 +1,4 @@
--- `math::vector2::vector2::eq` meets its contract.
+-- `math::vector2::Vector2::eq` meets its contract.
 use Rattle.math.specs.Vector2.{eq}
 use Rattle.math.proofs.vector2.Vector2.eq.Statement.{statement}
 use Rattle.math.proofs.vector2.Vector2.eq.Tie as tie

@@ -1,4 +1,4 @@
--- `math::vector2::vector2::is_nonzero` meets its contract.
+-- `math::vector2::Vector2::is_nonzero` meets its contract.
 use Rattle.math.specs.Vector2.{is_nonzero}
 use Rattle.math.proofs.vector2.Vector2.is_nonzero.Statement.{statement}
 use Rattle.math.proofs.vector2.Vector2.is_nonzero.Tie as tie

@@ -1,4 +1,4 @@
--- `math::vector2::vector2::length` meets its contract.
+-- `math::vector2::Vector2::length` meets its contract.
 use Rattle.math.specs.Vector2.{length_of}
 use Rattle.std.proofs.Common.{rules}
 use Rattle.math.proofs.vector2.Vector2.length.Statement.{statement}

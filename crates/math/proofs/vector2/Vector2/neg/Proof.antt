@@ -1,4 +1,4 @@
--- `math::vector2::vector2::neg` meets its contract.
+-- `math::vector2::Vector2::neg` meets its contract.
 use Rattle.std.proofs.Common.{rules}
 use Rattle.math.specs.Vector2.{neg}
 use Rattle.math.proofs.vector2.Vector2.neg.Statement.{statement}

@@ -1,4 +1,4 @@
--- `math::vector2::vector2::normalize` meets its contract.
+-- `math::vector2::Vector2::normalize` meets its contract.
 use Rattle.math.specs.Vector2.{div_scalar, normalize}
 use Rattle.std.proofs.Common.{rules}
 use Rattle.math.proofs.vector2.Vector2.normalize.Statement.{statement}

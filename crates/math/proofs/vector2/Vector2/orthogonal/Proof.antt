@@ -1,4 +1,4 @@
--- `math::vector2::vector2::orthogonal` meets its contract.
+-- `math::vector2::Vector2::orthogonal` meets its contract.
 use Rattle.math.specs.Vector2.{orthogonal}
 use Rattle.math.proofs.vector2.Vector2.orthogonal.Statement.{statement}
 use Rattle.math.proofs.vector2.Vector2.orthogonal.Tie as tie

@@ -1,4 +1,4 @@
--- `math::vector2::vector2::orthonormal` meets its contract.
+-- `math::vector2::Vector2::orthonormal` meets its contract.
 use Rattle.std.proofs.Common.{◌≡◌, cond, ⊎_elim, rules}
 use Rattle.math.specs.Scalar.{f0, f1}
 use Rattle.math.specs.Vector2.{div_scalar, orthogonal, orthonormal}
