@@ -100,8 +100,7 @@ enum {
     MERELSPLUM_LENGTH_MISMATCH = 8, /* buffer lengths disagree, or distances are not n(n-1)/2 for n splines */
     MERELSPLUM_BAD_DISTANCE = 9,    /* NaN, infinite or below zero */
     MERELSPLUM_BAD_TABLE = 10,      /* spline table at fault, or the two splines of an offer out of range or equal */
-    MERELSPLUM_RESULT_TOO_SHORT = 11, /* a result buffer is too short */
-    MERELSPLUM_UNKNOWN_FOUNDRY = 13 /* the foundry of an offer is neither 1 nor 2; there is no refusal 12 */
+    MERELSPLUM_RESULT_TOO_SHORT = 11 /* a result buffer is too short */
 };
 
 /* Plus the refusal: the answer of a call that is refused. The offer has its own, and merelsplum_job_contour_part
@@ -268,51 +267,22 @@ uint64_t merelsplum_edge_directions(
 
 /* ---- offers to a spline table
  *
- * A spline table has a colour for each of n splines, 0, 1 or 2 (Yellow, Cyan, Magenta), and n * n entries, a byte each,
- * by rows: 0 where a pair is not kept apart, else its owner, 1, 2 or 3. The two entries of a pair, one in each half of
- * the table, are the same; those on the diagonal are 0. An offer of a foundry asks to keep the splines a and b apart
- * too. Where that works, the pair is kept and colours are changed as needed; where it does not within some 16 steps, it
- * is declined and the table stays as it is, but for this pair, whose two entries are 0.
- *
- * A pair that was not kept gets the foundry whose offer is kept as its owner; one that was kept has its first owner
- * left in place, whoever offers it. A declined offer clears both entries, whoever owned the pair. Zero pairs, splines
- * with the distance 0, are 3: no offer enters a 3, but a table may come with it. No owner decides an answer or a
- * colour: the same pairs, offered by other foundries to a table with other owners, get the same answers and colours,
- * and the same pairs are kept.
- *
- * Refusals, looked for in this order: 4 (n above 64), 8 (edge_matrix has not n * n bytes), 10 (a colour above 2, an
- * entry above 3, two entries of a pair that are not the same, one on the diagonal that is not 0, a or b not below n, a
- * equal to b), 13 (foundry neither 1 nor 2).
+ * A spline table has a colour for each of n splines, 0, 1 or 2 (Yellow, Cyan, Magenta), and n * n bytes, by rows: 1
+ * where a pair is kept apart, else 0; symmetric, 0 on the diagonal. An offer asks to keep the splines a and b apart
+ * too. Where that works, the pair is kept and colours are changed as needed; where it does not within some 16 steps,
+ * it is declined and the table stays as it is, but for this pair, whose two entries are 0. Refusals: 4 (n above 64),
+ * 8 (edge_matrix has not n * n bytes), 10.
  *
  * A table may start with clashes, pairs that are kept apart though their two colours are equal. No offer makes one: two
  * splines that clash after any list of offers clashed with each other before it, and no offer of them was kept. A
  * declined offer drops its pair if that was kept before; only a pair that clashes can come to that. Of a list in which
  * no offer drops its pair, declined and refused offers can be left out: the others get the same answers, and the table
- * ends the same. It is enough that none of the offered pairs clashes before the first offer.
- *
- * After a list in which no offer drops its pair, of one foundry or of both, each pair that is kept has the owner that
- * it had in the first table or, if it was not kept there, the foundry of its first kept offer. So it is after every
- * list to a table that starts without a clash. A pair that was dropped can be kept again later, and be the other
- * foundry's.
- *
- * The colouring by distance hands out no table. In its own, zero pairs are 3, and its offers are those of foundry 1.
- *
- * A program for version 0.3 is changed so. It passes a foundry before a and b; where there is one foundry only, that is
- * MERELSPLUM_FIRST_FOUNDRY, and then answers, colours and entries are as before for every table that was accepted
- * before. It tests entries for "not 0", and not for 1, where another foundry or zero pairs may have entered. It knows
- * refusal 13. It is built again: the shared library has another number. */
-
-/* Owners of a pair; the first two are the foundries that offer. */
-enum {
-    MERELSPLUM_FIRST_FOUNDRY = 1,
-    MERELSPLUM_SECOND_FOUNDRY = 2,
-    MERELSPLUM_ZERO_PAIR = 3
-};
+ * ends the same. It is enough that none of the offered pairs clashes before the first offer. */
 
 uint64_t merelsplum_try_add_edge(
     uint8_t *coloring, size_t coloring_len,
     uint8_t *edge_matrix, size_t edge_matrix_len,
-    uint8_t foundry, size_t a, size_t b);
+    size_t a, size_t b);
 
 /* The answer is one of these, and added to it the steps taken (0 to 17), or the refusal. */
 #define MERELSPLUM_OFFER_KEPT UINT64_C(256)

@@ -41,8 +41,7 @@ static uint64_t directions(void) {
         OUTLINE, out_directions, 4 * MERELSPLUM_MAX_EDGES, out_stand_ins, 2 * MERELSPLUM_MAX_EDGES);
 }
 static uint64_t offer(void) {
-    const uint64_t answer =
-        merelsplum_try_add_edge(coloring, sizeof coloring, matrix, sizeof matrix, MERELSPLUM_SECOND_FOUNDRY, 0, 3);
+    const uint64_t answer = merelsplum_try_add_edge(coloring, sizeof coloring, matrix, sizeof matrix, 0, 3);
     return merelsplum_offer_outcome(answer) == MERELSPLUM_OFFER_DECLINED ? answer : MERELSPLUM_REFUSED;
 }
 static uint64_t job_read(void) {
@@ -134,14 +133,13 @@ static void prepare(void) {
         distances[i] = 1 + i * 37 % 2017;
     put("DS", 2), put(&count, 2), put(distances, sizeof distances), put("EN", 2);
     memcpy(balanced_file, file, 19), memcpy(balanced_file + 19, "BL", 2), memcpy(balanced_file + 21, file + 19, file_len - 19);
-    /* 0, 1, 2 and 3 all kept apart, by every owner, but for the pair that is offered, so that a walk begins and is
-     * stopped */
+    /* 0, 1, 2 and 3 all kept apart but for the pair that is offered, so that a walk begins and is stopped */
     for (int i = 0; i < 4; i++) {
         coloring[i] = (uint8_t)(i % 3);
         for (int j = 0; j < 4; j++)
-            matrix[i * MERELSPLUM_MAX_SPLINES + j] = i != j && i + j != 3 ? (uint8_t)(1 + (i + j) % 3) : 0;
+            matrix[i * MERELSPLUM_MAX_SPLINES + j] = i != j && i + j != 3;
     }
-    matrix[1 * MERELSPLUM_MAX_SPLINES + 2] = matrix[2 * MERELSPLUM_MAX_SPLINES + 1] = MERELSPLUM_FIRST_FOUNDRY;
+    matrix[1 * MERELSPLUM_MAX_SPLINES + 2] = matrix[2 * MERELSPLUM_MAX_SPLINES + 1] = 1;
 }
 
 int main(void) {

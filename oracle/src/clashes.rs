@@ -2,8 +2,8 @@
 //! is left of a list when some of its offers are struck.
 
 use crate::numbers::Random;
-use crate::tables::{Answer, FAULTS, Offer, Pair, Run, Table, Way};
-use crate::tables::{foundry, is_at_fault, offer, outside, owner, random_pairs, run, some, way};
+use crate::tables::{Answer, FAULTS, Pair, Run, Table, Way};
+use crate::tables::{offer, outside, random_pairs, refusal, run, some, way};
 
 /// Whether a pair is kept: two different splines, both entries there and not 0. The buffers may be any.
 pub fn kept(t: &Table, (i, j): Pair) -> bool {
@@ -41,7 +41,7 @@ fn few_clashes(r: &mut Random, n: usize, degree: u64, count: u64) -> Table {
     for _ in 0..8 * count {
         let (i, j) = (some(r, n), some(r, n));
         if i != j && t.coloring[i] == t.coloring[j] && (clashes(&t).len() as u64) < count {
-            t.set((i, j), owner(r));
+            t.set((i, j), 1);
         }
     }
     t
@@ -55,7 +55,7 @@ fn touch(r: &mut Random, t: &mut Table) {
     }
     let all = [(0, 1), (0, 2), (0, 3), (1, 2), (1, 3), (2, 3)];
     for &(i, j) in &all[some(r, 2)..] {
-        t.set((splines[i], splines[j]), owner(r));
+        t.set((splines[i], splines[j]), 1);
     }
 }
 
@@ -83,9 +83,9 @@ pub fn first(r: &mut Random, n: usize) -> Table {
 pub fn at_fault(r: &mut Random, n: usize) -> Table {
     loop {
         let mut t = first(r, n);
-        let fault = r.pick(&[0, 1, 2, 3, 4, 8, 9, 10, 11, 12]);
-        FAULTS[fault].1(r, &mut t, &mut Offer { foundry: 1, pair: (0, 1) });
-        if is_at_fault(&t) {
+        let fault = r.pick(&[0, 1, 2, 3, 7, 8, 9, 10, 11]);
+        FAULTS[fault].1(r, &mut t, &mut (0, 1));
+        if refusal(&t, (0, 1)).is_some() {
             return t;
         }
     }
@@ -119,13 +119,13 @@ fn to_refuse(r: &mut Random, n: usize) -> Pair {
     r.pick(&[(a, a), (a, far), (far, a), (far, far)])
 }
 
-pub(crate) fn either_order(r: &mut Random, (a, b): Pair) -> Pair {
+fn either_order(r: &mut Random, (a, b): Pair) -> Pair {
     if r.coin() { (b, a) } else { (a, b) }
 }
 
 /// A pair to offer next: one to be refused, a clash, one that was offered before, or another, if possible one that
 /// needs a walk.
-pub(crate) fn next_pair(r: &mut Random, kind: Kind, t: &Table, made: &[Offer]) -> Pair {
+fn next_pair(r: &mut Random, kind: Kind, t: &Table, made: &[Pair]) -> Pair {
     let n = t.n();
     let choice = r.below(12);
     if choice == 0 || n < 2 {
@@ -137,12 +137,12 @@ pub(crate) fn next_pair(r: &mut Random, kind: Kind, t: &Table, made: &[Offer]) -
         return either_order(r, p);
     }
     if choice > 9 && !made.is_empty() {
-        let p = r.pick(made).pair;
+        let p = r.pick(made);
         if kind.allows(t, p) {
             return either_order(r, p);
         }
     }
-    let sound = !is_at_fault(t);
+    let sound = refusal(t, (0, 1)).is_none();
     let mut best = None;
     for _ in 0..16 {
         let a = some(r, n);
@@ -157,26 +157,21 @@ pub(crate) fn next_pair(r: &mut Random, kind: Kind, t: &Table, made: &[Offer]) -
     best.unwrap_or_else(|| to_refuse(r, n))
 }
 
-/// A list of that kind by both foundries, each pair chosen for the table that the offers before it leave.
-pub fn list(r: &mut Random, first: &Table, kind: Kind, length: usize) -> Vec<Offer> {
+/// A list of that kind, each pair chosen for the table that the offers before it leave.
+pub fn list(r: &mut Random, first: &Table, kind: Kind, length: usize) -> Vec<Pair> {
     let (mut t, mut made) = (first.clone(), Vec::new());
     for _ in 0..length {
-        let pair = next_pair(r, kind, &t, &made);
-        let o = Offer { foundry: foundry(r), pair };
-        offer(&mut t, o);
-        made.push(o);
+        let p = next_pair(r, kind, &t, &made);
+        offer(&mut t, p);
+        made.push(p);
     }
     made
 }
 
 // ---- striking
 
-pub(crate) fn is_kept(answer: Answer) -> bool {
+fn is_kept(answer: Answer) -> bool {
     matches!(answer, Answer::Kept(_))
-}
-
-pub(crate) fn is_declined(answer: Answer) -> bool {
-    matches!(answer, Answer::Declined(_))
 }
 
 /// What is left of a list where each element marked true is struck.
@@ -191,7 +186,7 @@ pub fn strikings(r: &mut Random, answers: &[Answer]) -> Vec<Vec<bool>> {
     if places.is_empty() {
         return Vec::new();
     }
-    let declined = answers.iter().map(|&a| is_declined(a)).collect();
+    let declined = answers.iter().map(|a| matches!(a, Answer::Declined(_))).collect();
     let refused = answers.iter().map(|a| matches!(a, Answer::Refused(_))).collect();
     let mut half = || others.iter().map(|&m| m && r.coin()).collect();
     let halves = [half(), half()];
@@ -211,17 +206,17 @@ pub fn one(length: usize, struck: usize) -> Vec<bool> {
 
 // ---- a sample
 
-pub fn offers(run: &Run) -> Vec<Offer> {
+pub fn pairs(run: &Run) -> Vec<Pair> {
     run.offers.iter().map(|o| o.0).collect()
 }
 
-pub(crate) fn answers(run: &Run) -> Vec<Answer> {
+fn answers(run: &Run) -> Vec<Answer> {
     run.offers.iter().map(|o| o.1).collect()
 }
 
 /// What is left of a list as a run of its own, with the answers that it gets then.
-pub(crate) fn struck(whole: &Run, marks: &[bool]) -> Run {
-    run(whole.before.clone(), &strike(marks, &offers(whole)))
+fn struck(whole: &Run, marks: &[bool]) -> Run {
+    run(whole.before.clone(), &strike(marks, &pairs(whole)))
 }
 
 /// Four splines that all touch, of which two clash, and a fifth: the fewest splines, with the fewest kept pairs, where
@@ -230,9 +225,9 @@ fn smallest_drop() -> [Run; 2] {
     let coloring = vec![0, 0, 1, 2, 0];
     let mut t = Table { coloring, edge_matrix: vec![0; 25] };
     for p in [(0, 1), (0, 2), (0, 3), (1, 2), (1, 3), (2, 3)] {
-        t.set(p, 3);
+        t.set(p, 1);
     }
-    let whole = run(t, &[(0, 1), (4, 0)].map(|pair| Offer { foundry: 1, pair }));
+    let whole = run(t, &[(0, 1), (4, 0)]);
     let struck = struck(&whole, &[true, false]);
     assert_eq!(answers(&whole), [Answer::Declined(17), Answer::Kept(1)]);
     assert_eq!(answers(&struck), [Answer::Declined(17)]);
@@ -240,18 +235,18 @@ fn smallest_drop() -> [Run; 2] {
 }
 
 /// The places of a run's offers of which something holds, by the table before each.
-pub(crate) fn places(whole: &Run, holds: impl Fn(&Table, Offer, Answer) -> bool) -> Vec<usize> {
+fn places(whole: &Run, holds: impl Fn(&Table, Pair, Answer) -> bool) -> Vec<usize> {
     let mut t = whole.before.clone();
-    let mut holds = |&(o, answer): &(Offer, Answer)| {
+    let mut holds = |&(p, answer): &(Pair, Answer)| {
         let before = t.clone();
-        offer(&mut t, o);
-        holds(&before, o, answer)
+        offer(&mut t, p);
+        holds(&before, p, answer)
     };
     (0..whole.offers.len()).filter(|&k| holds(&whole.offers[k])).collect()
 }
 
-pub(crate) fn drops(whole: &Run) -> Vec<usize> {
-    places(whole, |t, o, answer| clash(t, o.pair) && is_declined(answer))
+fn drops(whole: &Run) -> Vec<usize> {
+    places(whole, |t, p, answer| clash(t, p) && !is_kept(answer))
 }
 
 /// A list to a table of 4 to 12 splines with a clash.
@@ -261,8 +256,8 @@ fn short_list(r: &mut Random, kind: Kind) -> Run {
         let t = first(r, n);
         if !clashes(&t).is_empty() {
             let length = 6 + some(r, 10);
-            let offers = list(r, &t, kind, length);
-            return run(t, &offers);
+            let pairs = list(r, &t, kind, length);
+            return run(t, &pairs);
         }
     }
 }
@@ -270,12 +265,12 @@ fn short_list(r: &mut Random, kind: Kind) -> Run {
 /// Whether a list is worth its place: a walk that is kept, a declined and a refused offer; a kept pair that is offered
 /// again, a clash whose offer is kept, and one that is dropped, as far as the kind has them.
 fn telling(run: &Run, kind: Kind) -> bool {
-    let has = |holds: fn(&Table, Offer, Answer) -> bool| !places(run, holds).is_empty();
+    let has = |holds: fn(&Table, Pair, Answer) -> bool| !places(run, holds).is_empty();
     has(|_, _, answer| matches!(answer, Answer::Kept(1..)))
-        && has(|t, o, answer| !kept(t, o.pair) && is_declined(answer))
+        && has(|t, p, answer| !kept(t, p) && matches!(answer, Answer::Declined(_)))
         && has(|_, _, answer| matches!(answer, Answer::Refused(_)))
-        && (kind == Kind::NotKept || has(|t, o, _| kept(t, o.pair) && !clash(t, o.pair)))
-        && (kind != Kind::Any || has(|t, o, answer| clash(t, o.pair) && is_kept(answer)))
+        && (kind == Kind::NotKept || has(|t, p, _| kept(t, p) && !clash(t, p)))
+        && (kind != Kind::Any || has(|t, p, answer| clash(t, p) && is_kept(answer)))
         && (kind != Kind::Any || !drops(run).is_empty())
 }
 

@@ -31,7 +31,6 @@ pub mod job_sample;
 pub mod jobs;
 pub mod leaves;
 pub mod numbers;
-pub mod owners;
 pub mod roots;
 pub mod shape_sample;
 pub mod shapes;

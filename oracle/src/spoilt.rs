@@ -10,12 +10,11 @@ fn word(record: &[u8], at: usize) -> u64 {
     u64::from_le_bytes(record[8 * at..8 * at + 8].try_into().unwrap())
 }
 
-/// The first bytes of the words of an answer, the places of its single bytes, and of those that are owners.
+/// The first bytes of the words of an answer, and the places of its single bytes.
 #[derive(Default)]
 struct Places {
     words: Vec<usize>,
     bytes: Vec<usize>,
-    owners: Vec<usize>,
 }
 
 impl Places {
@@ -52,10 +51,8 @@ fn answer(record: &[u8]) -> Places {
         64 => {
             let (n, m, offers) = (size(2), size(3), size(4));
             let first = 40 + n + m;
-            places.words.extend((0..offers).map(|i| first + 32 * i + 24));
-            let entries = places.bytes_from(first + 32 * offers, n);
-            places.bytes_from(entries, m);
-            places.owners.extend(entries..entries + m);
+            places.words.extend((0..offers).map(|i| first + 24 * i + 16));
+            places.bytes_from(first + 24 * offers, n + m);
         }
         69 => {
             let (file, text, parts) = (size(2), size(3), size(4));
@@ -89,11 +86,10 @@ fn answer(record: &[u8]) -> Places {
     places
 }
 
-/// The record with one bit of the answer changed: of each byte the lowest, of an owner the second too, by which a pair
-/// of the first foundry becomes a zero pair; of each word the lowest, where that does not make one NaN of another, and
-/// one by which no NaN stays one.
+/// The record with one bit of the answer changed: of each byte the lowest, of each word the lowest, where that
+/// does not make one NaN of another, and one by which no NaN stays one.
 pub fn spoilt(record: &[u8]) -> Vec<Vec<u8>> {
-    let Places { words, bytes, owners } = answer(record);
+    let Places { words, bytes } = answer(record);
     let other = |at: usize, bit: u8| {
         let mut other = record.to_vec();
         other[at] ^= bit;
@@ -102,6 +98,5 @@ pub fn spoilt(record: &[u8]) -> Vec<Vec<u8>> {
     let is_nan = |at: &usize| f64::from_le_bytes(record[*at..*at + 8].try_into().unwrap()).is_nan();
     let lowest = words.iter().filter(|at| !is_nan(at)).map(|&at| other(at, 1));
     let high = words.iter().map(|&at| other(at + 7, 1 << 6));
-    let bytes = bytes.iter().map(|&at| other(at, 1));
-    lowest.chain(high).chain(bytes).chain(owners.iter().map(|&at| other(at, 2))).collect()
+    lowest.chain(high).chain(bytes.iter().map(|&at| other(at, 1))).collect()
 }

@@ -1,12 +1,10 @@
-//! Offers to a spline table: tables to try them on, SCOPE's refusals, and the source's answers, with the owners of the
-//! oracle's own book.
+//! Offers to a spline table: tables to try them on, SCOPE's refusals, and the source's answers.
 
+use crate::clashes;
 use crate::given::{by_distance_counted, by_distance_longer, probe};
 use crate::numbers::Random;
-use crate::owners::{Book, FOUNDRIES, erased};
-use crate::{clashes, owners};
 
-/// The two buffers: the colour of each of n splines, and n × n entries by rows, the owner of a pair or 0.
+/// The two buffers: the colour of each of n splines, and n × n entries by rows.
 #[derive(Clone, Debug, Default, PartialEq)]
 pub struct Table {
     pub coloring: Vec<u8>,
@@ -14,13 +12,6 @@ pub struct Table {
 }
 
 pub type Pair = (usize, usize);
-
-/// A pair that a foundry offers. The foundry may be any byte.
-#[derive(Clone, Copy, Debug, PartialEq)]
-pub struct Offer {
-    pub foundry: u8,
-    pub pair: Pair,
-}
 
 #[derive(Clone, Copy, Debug, PartialEq)]
 pub enum Answer {
@@ -45,13 +36,8 @@ impl Table {
         self.coloring.len()
     }
 
-    /// The owner of a pair, 0 where it is not kept.
-    pub fn owner(&self, (a, b): Pair) -> u8 {
-        self.edge_matrix[a * self.n() + b]
-    }
-
-    pub fn kept(&self, p: Pair) -> bool {
-        self.owner(p) != 0
+    pub fn kept(&self, (a, b): Pair) -> bool {
+        self.edge_matrix[a * self.n() + b] != 0
     }
 
     pub(crate) fn set(&mut self, (a, b): Pair, e: u8) {
@@ -67,8 +53,8 @@ impl Table {
     }
 }
 
-/// The number of the refusal by SCOPE: 4, then 8, then 10, then 13.
-pub fn refusal(t: &Table, Offer { foundry, pair: (a, b) }: Offer) -> Option<u8> {
+/// The number of the refusal by SCOPE: 4, then 8, then 10.
+pub fn refusal(t: &Table, (a, b): Pair) -> Option<u8> {
     let n = t.n();
     if n > 64 {
         return Some(4);
@@ -78,19 +64,11 @@ pub fn refusal(t: &Table, Offer { foundry, pair: (a, b) }: Offer) -> Option<u8> 
     }
     let row = |i: usize| &t.edge_matrix[i * n..(i + 1) * n];
     let colors = t.coloring.iter().all(|&c| c <= 2);
-    let entries = t.edge_matrix.iter().all(|&e| e <= 3);
+    let entries = t.edge_matrix.iter().all(|&e| e <= 1);
     let symmetric = (0..n).all(|i| (0..n).all(|j| row(i)[j] == row(j)[i]));
     let diagonal = (0..n).all(|i| row(i)[i] == 0);
     let pair = a < n && b < n && a != b;
-    if !(colors && entries && symmetric && diagonal && pair) {
-        return Some(10);
-    }
-    if FOUNDRIES.contains(&foundry) { None } else { Some(13) }
-}
-
-/// Whether every offer to the table is refused, whatever the pair and the foundry.
-pub fn is_at_fault(t: &Table) -> bool {
-    refusal(t, Offer { foundry: 1, pair: (0, 1) }).is_some()
+    if colors && entries && symmetric && diagonal && pair { None } else { Some(10) }
 }
 
 fn wide(bytes: &[u8]) -> Vec<i32> {
@@ -101,27 +79,19 @@ fn narrow(numbers: &[i32]) -> Vec<u8> {
     numbers.iter().map(|&x| u8::try_from(x).unwrap()).collect()
 }
 
-/// What an offer is answered, by SCOPE and the source, with the table as it leaves it. The source has the pairs without
-/// their owners: it decides the answer, the colours and which pairs are kept, and the book whose they are.
-pub fn offer(t: &mut Table, o: Offer) -> Answer {
-    if let Some(number) = refusal(t, o) {
+/// What an offer is answered, by SCOPE and the source, with the table as it leaves it.
+pub fn offer(t: &mut Table, (a, b): Pair) -> Answer {
+    if let Some(number) = refusal(t, (a, b)) {
         return Answer::Refused(number);
     }
-    let (n, (a, b)) = (t.n(), o.pair);
-    let mut book = Book::read(t);
-    let (mut coloring, mut matrix) = (wide(&t.coloring), wide(&erased(&t.edge_matrix)));
+    let n = t.n();
+    let (mut coloring, mut matrix) = (wide(&t.coloring), wide(&t.edge_matrix));
     let (mut coloring2, mut matrix2) = (coloring.clone(), matrix.clone());
     probe::offer(&mut coloring, &mut matrix, n, a, b);
     let steps = by_distance_counted::offer(&mut coloring2, &mut matrix2, n, a, b) as u8;
     assert!(coloring == coloring2 && matrix == matrix2, "the counted copy is not the source");
-    let kept = matrix[a * n + b] != 0;
-    match kept {
-        true => book.keep(o),
-        false => book.strike(o.pair),
-    }
-    *t = Table { coloring: narrow(&coloring), edge_matrix: book.entries(n) };
-    assert!(narrow(&matrix) == erased(&t.edge_matrix), "the book has other pairs than the source");
-    if kept { Answer::Kept(steps) } else { Answer::Declined(steps) }
+    *t = Table { coloring: narrow(&coloring), edge_matrix: narrow(&matrix) };
+    if t.kept((a, b)) { Answer::Kept(steps) } else { Answer::Declined(steps) }
 }
 
 /// How an offer that is not refused goes.
@@ -160,32 +130,7 @@ fn colors(r: &mut Random, n: usize) -> Vec<u8> {
     (0..n).map(|_| r.below(3) as u8).collect()
 }
 
-/// Whose a kept pair is: the first foundry's, the second's, or a zero pair.
-pub fn owner(r: &mut Random) -> u8 {
-    1 + r.below(3) as u8
-}
-
-/// A byte that is no foundry: often the next to one, or the last.
-pub(crate) fn no_foundry(r: &mut Random) -> u8 {
-    loop {
-        let foundry = if r.coin() { r.pick(&[0, 3, 255]) } else { r.below(256) as u8 };
-        if !FOUNDRIES.contains(&foundry) {
-            return foundry;
-        }
-    }
-}
-
-/// One of the two foundries, and now and then a byte that is none.
-pub fn foundry(r: &mut Random) -> u8 {
-    if r.below(32) == 0 { no_foundry(r) } else { r.pick(&FOUNDRIES) }
-}
-
-/// Each pair by such a foundry.
-pub fn offered(r: &mut Random, pairs: &[Pair]) -> Vec<Offer> {
-    pairs.iter().map(|&pair| Offer { foundry: foundry(r), pair }).collect()
-}
-
-/// A table of n splines whose pairs are kept at random, about `degree` a spline, each by any owner; where `clashes` is
+/// A table of n splines whose pairs are kept at random, about `degree` a spline; where `clashes` is
 /// false, only pairs of two colours.
 pub(crate) fn random_pairs(r: &mut Random, n: usize, degree: u64, clashes: bool) -> Table {
     let mut t = Table { coloring: colors(r, n), edge_matrix: vec![0; n * n] };
@@ -198,7 +143,7 @@ pub(crate) fn random_pairs(r: &mut Random, n: usize, degree: u64, clashes: bool)
             row &= !same[t.coloring[i] as usize];
         }
         while row != 0 {
-            t.set((i, row.trailing_zeros() as usize), owner(r));
+            t.set((i, row.trailing_zeros() as usize), 1);
             row &= row - 1;
         }
     }
@@ -236,7 +181,7 @@ pub fn pair(r: &mut Random, t: &Table) -> Pair {
 // ---- faults
 
 /// What can be wrong with an offer, each a way to make it so.
-pub type Fault = fn(&mut Random, &mut Table, &mut Offer);
+pub type Fault = fn(&mut Random, &mut Table, &mut Pair);
 
 pub(crate) fn some(r: &mut Random, n: usize) -> usize {
     r.below(n.max(1) as u64) as usize
@@ -269,93 +214,78 @@ fn put(t: &mut Table, (i, j): Pair, e: u8) {
     }
 }
 
-fn bad_color(r: &mut Random, t: &mut Table, _: &mut Offer) {
+fn bad_color(r: &mut Random, t: &mut Table, _: &mut Pair) {
     let i = some(r, t.n());
     if let Some(c) = t.coloring.get_mut(i) {
         *c = above(r, 2);
     }
 }
 
-fn bad_entry(r: &mut Random, t: &mut Table, _: &mut Offer) {
+fn bad_entry(r: &mut Random, t: &mut Table, _: &mut Pair) {
     let (i, j) = (some(r, t.n()), some(r, t.n()));
     if i != j {
-        let e = above(r, 3);
+        let e = above(r, 1);
         put(t, (i, j), e);
         put(t, (j, i), e);
     }
 }
 
-fn one_way(r: &mut Random, t: &mut Table, _: &mut Offer) {
+fn one_way(r: &mut Random, t: &mut Table, _: &mut Pair) {
     let (i, j) = (some(r, t.n()), some(r, t.n()));
     if i != j {
-        let e = owner(r);
+        let e = r.below(2) as u8;
         put(t, (i, j), e);
-        put(t, (j, i), 0);
+        put(t, (j, i), 1 - e);
     }
 }
 
-fn two_owners(r: &mut Random, t: &mut Table, _: &mut Offer) {
-    let (i, j) = (some(r, t.n()), some(r, t.n()));
-    if i != j {
-        let e = owner(r);
-        put(t, (i, j), e);
-        put(t, (j, i), 1 + (e + r.below(2) as u8) % 3);
-    }
-}
-
-fn own_pair(r: &mut Random, t: &mut Table, _: &mut Offer) {
+fn own_pair(r: &mut Random, t: &mut Table, _: &mut Pair) {
     let i = some(r, t.n());
-    let e = owner(r);
-    put(t, (i, i), e);
+    put(t, (i, i), 1);
 }
 
-fn a_outside(r: &mut Random, t: &mut Table, o: &mut Offer) {
-    o.pair.0 = outside(r, t.n());
+fn a_outside(r: &mut Random, t: &mut Table, p: &mut Pair) {
+    p.0 = outside(r, t.n());
 }
 
-fn b_outside(r: &mut Random, t: &mut Table, o: &mut Offer) {
-    o.pair.1 = outside(r, t.n());
+fn b_outside(r: &mut Random, t: &mut Table, p: &mut Pair) {
+    p.1 = outside(r, t.n());
 }
 
-fn equal(_: &mut Random, _: &mut Table, o: &mut Offer) {
-    o.pair.1 = o.pair.0;
+fn equal(_: &mut Random, _: &mut Table, p: &mut Pair) {
+    p.1 = p.0;
 }
 
-fn entries_short(r: &mut Random, t: &mut Table, _: &mut Offer) {
+fn entries_short(r: &mut Random, t: &mut Table, _: &mut Pair) {
     let m = t.edge_matrix.len();
     let fewer = if r.coin() { 1 } else { r.below(m as u64 + 1) as usize };
     t.edge_matrix.truncate(m - fewer.min(m));
 }
 
-fn entries_long(r: &mut Random, t: &mut Table, _: &mut Offer) {
+fn entries_long(r: &mut Random, t: &mut Table, _: &mut Pair) {
     let more = if r.coin() { 1 } else { 1 + r.below(2 * t.n() as u64 + 1) as usize };
     let m = t.edge_matrix.len() + more;
     t.edge_matrix.resize(m, 0);
 }
 
-fn colors_short(_: &mut Random, t: &mut Table, _: &mut Offer) {
+fn colors_short(_: &mut Random, t: &mut Table, _: &mut Pair) {
     t.coloring.pop();
 }
 
-fn colors_long(r: &mut Random, t: &mut Table, _: &mut Offer) {
+fn colors_long(r: &mut Random, t: &mut Table, _: &mut Pair) {
     t.coloring.push(r.below(3) as u8);
 }
 
 /// From 65 splines on, all else sound.
-fn too_many(r: &mut Random, t: &mut Table, _: &mut Offer) {
+fn too_many(r: &mut Random, t: &mut Table, _: &mut Pair) {
     let n = if r.coin() { 65 } else { 65 + r.below(8) as usize };
     *t = Table { coloring: colors(r, n), edge_matrix: vec![0; n * n] };
 }
 
-fn unknown_foundry(r: &mut Random, _: &mut Table, o: &mut Offer) {
-    o.foundry = no_foundry(r);
-}
-
-pub const FAULTS: [(&str, Fault); 14] = [
+pub const FAULTS: [(&str, Fault); 12] = [
     ("colour above 2", bad_color),
-    ("entry above 3", bad_entry),
+    ("entry above 1", bad_entry),
     ("entry one way only", one_way),
-    ("halves of two owners", two_owners),
     ("entry of a spline with itself", own_pair),
     ("a out of range", a_outside),
     ("b out of range", b_outside),
@@ -365,7 +295,6 @@ pub const FAULTS: [(&str, Fault); 14] = [
     ("a colour less", colors_short),
     ("a colour more", colors_long),
     ("above 64 splines", too_many),
-    ("no such foundry", unknown_foundry),
 ];
 
 // ---- lists of offers
@@ -382,16 +311,16 @@ pub fn start(r: &mut Random, n: usize, clashes: bool) -> Table {
     }
 }
 
-/// Each spline next to two others, as on one contour, in colours that do not clash: zero pairs.
+/// Each spline next to two others, as on one contour, in colours that do not clash.
 pub fn ring(r: &mut Random, n: usize) -> Table {
     let mut t = Table { coloring: vec![0; n], edge_matrix: vec![0; n * n] };
     for i in 1..n {
-        t.set((i, i - 1), 3);
+        t.set((i, i - 1), 1);
         t.coloring[i] = (t.coloring[i - 1] + 1 + r.below(2) as u8) % 3;
     }
     if n > 2 {
         let (first, before) = (t.coloring[0], t.coloring[n - 2]);
-        t.set((n - 1, 0), 3);
+        t.set((n - 1, 0), 1);
         t.coloring[n - 1] = (0..3).find(|&c| c != first && c != before).unwrap();
     }
     t
@@ -400,23 +329,17 @@ pub fn ring(r: &mut Random, n: usize) -> Table {
 /// Every pair once, in a random order.
 pub fn all_pairs(r: &mut Random, n: usize) -> Vec<Pair> {
     let mut pairs: Vec<Pair> = (0..n).flat_map(|i| (i + 1..n).map(move |j| (i, j))).collect();
-    shuffle(r, &mut pairs);
+    for i in (1..pairs.len()).rev() {
+        pairs.swap(i, some(r, i + 1));
+    }
     pairs
 }
 
-pub(crate) fn shuffle<T>(r: &mut Random, list: &mut [T]) {
-    for i in (1..list.len()).rev() {
-        list.swap(i, some(r, i + 1));
+/// Offers of every pair, or of some in either order and more than once, a few of them to be refused.
+pub fn list(r: &mut Random, n: usize) -> Vec<Pair> {
+    if n > 1 && r.coin() {
+        return all_pairs(r, n);
     }
-}
-
-/// Offers of every pair, or of some in either order and more than once, by both foundries, a few of them to be refused.
-pub fn list(r: &mut Random, n: usize) -> Vec<Offer> {
-    let pairs = if n > 1 && r.coin() { all_pairs(r, n) } else { some_pairs(r, n) };
-    offered(r, &pairs)
-}
-
-pub(crate) fn some_pairs(r: &mut Random, n: usize) -> Vec<Pair> {
     let length = r.below(n as u64 * 8 + 1);
     (0..length)
         .map(|_| (some(r, n), if r.below(32) == 0 { outside(r, n) } else { some(r, n) }))
@@ -428,30 +351,28 @@ pub(crate) fn some_pairs(r: &mut Random, n: usize) -> Vec<Pair> {
 /// A list of offers to one table, each with its answer, and the table after the last.
 pub struct Run {
     pub before: Table,
-    pub offers: Vec<(Offer, Answer)>,
+    pub offers: Vec<(Pair, Answer)>,
     pub after: Table,
 }
 
-pub(crate) fn run(before: Table, offers: &[Offer]) -> Run {
+pub(crate) fn run(before: Table, pairs: &[Pair]) -> Run {
     let mut after = before.clone();
-    let offers = offers.iter().map(|&o| (o, offer(&mut after, o))).collect();
+    let offers = pairs.iter().map(|&p| (p, offer(&mut after, p))).collect();
     Run { before, offers, after }
 }
 
-/// P7: the square's four splines with the pairs beside each other kept, zero pairs, and the others offered by the first
-/// foundry.
+/// P7: the square's four splines with the pairs beside each other kept.
 fn square() -> Run {
     let coloring = vec![0, 1, 2, 1];
-    let edge_matrix = vec![0, 3, 0, 3, 3, 0, 3, 0, 0, 3, 0, 3, 3, 0, 3, 0];
-    let offers = [(0, 2), (1, 3)].map(|pair| Offer { foundry: 1, pair });
-    let run = run(Table { coloring, edge_matrix }, &offers);
+    let edge_matrix = vec![0, 1, 0, 1, 1, 0, 1, 0, 0, 1, 0, 1, 1, 0, 1, 0];
+    let run = run(Table { coloring, edge_matrix }, &[(0, 2), (1, 3)]);
     let answers: Vec<Answer> = run.offers.iter().map(|o| o.1).collect();
     assert_eq!(answers, [Answer::Kept(0), Answer::Declined(16)]);
     run
 }
 
-/// The first `count` single offers of the two foundries to random tables of n splines of which `wanted` holds.
-pub(crate) fn singles(
+/// The first `count` single offers to random tables of n splines of which `wanted` holds.
+fn singles(
     r: &mut Random,
     n: std::ops::Range<u64>,
     count: usize,
@@ -462,9 +383,9 @@ pub(crate) fn singles(
         let n = (n.start + r.below(n.end - n.start)) as usize;
         let clashes = r.coin();
         let t = sound(r, n, clashes);
-        let pair = pair(r, &t);
-        let run = run(t, &[Offer { foundry: r.pick(&FOUNDRIES), pair }]);
-        if wanted(&run, pair) {
+        let p = pair(r, &t);
+        let run = run(t, &[p]);
+        if wanted(&run, p) {
             found.push(run);
         }
     }
@@ -490,7 +411,7 @@ fn walks(r: &mut Random, answer: Answer, count: usize) -> Vec<Run> {
 /// ends at the same counter.
 fn stopped_at_free(run: &Run, (a, b): Pair) -> bool {
     let (t, Answer::Declined(steps)) = (&run.before, run.offers[0].1) else { return false };
-    let (mut coloring, mut matrix) = (wide(&t.coloring), wide(&erased(&t.edge_matrix)));
+    let (mut coloring, mut matrix) = (wide(&t.coloring), wide(&t.edge_matrix));
     let longer = by_distance_longer::offer(&mut coloring, &mut matrix, t.n(), a, b);
     longer == steps as i32 && matrix[a * t.n() + b] != 0
 }
@@ -521,10 +442,10 @@ fn refused(r: &mut Random, number: u8, n: std::ops::Range<u64>, count: usize) ->
             tries += 1;
             let n = (n.start + r.below(n.end - n.start)) as usize;
             let mut t = sound(r, n, false);
-            let mut o = Offer { foundry: r.pick(&FOUNDRIES), pair: pair(r, &t) };
-            fault(r, &mut t, &mut o);
-            if refusal(&t, o) == Some(number) {
-                found.push(run(t, &[o]));
+            let mut p = pair(r, &t);
+            fault(r, &mut t, &mut p);
+            if refusal(&t, p) == Some(number) {
+                found.push(run(t, &[p]));
                 of_fault += 1;
             }
         }
@@ -536,30 +457,16 @@ fn refused(r: &mut Random, number: u8, n: std::ops::Range<u64>, count: usize) ->
 fn too_many_splines() -> Vec<Run> {
     let table = |n: usize, m: usize| Table { coloring: vec![0; n], edge_matrix: vec![0; m] };
     let tables = [table(65, 65 * 65), table(65, 64 * 64), table(66, 0), table(128, 1)];
-    let offers = [(1, (0, 1)), (2, (64, 65))].map(|(foundry, pair)| Offer { foundry, pair });
-    let mut runs: Vec<Run> = tables.into_iter().map(|t| run(t, &offers)).collect();
+    let mut runs: Vec<Run> = tables.into_iter().map(|t| run(t, &[(0, 1), (64, 65)])).collect();
     let faults = Table { coloring: vec![255; 65], edge_matrix: vec![255; 65] };
-    runs.push(run(faults, &[Offer { foundry: 255, pair: (3, 3) }]));
+    runs.push(run(faults, &[(3, 3)]));
     runs
 }
 
 /// Tables without a pair to offer.
 fn none_or_one() -> Vec<Run> {
     let table = |n: usize| Table { coloring: vec![0; n], edge_matrix: vec![0; n * n] };
-    let pairs = [(0, 0), (0, 1), (1, 0), (usize::MAX, 0)];
-    let offers = pairs.map(|pair| Offer { foundry: 1, pair });
-    [0, 1].map(|n| run(table(n), &offers)).into()
-}
-
-/// All pairs of 64 splines, in two runs, of which the second begins with the table that the first leaves.
-fn longest(r: &mut Random) -> [Run; 2] {
-    let t = ring(r, 64);
-    let pairs = all_pairs(r, 64);
-    let offers = offered(r, &pairs);
-    let (half, rest) = offers.split_at(offers.len() / 2);
-    let first = run(t, half);
-    let second = run(first.after.clone(), rest);
-    [first, second]
+    [0, 1].map(|n| run(table(n), &[(0, 0), (0, 1), (1, 0), (usize::MAX, 0)])).into()
 }
 
 /// The runs of the replayed sample, by name.
@@ -582,11 +489,9 @@ pub fn sample() -> Vec<(String, Vec<Run>)> {
     let mut ten = refused(r, 10, 2..12, 4);
     ten.extend(none_or_one());
     parts.push(("refused 10".to_string(), ten));
-    parts.push(("refused 13".to_string(), refused(r, 13, 2..12, 6)));
     let mut lists: Vec<Run> = [5, 12, 24].map(|n| run(start(r, n, false), &list(r, n))).into();
-    lists.extend(longest(r));
+    lists.push(run(ring(r, 64), &all_pairs(r, 64)));
     parts.push(("lists".to_string(), lists));
     parts.extend(clashes::sample());
-    parts.extend(owners::sample());
     parts
 }

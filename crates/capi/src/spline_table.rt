@@ -21,13 +21,12 @@ fn code(answer: Offer) -> u64
 pub extern "C" fn merelsplum_try_add_edge(
     coloring: &mut [u8],
     edge_matrix: &mut [u8],
-    foundry: u8,
     a: usize,
     b: usize,
 ) -> u64
-    ensures answer { result ≡ answer_code (offer (table_of coloring.old edge_matrix.old) foundry a b).answer }
+    ensures answer { result ≡ answer_code (offer (table_of coloring.old edge_matrix.old) a b).answer }
     ensures buffers { table_of coloring.new edge_matrix.new
-        ≡ (offer (table_of coloring.old edge_matrix.old) foundry a b).table }
+        ≡ (offer (table_of coloring.old edge_matrix.old) a b).table }
 {
-    code(spline_table::try_add_edge(coloring, edge_matrix, foundry, a, b))
+    code(spline_table::try_add_edge(coloring, edge_matrix, a, b))
 }

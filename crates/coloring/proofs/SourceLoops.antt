@@ -256,13 +256,13 @@ break_splits division first m h = each (range 0 m)
     spline : ℕ → ℕ
     spline i = cond (ltb i (m / 2)) first (suc first)
 
-    by-third : (i : ℕ) (t : ℤ) → Third i m t → third_of (spline i) no_spline (spline i) t ≡ third_of first no_spline (suc first) t
-    by-third i t (in_first below) = rw (lt-ltb i (m / 2) (omega arith))
-    by-third i t in_middle = refl
-    by-third i t (in_last after above) = rw (le-ltb i (m / 2) (omega arith))
+    by_third : (i : ℕ) (t : ℤ) → Third i m t → third_of (spline i) no_spline (spline i) t ≡ third_of first no_spline (suc first) t
+    by_third i t (in_first below) = rw (lt-ltb i (m / 2) (omega arith))
+    by_third i t in_middle = refl
+    by_third i t (in_last after above) = rw (le-ltb i (m / 2) (omega arith))
 
     each : (places : List ℕ)
         → map (λ i. third_of (spline i) no_spline (spline i) (third_by division i m)) places
         ≡ map (λ i. third_of first no_spline (suc first) (third_by division i m)) places
     each [] = refl
-    each (i ∷ places) = rw (by-third i (third_by division i m) (third division i m), each places)
+    each (i ∷ places) = rw (by_third i (third_by division i m) (third division i m), each places)

@@ -3,13 +3,13 @@ use Rattle.std.specs.Prelude.{ℕ, ◌≡◌, refl, List, [], ◌∷◌, ◌++�
 use Rattle.coloring.specs.SplineTable.{Table, table_of, kept, declined, refused, outcome, offer}
 
 -- refutes one that takes the lowest free colour: of {0, 2} spline 1 takes 2
-pub takes_2_of_0_and_2 : offer (table_of (1 ∷ 1 ∷ []) (0 ∷ 0 ∷ 0 ∷ 0 ∷ [])) 1 0 1 ≡ outcome (kept 0) (1 ∷ 2 ∷ []) (0 ∷ 1 ∷ 1 ∷ 0 ∷ [])
+pub takes_2_of_0_and_2 : offer (table_of (1 ∷ 1 ∷ []) (0 ∷ 0 ∷ 0 ∷ 0 ∷ [])) 0 1 ≡ outcome (kept 0) (1 ∷ 2 ∷ []) (0 ∷ 1 ∷ 1 ∷ 0 ∷ [])
 unfolding offer
 takes_2_of_0_and_2 = refl
 
 -- refutes one that declines without a walk, or keeps no walk's counter: kept at 1, in new colours
 pub kept_after_a_walk :
-    offer (table_of (2 ∷ 0 ∷ 1 ∷ 1 ∷ []) ((0 ∷ 1 ∷ 1 ∷ 1 ∷ []) ++ (1 ∷ 0 ∷ 1 ∷ 0 ∷ []) ++ (1 ∷ 1 ∷ 0 ∷ 0 ∷ []) ++ (1 ∷ 0 ∷ 0 ∷ 0 ∷ []))) 1 3 2
+    offer (table_of (2 ∷ 0 ∷ 1 ∷ 1 ∷ []) ((0 ∷ 1 ∷ 1 ∷ 1 ∷ []) ++ (1 ∷ 0 ∷ 1 ∷ 0 ∷ []) ++ (1 ∷ 1 ∷ 0 ∷ 0 ∷ []) ++ (1 ∷ 0 ∷ 0 ∷ 0 ∷ []))) 3 2
     ≡ outcome (kept 1) (0 ∷ 1 ∷ 2 ∷ 1 ∷ []) ((0 ∷ 1 ∷ 1 ∷ 1 ∷ []) ++ (1 ∷ 0 ∷ 1 ∷ 0 ∷ []) ++ (1 ∷ 1 ∷ 0 ∷ 1 ∷ []) ++ (1 ∷ 0 ∷ 1 ∷ 0 ∷ []))
 unfolding offer
 kept_after_a_walk = refl
@@ -19,18 +19,18 @@ abbrev nearly_all : List ℕ
 nearly_all = (0 ∷ 0 ∷ 1 ∷ 1 ∷ []) ++ (0 ∷ 0 ∷ 1 ∷ 1 ∷ []) ++ (1 ∷ 1 ∷ 0 ∷ 1 ∷ []) ++ (1 ∷ 1 ∷ 1 ∷ 0 ∷ [])
 
 -- refutes one whose declined offers change a colour: declined at 16, and the table is as it was
-pub declined_at_16 : offer (table_of (2 ∷ 2 ∷ 0 ∷ 1 ∷ []) nearly_all) 1 0 1 ≡ outcome (declined 16) (2 ∷ 2 ∷ 0 ∷ 1 ∷ []) nearly_all
+pub declined_at_16 : offer (table_of (2 ∷ 2 ∷ 0 ∷ 1 ∷ []) nearly_all) 0 1 ≡ outcome (declined 16) (2 ∷ 2 ∷ 0 ∷ 1 ∷ []) nearly_all
 unfolding offer
 declined_at_16 = refl
 
 -- refutes a counter fixed at 16
-pub declined_at_17 : offer (table_of (0 ∷ 0 ∷ 2 ∷ 1 ∷ []) nearly_all) 1 0 1 ≡ outcome (declined 17) (0 ∷ 0 ∷ 2 ∷ 1 ∷ []) nearly_all
+pub declined_at_17 : offer (table_of (0 ∷ 0 ∷ 2 ∷ 1 ∷ []) nearly_all) 0 1 ≡ outcome (declined 17) (0 ∷ 0 ∷ 2 ∷ 1 ∷ []) nearly_all
 unfolding offer
 declined_at_17 = refl
 
 -- refutes one that clears one entry, or leaves a pair that was kept before: both entries of 0 and 1 become 0
 pub declined_clears_both :
-    offer (table_of (0 ∷ 0 ∷ 2 ∷ 1 ∷ []) ((0 ∷ 1 ∷ 1 ∷ 1 ∷ []) ++ (1 ∷ 0 ∷ 1 ∷ 1 ∷ []) ++ (1 ∷ 1 ∷ 0 ∷ 1 ∷ []) ++ (1 ∷ 1 ∷ 1 ∷ 0 ∷ []))) 1 0 1
+    offer (table_of (0 ∷ 0 ∷ 2 ∷ 1 ∷ []) ((0 ∷ 1 ∷ 1 ∷ 1 ∷ []) ++ (1 ∷ 0 ∷ 1 ∷ 1 ∷ []) ++ (1 ∷ 1 ∷ 0 ∷ 1 ∷ []) ++ (1 ∷ 1 ∷ 1 ∷ 0 ∷ []))) 0 1
     ≡ outcome (declined 17) (0 ∷ 0 ∷ 2 ∷ 1 ∷ []) nearly_all
 unfolding offer
 declined_clears_both = refl
@@ -38,7 +38,7 @@ declined_clears_both = refl
 -- refutes one whose lower neighbours wait first: it keeps this offer at 1
 pub upper_wait_first :
     (offer (table_of (0 ∷ 2 ∷ 1 ∷ 1 ∷ 2 ∷ [])
-    ((0 ∷ 1 ∷ 1 ∷ 0 ∷ 1 ∷ []) ++ (1 ∷ 0 ∷ 1 ∷ 1 ∷ 0 ∷ []) ++ (1 ∷ 1 ∷ 0 ∷ 0 ∷ 1 ∷ []) ++ (0 ∷ 1 ∷ 0 ∷ 0 ∷ 0 ∷ []) ++ (1 ∷ 0 ∷ 1 ∷ 0 ∷ 0 ∷ []))) 1 3 2
+    ((0 ∷ 1 ∷ 1 ∷ 0 ∷ 1 ∷ []) ++ (1 ∷ 0 ∷ 1 ∷ 1 ∷ 0 ∷ []) ++ (1 ∷ 1 ∷ 0 ∷ 0 ∷ 1 ∷ []) ++ (0 ∷ 1 ∷ 0 ∷ 0 ∷ 0 ∷ []) ++ (1 ∷ 0 ∷ 1 ∷ 0 ∷ 0 ∷ []))) 3 2
     ).answer
     ≡ kept 2
 unfolding offer
@@ -50,96 +50,41 @@ pub stopped_with_a_free_colour :
     (offer (table_of (0 ∷ 0 ∷ 1 ∷ 0 ∷ 2 ∷ 1 ∷ 2 ∷ [])
     ((0 ∷ 1 ∷ 0 ∷ 0 ∷ 1 ∷ 1 ∷ 0 ∷ []) ++ (1 ∷ 0 ∷ 1 ∷ 0 ∷ 1 ∷ 1 ∷ 0 ∷ []) ++ (0 ∷ 1 ∷ 0 ∷ 0 ∷ 0 ∷ 1 ∷ 1 ∷ [])
     ++ (0 ∷ 0 ∷ 0 ∷ 0 ∷ 0 ∷ 1 ∷ 0 ∷ []) ++ (1 ∷ 1 ∷ 0 ∷ 0 ∷ 0 ∷ 0 ∷ 1 ∷ []) ++ (1 ∷ 1 ∷ 1 ∷ 1 ∷ 0 ∷ 0 ∷ 1 ∷ [])
-    ++ (0 ∷ 0 ∷ 1 ∷ 0 ∷ 1 ∷ 1 ∷ 0 ∷ []))) 1 3 0
+    ++ (0 ∷ 0 ∷ 1 ∷ 0 ∷ 1 ∷ 1 ∷ 0 ∷ []))) 3 0
     ).answer
     ≡ declined 17
 unfolding offer
 stopped_with_a_free_colour = refl
 
 -- refutes one that enters no pair where the colours differ, or recolours there
-pub colors_differ : offer (table_of (0 ∷ 1 ∷ []) (0 ∷ 0 ∷ 0 ∷ 0 ∷ [])) 1 0 1 ≡ outcome (kept 0) (0 ∷ 1 ∷ []) (0 ∷ 1 ∷ 1 ∷ 0 ∷ [])
+pub colors_differ : offer (table_of (0 ∷ 1 ∷ []) (0 ∷ 0 ∷ 0 ∷ 0 ∷ [])) 0 1 ≡ outcome (kept 0) (0 ∷ 1 ∷ []) (0 ∷ 1 ∷ 1 ∷ 0 ∷ [])
 unfolding offer
 colors_differ = refl
-
--- ---- owners
-
--- refutes one whose last owner wins: the pair is the first foundry's and stays so when the second offers it; a zero
--- pair stays one, also where its two colours are equal
-pub first_owner_stays :
-    (offer (table_of (0 ∷ 1 ∷ []) (0 ∷ 1 ∷ 1 ∷ 0 ∷ [])) 2 1 0 ≡ outcome (kept 0) (0 ∷ 1 ∷ []) (0 ∷ 1 ∷ 1 ∷ 0 ∷ []))
-    × (offer (table_of (0 ∷ 1 ∷ []) (0 ∷ 3 ∷ 3 ∷ 0 ∷ [])) 2 0 1 ≡ outcome (kept 0) (0 ∷ 1 ∷ []) (0 ∷ 3 ∷ 3 ∷ 0 ∷ []))
-    × (offer (table_of (0 ∷ 0 ∷ []) (0 ∷ 3 ∷ 3 ∷ 0 ∷ [])) 1 0 1 ≡ outcome (kept 0) (0 ∷ 1 ∷ []) (0 ∷ 3 ∷ 3 ∷ 0 ∷ []))
-unfolding offer
-first_owner_stays = (refl, refl, refl)
-
--- refutes one that writes an owner into one half, or enters 1 whoever offers
-pub owner_in_both_halves : offer (table_of (0 ∷ 1 ∷ []) (0 ∷ 0 ∷ 0 ∷ 0 ∷ [])) 2 0 1 ≡ outcome (kept 0) (0 ∷ 1 ∷ []) (0 ∷ 2 ∷ 2 ∷ 0 ∷ [])
-unfolding offer
-owner_in_both_halves = refl
-
--- the entries of `nearly_all` with owners, and e for the pair of 0 and 1
-abbrev owned : ℕ → List ℕ
-owned e = (0 ∷ e ∷ 3 ∷ 1 ∷ []) ++ (e ∷ 0 ∷ 2 ∷ 3 ∷ []) ++ (3 ∷ 2 ∷ 0 ∷ 1 ∷ []) ++ (1 ∷ 3 ∷ 1 ∷ 0 ∷ [])
-
--- refutes a declined offer that keeps the entry, or leaves its foundry there, and a zero pair that no offer drops; in
--- the second a forced colour meets that of 0 by an entry of 3
-pub declined_clears_owner :
-    (offer (table_of (0 ∷ 0 ∷ 2 ∷ 1 ∷ []) (owned 2)) 1 0 1 ≡ outcome (declined 17) (0 ∷ 0 ∷ 2 ∷ 1 ∷ []) (owned 0))
-    × (offer (table_of (0 ∷ 0 ∷ 2 ∷ 1 ∷ []) (owned 3)) 2 0 1 ≡ outcome (declined 17) (0 ∷ 0 ∷ 2 ∷ 1 ∷ []) (owned 0))
-unfolding offer
-declined_clears_owner = (refl, refl)
-
--- the entries of `kept_after_a_walk` with owners, and e for the pair of 2 and 3
-abbrev walked : ℕ → List ℕ
-walked e = (0 ∷ 3 ∷ 2 ∷ 1 ∷ []) ++ (3 ∷ 0 ∷ 3 ∷ 0 ∷ []) ++ (2 ∷ 3 ∷ 0 ∷ e ∷ []) ++ (1 ∷ 0 ∷ e ∷ 0 ∷ [])
-
--- refutes one for which an entry of 2 or 3 joins no splines: with these owners as with 1 everywhere, the same walk; and
--- one whose last owner wins after a walk
-pub walk_sees_no_owner :
-    (offer (table_of (2 ∷ 0 ∷ 1 ∷ 1 ∷ []) (walked 0)) 2 3 2 ≡ outcome (kept 1) (0 ∷ 1 ∷ 2 ∷ 1 ∷ []) (walked 2))
-    × (offer (table_of (2 ∷ 0 ∷ 1 ∷ 1 ∷ []) (walked 3)) 2 3 2 ≡ outcome (kept 1) (0 ∷ 1 ∷ 2 ∷ 1 ∷ []) (walked 3))
-unfolding offer
-walk_sees_no_owner = (refl, refl)
 
 -- ---- refusals
 
 -- refutes one that enters the pair before it refuses, or takes a spline with itself
-pub refused_unchanged : offer (table_of (0 ∷ 0 ∷ []) (0 ∷ 0 ∷ 0 ∷ 0 ∷ [])) 1 1 1 ≡ outcome (refused 10) (0 ∷ 0 ∷ []) (0 ∷ 0 ∷ 0 ∷ 0 ∷ [])
+pub refused_unchanged : offer (table_of (0 ∷ 0 ∷ []) (0 ∷ 0 ∷ 0 ∷ 0 ∷ [])) 1 1 ≡ outcome (refused 10) (0 ∷ 0 ∷ []) (0 ∷ 0 ∷ 0 ∷ 0 ∷ [])
 unfolding offer
 refused_unchanged = refl
 
 -- refutes another order of the refusals, one that refuses 64 splines, and one that takes a spline that is not there
 pub refusals_in_order :
-    ((offer (table_of (replicate 65 3) []) 1 0 0).answer ≡ refused 4)
-    × ((offer (table_of (replicate 64 3) []) 1 0 0).answer ≡ refused 8)
-    × ((offer (table_of (0 ∷ 0 ∷ []) (0 ∷ 0 ∷ 0 ∷ 0 ∷ [])) 1 0 2).answer ≡ refused 10)
+    ((offer (table_of (replicate 65 3) []) 0 0).answer ≡ refused 4)
+    × ((offer (table_of (replicate 64 3) []) 0 0).answer ≡ refused 8)
+    × ((offer (table_of (0 ∷ 0 ∷ []) (0 ∷ 0 ∷ 0 ∷ 0 ∷ [])) 0 2).answer ≡ refused 10)
 unfolding offer
 refusals_in_order = (refl, refl, refl)
 
--- refutes one that has 13 before 10, of the pair or of the table, takes a foundry 0, 3 or 255, or enters the pair
--- before it refuses
-pub foundry-last :
-    ((offer (table_of (0 ∷ 0 ∷ []) (0 ∷ 0 ∷ 0 ∷ 0 ∷ [])) 0 1 1).answer ≡ refused 10)
-    × ((offer (table_of (0 ∷ 0 ∷ []) (0 ∷ 4 ∷ 4 ∷ 0 ∷ [])) 0 0 1).answer ≡ refused 10)
-    × ((offer (table_of (0 ∷ 0 ∷ []) (0 ∷ 0 ∷ 0 ∷ 0 ∷ [])) 255 0 1).answer ≡ refused 13)
-    × (offer (table_of (0 ∷ 0 ∷ []) (0 ∷ 0 ∷ 0 ∷ 0 ∷ [])) 0 0 1 ≡ outcome (refused 13) (0 ∷ 0 ∷ []) (0 ∷ 0 ∷ 0 ∷ 0 ∷ []))
-    × (offer (table_of (0 ∷ 0 ∷ []) (0 ∷ 0 ∷ 0 ∷ 0 ∷ [])) 3 0 1 ≡ outcome (refused 13) (0 ∷ 0 ∷ []) (0 ∷ 0 ∷ 0 ∷ 0 ∷ []))
-unfolding offer
-foundry-last = (refl, refl, refl, refl, refl)
-
--- refutes one that misses a fault: a colour above 2, an entry above 3, a pair kept one way round, a pair of two owners,
--- a spline that touches itself
+-- refutes one that misses a fault: a colour above 2, an entry above 1, entries that differ both ways round, a spline
+-- that touches itself
 pub bad_tables :
-    map (λ (t : Table). (offer t 1 0 1).answer)
+    map (λ (t : Table). (offer t 0 1).answer)
     (table_of (3 ∷ 0 ∷ []) (0 ∷ 0 ∷ 0 ∷ 0 ∷ [])
-    ∷ table_of (0 ∷ 0 ∷ []) (0 ∷ 4 ∷ 4 ∷ 0 ∷ [])
+    ∷ table_of (0 ∷ 0 ∷ []) (0 ∷ 2 ∷ 2 ∷ 0 ∷ [])
     ∷ table_of (0 ∷ 0 ∷ []) (0 ∷ 1 ∷ 0 ∷ 0 ∷ [])
-    ∷ table_of (0 ∷ 0 ∷ []) (0 ∷ 0 ∷ 1 ∷ 0 ∷ [])
-    ∷ table_of (0 ∷ 0 ∷ []) (0 ∷ 1 ∷ 2 ∷ 0 ∷ [])
-    ∷ table_of (0 ∷ 0 ∷ []) (0 ∷ 3 ∷ 1 ∷ 0 ∷ [])
     ∷ table_of (0 ∷ 0 ∷ []) (1 ∷ 0 ∷ 0 ∷ 0 ∷ [])
-    ∷ table_of (0 ∷ 0 ∷ []) (0 ∷ 0 ∷ 0 ∷ 3 ∷ [])
     ∷ [])
-    ≡ replicate 8 (refused 10)
+    ≡ replicate 4 (refused 10)
 unfolding offer
 bad_tables = refl

@@ -2,7 +2,7 @@
 use Rattle.std.specs.Prelude.{ℕ}
 use Rattle.coloring.specs.declared.refusal.Refusal.{Refusal}
 use Rattle.coloring.specs.declared.refusal.Refusal.TheVariants.{Truncated, UnknownMark, MisplacedMark, TooMany, UnknownKind, BadThreshold}
-use Rattle.coloring.specs.declared.refusal.Refusal.TheVariants.{BadCoordinate, LengthMismatch, BadDistance, BadTable, ResultTooShort, UnknownFoundry}
+use Rattle.coloring.specs.declared.refusal.Refusal.TheVariants.{BadCoordinate, LengthMismatch, BadDistance, BadTable, ResultTooShort}
 
 abbrev pub refusal_number : Refusal → ℕ
 refusal_number Truncated = 1
@@ -16,4 +16,3 @@ refusal_number LengthMismatch = 8
 refusal_number BadDistance = 9
 refusal_number BadTable = 10
 refusal_number ResultTooShort = 11
-refusal_number UnknownFoundry = 13

@@ -1,16 +1,12 @@
--- Lists of offers of two foundries, most of them to tables with a clash, computed from the definition.
+-- Lists of offers to tables with a clash, computed from the definition.
 use Rattle.std.specs.Prelude.{ℕ, ◌≡◌, refl, true, false, List, [], ◌∷◌, ◌++◌}
 use Rattle.std.proofs.Common.{arith, ap}
 use Rattle.std.proofs.lemmas.Bool.{false≢true}
-use Rattle.coloring.specs.SplineTable.{Table, table_of, OfferAnswer, kept, declined, refused, first_owner, offer}
-use Rattle.coloring.specs.Sequence.{PairOffer, Run, run, first_kept, FirstOwners, owner_after, strike, MayStrike, WhenOffered, NoneKept, Strikable}
+use Rattle.coloring.specs.SplineTable.{Table, table_of, OfferAnswer, kept, declined, refused, offer}
+use Rattle.coloring.specs.Sequence.{Pair, Run, run, strike, MayStrike, WhenOffered, NoneKept, Strikable}
 
-abbrev by : ℕ → ℕ → ℕ → PairOffer
-by foundry a b = record { foundry = foundry; pair = record { a = a; b = b } }
-
--- by the first foundry
-abbrev first : ℕ → ℕ → PairOffer
-first a b = by 1 a b
+abbrev pair : ℕ → ℕ → Pair
+pair a b = record { a = a; b = b }
 
 abbrev ends : List OfferAnswer → Table → Run
 ends answers t = record { answers = answers; table = t }
@@ -25,19 +21,19 @@ four_touch =
 
 -- 0 and 1 are offered: declined, and their pair is dropped. Then 4 and 0 are kept.
 pub dropped_then_kept :
-    run four_touch (first 0 1 ∷ first 4 0 ∷ [])
+    run four_touch (pair 0 1 ∷ pair 4 0 ∷ [])
     ≡ ends (declined 17 ∷ kept 1 ∷ []) (table_of (1 ∷ 1 ∷ 0 ∷ 2 ∷ 0 ∷ [])
     ((0 ∷ 0 ∷ 1 ∷ 1 ∷ 1 ∷ []) ++ (0 ∷ 0 ∷ 1 ∷ 1 ∷ 0 ∷ []) ++ (1 ∷ 1 ∷ 0 ∷ 1 ∷ 0 ∷ []) ++ (1 ∷ 1 ∷ 1 ∷ 0 ∷ 0 ∷ []) ++ (1 ∷ 0 ∷ 0 ∷ 0 ∷ 0 ∷ [])))
 unfolding run offer
 dropped_then_kept = refl
 
 -- with the declined offer struck, 4 and 0 are declined
-pub struck_then_declined : run four_touch (strike (true ∷ false ∷ []) (first 0 1 ∷ first 4 0 ∷ [])) ≡ ends (declined 17 ∷ []) four_touch
+pub struck_then_declined : run four_touch (strike (true ∷ false ∷ []) (pair 0 1 ∷ pair 4 0 ∷ [])) ≡ ends (declined 17 ∷ []) four_touch
 unfolding run offer strike
 struck_then_declined = refl
 
 -- so that not every list may be struck: here the offer that drops its pair must stay
-pub not_strikable : ¬ Strikable four_touch (first 0 1 ∷ first 4 0 ∷ [])
+pub not_strikable : ¬ Strikable four_touch (pair 0 1 ∷ pair 4 0 ∷ [])
 unfolding run offer strike MayStrike
 not_strikable may =
     let same = may (true ∷ false ∷ []) (λ e. refl, (λ e. absurd (false≢true e), tt)) in
@@ -55,13 +51,13 @@ one_clash =
 -- refutes one that refuses or declines whatever is offered to a table with a clash. The declined offer and the refused
 -- one can be left out,
 pub answered_beside_a_clash :
-    ((run one_clash (first 2 3 ∷ first 2 2 ∷ first 4 1 ∷ [])).answers ≡ declined 16 ∷ refused 10 ∷ kept 0 ∷ [])
-    × (run one_clash (first 4 1 ∷ []) ≡ ends (kept 0 ∷ []) (run one_clash (first 2 3 ∷ first 2 2 ∷ first 4 1 ∷ [])).table)
+    ((run one_clash (pair 2 3 ∷ pair 2 2 ∷ pair 4 1 ∷ [])).answers ≡ declined 16 ∷ refused 10 ∷ kept 0 ∷ [])
+    × (run one_clash (pair 4 1 ∷ []) ≡ ends (kept 0 ∷ []) (run one_clash (pair 2 3 ∷ pair 2 2 ∷ pair 4 1 ∷ [])).table)
 unfolding run offer
 answered_beside_a_clash = (refl, refl)
 
 -- since none of the three pairs is kept when it is offered
-pub none_kept_beside_a_clash : NoneKept one_clash (first 2 3 ∷ first 2 2 ∷ first 4 1 ∷ [])
+pub none_kept_beside_a_clash : NoneKept one_clash (pair 2 3 ∷ pair 2 2 ∷ pair 4 1 ∷ [])
 unfolding WhenOffered offer
 none_kept_beside_a_clash = (λ k. k.there.1 refl, (λ k. k.different refl, (λ k. k.there.1 refl, tt)))
 
@@ -69,50 +65,13 @@ none_kept_beside_a_clash = (λ k. k.there.1 refl, (λ k. k.different refl, (λ k
 pub clash_stays :
     run (table_of (0 ∷ 2 ∷ 2 ∷ 1 ∷ 0 ∷ [])
     ((0 ∷ 1 ∷ 0 ∷ 1 ∷ 0 ∷ []) ++ (1 ∷ 0 ∷ 1 ∷ 0 ∷ 0 ∷ []) ++ (0 ∷ 1 ∷ 0 ∷ 0 ∷ 0 ∷ []) ++ (1 ∷ 0 ∷ 0 ∷ 0 ∷ 0 ∷ []) ++ (0 ∷ 0 ∷ 0 ∷ 0 ∷ 0 ∷ [])))
-    (first 4 0 ∷ [])
+    (pair 4 0 ∷ [])
     ≡ ends (kept 0 ∷ []) (table_of (1 ∷ 2 ∷ 2 ∷ 2 ∷ 0 ∷ [])
     ((0 ∷ 1 ∷ 0 ∷ 1 ∷ 1 ∷ []) ++ (1 ∷ 0 ∷ 1 ∷ 0 ∷ 0 ∷ []) ++ (0 ∷ 1 ∷ 0 ∷ 0 ∷ 0 ∷ []) ++ (1 ∷ 0 ∷ 0 ∷ 0 ∷ 0 ∷ []) ++ (1 ∷ 0 ∷ 0 ∷ 0 ∷ 0 ∷ [])))
 unfolding run offer
 clash_stays = refl
 
 -- refutes one that takes a kept pair for settled: 0 and 1 are kept and clash; offered, they get two colours
-pub clash_goes : run (table_of (0 ∷ 0 ∷ []) (0 ∷ 1 ∷ 1 ∷ 0 ∷ [])) (first 0 1 ∷ []) ≡ ends (kept 0 ∷ []) (table_of (0 ∷ 1 ∷ []) (0 ∷ 1 ∷ 1 ∷ 0 ∷ []))
+pub clash_goes : run (table_of (0 ∷ 0 ∷ []) (0 ∷ 1 ∷ 1 ∷ 0 ∷ [])) (pair 0 1 ∷ []) ≡ ends (kept 0 ∷ []) (table_of (0 ∷ 1 ∷ []) (0 ∷ 1 ∷ 1 ∷ 0 ∷ []))
 unfolding run offer
 clash_goes = refl
-
--- ---- owners
-
--- Three splines, of which 0 and 1 are a zero pair. Refutes one whose last owner wins, in which an offer that is refused
--- counts as the first, or that keeps a foundry's pair from the other: the zero pair stays one; the pair of 1 and 2 is
--- the second foundry's, whose offer was the first to be kept.
-pub joint_list :
-    run (table_of (0 ∷ 1 ∷ 0 ∷ []) ((0 ∷ 3 ∷ 0 ∷ []) ++ (3 ∷ 0 ∷ 0 ∷ []) ++ (0 ∷ 0 ∷ 0 ∷ [])))
-    (by 1 1 0 ∷ by 3 2 1 ∷ by 2 2 1 ∷ by 1 1 2 ∷ by 1 0 2 ∷ [])
-    ≡ ends (kept 0 ∷ refused 13 ∷ kept 0 ∷ kept 0 ∷ kept 0 ∷ []) (table_of (0 ∷ 1 ∷ 2 ∷ [])
-    ((0 ∷ 3 ∷ 1 ∷ []) ++ (3 ∷ 0 ∷ 2 ∷ []) ++ (1 ∷ 2 ∷ 0 ∷ [])))
-unfolding run offer
-joint_list = refl
-
--- a pair that is dropped and kept again has another owner: 0 and 3 clash
-abbrev owned_clash : Table
-owned_clash =
-    table_of (0 ∷ 2 ∷ 1 ∷ 0 ∷ 1 ∷ [])
-    ((0 ∷ 1 ∷ 1 ∷ 1 ∷ 1 ∷ []) ++ (1 ∷ 0 ∷ 0 ∷ 0 ∷ 1 ∷ []) ++ (1 ∷ 0 ∷ 0 ∷ 1 ∷ 2 ∷ []) ++ (1 ∷ 0 ∷ 1 ∷ 0 ∷ 1 ∷ []) ++ (1 ∷ 1 ∷ 2 ∷ 1 ∷ 0 ∷ []))
-
--- the first foundry offers them, declined; the second, kept: what was the first one's ends as the second one's
-pub dropped_changes_owner :
-    run owned_clash (by 1 3 0 ∷ by 2 0 3 ∷ [])
-    ≡ ends (declined 17 ∷ kept 0 ∷ []) (table_of (0 ∷ 2 ∷ 1 ∷ 2 ∷ 1 ∷ [])
-    ((0 ∷ 1 ∷ 1 ∷ 2 ∷ 1 ∷ []) ++ (1 ∷ 0 ∷ 0 ∷ 0 ∷ 1 ∷ []) ++ (1 ∷ 0 ∷ 0 ∷ 1 ∷ 2 ∷ []) ++ (2 ∷ 0 ∷ 1 ∷ 0 ∷ 1 ∷ []) ++ (1 ∷ 1 ∷ 2 ∷ 1 ∷ 0 ∷ [])))
-unfolding run offer
-dropped_changes_owner = refl
-
--- as it follows from the answers
-pub dropped_owner_follows : owner_after (by 1 3 0 ∷ by 2 0 3 ∷ []) (declined 17 ∷ kept 0 ∷ []) 0 3 1 ≡ 2
-unfolding owner_after first_owner
-dropped_owner_follows = refl
-
--- so that first owners are not said of every table
-pub not_first_owners : ¬ FirstOwners owned_clash (by 1 3 0 ∷ by 2 0 3 ∷ [])
-unfolding run offer first_kept first_owner
-not_first_owners owners = let z : ◌≡◌ {A = ℕ} 2 1 = owners 0 3 (omega arith) (omega arith) in omega arith

@@ -123,12 +123,12 @@ module _ (contour : Cornered) where
       ∙ ap (λ n. 3 * n) (length-rotate (first_corner contour.corners) contour.edges)
 
   module _ (l : length contour.corners ≡ length contour.edges) where
-    by-split : (b : Bool) → splits contour.corners ≡ b → length (layout contour).edges ≡ result_edges contour.corners
-    by-split true e = rw (layout-split e, edges-split contour.corners e) (split-length ∙ ap (λ n. 3 * n) (sym l))
-    by-split false e = rw (layout_same e, edges_same contour.corners e) (sym l)
+    by_split : (b : Bool) → splits contour.corners ≡ b → length (layout contour).edges ≡ result_edges contour.corners
+    by_split true e = rw (layout-split e, edges-split contour.corners e) (split-length ∙ ap (λ n. 3 * n) (sym l))
+    by_split false e = rw (layout_same e, edges_same contour.corners e) (sym l)
 
     pub layout-length : length (layout contour).edges ≡ result_edges contour.corners
-    layout-length = by-split (splits contour.corners) refl
+    layout-length = by_split (splits contour.corners) refl
 
     flags_by_split : (b : Bool) → splits contour.corners ≡ b → length (layout contour).corners ≡ length (layout contour).edges
     unfolding split_contour first_only
@@ -233,13 +233,13 @@ unfolding total
 few [] = all_split (omega arith) (omega arith)
 few (flags ∷ rest) = few-more flags (length rest) (total (sizes rest)) (total (map result_edges rest)) (splits flags) refl (few rest)
 
-by-few : (contours edges out : ℕ) → Few contours edges out → contours ≤ max_contours → edges ≤ max_edges → out ≤ max_result_edges
-by-few contours edges out (all_split h k) c e = omega arith
-by-few contours edges out (one_not h) c e = omega arith
+by_few : (contours edges out : ℕ) → Few contours edges out → contours ≤ max_contours → edges ≤ max_edges → out ≤ max_result_edges
+by_few contours edges out (all_split h k) c e = omega arith
+by_few contours edges out (one_not h) c e = omega arith
 
 pub edges_most : (contours : List (List Bool)) → length contours ≤ max_contours
     → total (sizes contours) ≤ max_edges → total (map result_edges contours) ≤ max_result_edges
-edges_most contours c e = by-few (length contours) (total (sizes contours)) (total (map result_edges contours)) (few contours) c e
+edges_most contours c e = by_few (length contours) (total (sizes contours)) (total (map result_edges contours)) (few contours) c e
 
 -- ---- a whole result
 

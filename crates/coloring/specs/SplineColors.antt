@@ -6,8 +6,8 @@ use Rattle.std.specs.Float.Ieee.{eq}
 use Rattle.math.specs.Scalar.{f0}
 use Rattle.coloring.specs.Limits.{max_splines, max_distances}
 use Rattle.coloring.specs.Answers.{Answer, refusal, Check, all_pass, unless, in_order}
-use Rattle.coloring.specs.SplineTable.{Table, table_of, enter_pair, zero_pair, sound}
-use Rattle.coloring.specs.Sequence.{Pair, PairOffer, Run, run}
+use Rattle.coloring.specs.SplineTable.{Table, table_of, enter_pair, sound}
+use Rattle.coloring.specs.Sequence.{Pair, Run, run}
 use Rattle.coloring.specs.PairOrder.{distances_valid, ValidDistances, SplinePair, pair_order}
 use Rattle.coloring.specs.PairNumbers.{Each, Below, Two, pair_at, InOrder}
 use Rattle.coloring.specs.SecondDegree.{color_second_degree_graph}
@@ -33,7 +33,7 @@ other_pairs (p ∷ order) = elim (is_zero p) [ true ↦ other_pairs order | fals
 -- each pair entered, without an offer
 unfoldable pub enter_pairs : ℕ → List Pair → List ℕ → List ℕ
 enter_pairs n [] edge_matrix = edge_matrix
-enter_pairs n (p ∷ pairs) edge_matrix = enter_pairs n pairs (enter_pair n edge_matrix p.a p.b zero_pair)
+enter_pairs n (p ∷ pairs) edge_matrix = enter_pairs n pairs (enter_pair n edge_matrix p.a p.b 1)
 
 -- ---- the colours
 
@@ -43,10 +43,6 @@ unfolding enter_pairs color_second_degree_graph
 start_table n zeros seed =
     let edge_matrix = enter_pairs n zeros (replicate (n * n) 0) in
     table_of (color_second_degree_graph n edge_matrix seed) edge_matrix
-
--- the offers of the colouring itself count as the first foundry's
-abbrev pub own_offers : List Pair → List PairOffer
-own_offers pairs = map (λ p. record { foundry = 1; pair = p }) pairs
 
 -- the table at the start, and the answers to the offers of the other pairs in order, with the table after the last
 pub record Offers : Type 0 where
@@ -59,7 +55,7 @@ unfolding pair_order zero_pairs other_pairs start_table run
 offer_splines n distances seed =
     let order = pair_order n distances in
     let start = start_table n (zero_pairs order) seed in
-    record { start = start; pairs = other_pairs order; ends = run start (own_offers (other_pairs order)) }
+    record { start = start; pairs = other_pairs order; ends = run start (other_pairs order) }
 
 -- the splines' colours
 abbrev pub color_splines : ℕ → List Float → ℕ → List ℕ

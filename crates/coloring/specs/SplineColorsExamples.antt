@@ -1,6 +1,6 @@
 -- Worked examples of by-distance colouring without outlines, computed from the definitions. Each says which wrong
 -- program it refutes.
-use Rattle.std.specs.Prelude.{◌≡◌, refl, true, false, List, [], ◌∷◌, ◌++◌, map, ℕ, Float, pos, replicate}
+use Rattle.std.specs.Prelude.{◌≡◌, refl, true, false, List, [], ◌∷◌, map, ℕ, Float, pos, replicate}
 use Rattle.std.specs.Float.Ieee as Ieee
 use Rattle.std.specs.Float.{nan, inf, fin}
 use Rattle.math.specs.Scalar.{f0, f1}
@@ -37,14 +37,6 @@ pub square_answers :
     × ((offer_splines 4 square_distances 0).ends.answers ≡ (kept 0 ∷ declined 16 ∷ []))
 unfolding offer_splines offer Ieee.lt Ieee.eq Ieee.of_bits
 square_answers = (refl, refl)
-
--- refutes zero pairs that are entered for a foundry, and a declined pair that stays: those beside are zero pairs, that
--- of 0 and 2 is the first foundry's
-pub square_owners :
-    (offer_splines 4 square_distances 0).ends.table.edge_matrix
-    ≡ ((0 ∷ 3 ∷ 1 ∷ 3 ∷ []) ++ (3 ∷ 0 ∷ 3 ∷ 0 ∷ []) ++ (1 ∷ 3 ∷ 0 ∷ 3 ∷ []) ++ (3 ∷ 0 ∷ 3 ∷ 0 ∷ []))
-unfolding offer_splines offer Ieee.lt Ieee.eq Ieee.of_bits
-square_owners = refl
 
 -- ---- the order
 

@@ -1,6 +1,6 @@
 -- One offer of a pair to a spline table, after `try_add_edge` of coloring/by_distance.rs (SCOPE, Offers), with the
--- checks before it. Against the source an entry counts only as 0 or not 0; whose a kept pair is decides nothing.
-use Rattle.std.specs.Prelude.{Bool, true, false, not, ◌&&◌, ◌||◌, cond, List, [], ◌∷◌, map, ℕ, zero, suc, ◌+◌, ◌*◌, length, get_or, set, leb, ltb, eqb}
+-- checks before it.
+use Rattle.std.specs.Prelude.{Bool, true, false, not, ◌&&◌, List, [], ◌∷◌, ℕ, zero, suc, ◌+◌, ◌*◌, length, get_or, set, leb, ltb, eqb}
 use Rattle.coloring.specs.Recolor.{row, vertex_possible_colors, first_possible_color, Walk, recolored, stopped, recolor}
 use Rattle.coloring.specs.Answers.{Check, unless, in_order}
 use Rattle.coloring.specs.Limits.{max_splines}
@@ -8,8 +8,7 @@ use Rattle.coloring.specs.Refusal.{refusal_number}
 use Rattle.coloring.specs.declared.spline_table.Offer.{Offer}
 use Rattle.coloring.specs.declared.spline_table.Offer.TheVariants.{Kept, Declined, Refused}
 
--- A spline table: the colour of each spline, and for n splines n × n entries by rows: 0, or the owner of a pair that is
--- kept.
+-- A spline table: the colour of each spline, and for n splines n × n entries by rows, not 0 where a pair is kept.
 pub record Table : Type 0 where
   pub coloring : List ℕ
   pub edge_matrix : List ℕ
@@ -46,23 +45,6 @@ entry n edge_matrix i j = get_or edge_matrix (i * n + j) 0
 abbrev pub enter_pair : ℕ → List ℕ → ℕ → ℕ → ℕ → List ℕ
 enter_pair n edge_matrix a b e = set (set edge_matrix (a * n + b) e) (b * n + a) e
 
--- ---- owners: 1 and 2 are the foundries, 3 stands for a zero pair
-
-abbrev pub zero_pair : ℕ
-zero_pair = 3
-
--- whether there is such a foundry
-abbrev pub is_foundry : ℕ → Bool
-is_foundry foundry = eqb foundry 1 || eqb foundry 2
-
--- the owner that a pair has already, or else the foundry
-unfoldable pub first_owner : ℕ → ℕ → ℕ
-first_owner owner foundry = cond (eqb owner 0) foundry owner
-
--- a pair entered for a foundry
-abbrev pub enter_for : ℕ → List ℕ → ℕ → ℕ → ℕ → List ℕ
-enter_for n edge_matrix a b foundry = enter_pair n edge_matrix a b (first_owner (entry n edge_matrix a b) foundry)
-
 -- ---- the rule
 
 -- what a walk leaves: its colours, with the pair entered; or the colours as they were, without it
@@ -75,13 +57,13 @@ unfoldable pub walked_on : List ℕ → List ℕ → ℕ → ℕ → Offered
 unfolding recolor
 walked_on coloring edge_matrix a b = settled (recolor coloring edge_matrix a b) coloring edge_matrix a b
 
--- `try_add_edge` of a foundry for two different splines a and b of a sound table
-unfoldable pub try_add_edge : Table → ℕ → ℕ → ℕ → Offered
-unfolding first_owner row vertex_possible_colors first_possible_color walked_on
-try_add_edge t foundry a b =
+-- `try_add_edge` for two different splines a and b of a sound table
+unfoldable pub try_add_edge : Table → ℕ → ℕ → Offered
+unfolding row vertex_possible_colors first_possible_color walked_on
+try_add_edge t a b =
     let n = length t.coloring in
     let coloring = t.coloring in
-    let edge_matrix = enter_for n t.edge_matrix a b foundry in
+    let edge_matrix = enter_pair n t.edge_matrix a b 1 in
     let possible = vertex_possible_colors coloring (row n edge_matrix b) in
     elim (eqb (get_or coloring a 0) (get_or coloring b 0)) [
       | false ↦ outcome (kept 0) coloring edge_matrix
@@ -92,49 +74,35 @@ try_add_edge t foundry a b =
           ]
     ]
 
--- ---- the checks, in the order of SCOPE, Refusals: 4, 8, 10, 13
+-- ---- the checks, in the order of SCOPE, Refusals: 4, 8, 10
 
 -- whether a test passes at each number below n
 unfoldable pub all_below : ℕ → (ℕ → Bool) → Bool
 all_below zero test = true
 all_below (suc n) test = all_below n test && test n
 
--- colours 0 to 2; entries 0 to 3, the same both ways round, and 0 of a spline with itself
+-- colours 0 to 2; entries 0 or 1, the same both ways round, and 0 of a spline with itself
 unfoldable pub sound : Table → Bool
 unfolding all_below
 sound t =
     let n = length t.coloring in
     all_below n (λ i. leb (get_or t.coloring i 0) 2
-    && all_below n (λ j. leb (entry n t.edge_matrix i j) 3 && eqb (entry n t.edge_matrix i j) (entry n t.edge_matrix j i))
+    && all_below n (λ j. leb (entry n t.edge_matrix i j) 1 && eqb (entry n t.edge_matrix i j) (entry n t.edge_matrix j i))
     && eqb (entry n t.edge_matrix i i) 0)
 
-unfoldable pub check_offer : Table → ℕ → ℕ → ℕ → List Check
+unfoldable pub check_offer : Table → ℕ → ℕ → List Check
 unfolding sound
-check_offer t foundry a b =
+check_offer t a b =
     let n = length t.coloring in
     unless 4 (leb n max_splines)
     ∷ unless 8 (eqb (length t.edge_matrix) (n * n))
     ∷ unless 10 (sound t && ltb a n && ltb b n && not (eqb a b))
-    ∷ unless 13 (is_foundry foundry)
     ∷ []
 
--- what a foundry's offer of a and b to two buffers does: the first refusal with the buffers as they came, or the rule
-unfoldable pub offer : Table → ℕ → ℕ → ℕ → Offered
+-- what an offer of a and b to two buffers does: the first refusal with the buffers as they came, or the rule
+unfoldable pub offer : Table → ℕ → ℕ → Offered
 unfolding in_order check_offer try_add_edge
-offer t foundry a b = in_order (check_offer t foundry a b) (λ number. record { answer = refused number; table = t }) (try_add_edge t foundry a b)
-
--- ---- owners erased
-
--- every owner is made 1, as the source has it
-abbrev pub erase_owner : ℕ → ℕ
-erase_owner owner = cond (eqb owner 0) 0 1
-
-abbrev pub erase : Table → Table
-erase t = table_of t.coloring (map erase_owner t.edge_matrix)
-
--- the answer to an offer, and such a table afterwards
-abbrev pub erase_offered : Offered → Offered
-erase_offered o = record { answer = o.answer; table = erase o.table }
+offer t a b = in_order (check_offer t a b) (λ number. record { answer = refused number; table = t }) (try_add_edge t a b)
 
 -- ---- what the checks of the code promise each other
 

@@ -27,10 +27,10 @@ dotted =
 
 -- by contour: both ends of the line, none of the true one; the end of the quadratic, both of the cubic. Refutes one
 -- that counts once an edge (1, 0, 2), starts only (1, 0, 1), a true (0, 1) too (4, 0, 3), or tests the vector (0, 0, 2)
-pub by-contour : map (λ edges. (search_corners eighth edges).stand_ins) (contours dotted) ≡ (2 ∷ 0 ∷ 3 ∷ [])
+pub by_contour : map (λ edges. (search_corners eighth edges).stand_ins) (contours dotted) ≡ (2 ∷ 0 ∷ 3 ∷ [])
 unfolding search_corners contours quadratic_direction quadratic_tangent cubic_direction cubic_tangent vmix from_stored add sub mul_scalar is_nonzero normalize length_of
     squared_length div_scalar sqrt_of Ieee.add Ieee.sub Ieee.mul Ieee.div Ieee.neg Ieee.ne Ieee.eq Ieee.of_bits
-by-contour = refl
+by_contour = refl
 
 abbrev room : Result
 room = result (replicate 3 9) (replicate 8 9) (replicate 64 n1) (replicate 8 9)

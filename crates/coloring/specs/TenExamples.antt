@@ -1,6 +1,6 @@
 -- P1 to P10 (SCOPE, Examples) as one list, which one theorem proves. Each member is computed where its definitions
 -- stand.
-use Rattle.std.specs.Prelude.{◌≡◌, true, false, [], ◌∷◌, ◌++◌, pos, negsuc}
+use Rattle.std.specs.Prelude.{◌≡◌, true, false, [], ◌∷◌, pos, negsuc}
 use Rattle.std.specs.Float.{fin, binary64}
 use Rattle.std.specs.Float.Ieee.{of_bits}
 use Rattle.math.specs.Sqrt.{sqrt_of}
@@ -12,7 +12,7 @@ use Rattle.geometry.specs.declared.edge_color.EdgeColor.TheVariants.{Yellow, Mag
 use Rattle.geometry.specs.declared.edge_segment.EdgeSegment.TheVariants.{Line}
 use Rattle.coloring.specs.SplineTable.{kept, declined}
 use Rattle.coloring.specs.SplineColors.{offer_splines, color_splines}
-use Rattle.coloring.specs.SplineColorsExamples.{square_distances, square_colors, square_answers, square_owners}
+use Rattle.coloring.specs.SplineColorsExamples.{square_distances, square_colors, square_answers}
 use Rattle.coloring.specs.EdgeColoring.{edge_coloring_simple, edge_coloring_ink_trap, collect_splines, edge_coloring_by_distance}
 use Rattle.coloring.specs.Examples.{trichotomies, trichotomy_of_3, trichotomy_of_5, trichotomy_of_47, after_cyan, switches_of_cyan}
 use Rattle.coloring.specs.Examples.{square_outline, four_edges, eighth, simple_square, ink_trap_square}
@@ -32,14 +32,12 @@ pub record TenExamples : Type 0 where
       ((edge_coloring_simple square_outline eighth 0 four_edges).buffers.colors ≡ (5 ∷ 3 ∷ 6 ∷ 3 ∷ []))
       × ((edge_coloring_ink_trap square_outline eighth 0 four_edges).buffers.colors ≡ (5 ∷ 3 ∷ 6 ∷ 3 ∷ []))
   -- its four splines, distance 0 beside and 1 across, seed 0: spline colours 0, 1, 2, 1; pair (0, 2) kept, (1, 3)
-  -- declined with counter 16; the table then, with the owners; edges 3, 6, 5, 6
+  -- declined with counter 16; edges 3, 6, 5, 6
   pub p7 :
       ((collect_splines square_outline eighth four_edges).buffers.colors ≡ (0 ∷ 1 ∷ 2 ∷ 3 ∷ []))
       × (color_splines 4 square_distances 0 ≡ (0 ∷ 1 ∷ 2 ∷ 1 ∷ []))
       × ((offer_splines 4 square_distances 0).pairs ≡ (record { a = 0; b = 2 } ∷ record { a = 1; b = 3 } ∷ []))
       × ((offer_splines 4 square_distances 0).ends.answers ≡ (kept 0 ∷ declined 16 ∷ []))
-      × ((offer_splines 4 square_distances 0).ends.table.edge_matrix
-      ≡ ((0 ∷ 3 ∷ 1 ∷ 3 ∷ []) ++ (3 ∷ 0 ∷ 3 ∷ 0 ∷ []) ++ (1 ∷ 3 ∷ 0 ∷ 3 ∷ []) ++ (3 ∷ 0 ∷ 3 ∷ 0 ∷ [])))
       × ((edge_coloring_by_distance square_outline eighth 0 square_distances four_edges).buffers.colors ≡ (3 ∷ 6 ∷ 5 ∷ 6 ∷ []))
   -- the line (0, 0) to (3, 0) splits at x = 1 and 2 exactly; a line from (−0, 0) to (3, 0) splits with first x +0
   pub p8 : split_in_thirds (Line (new n0 n0) (new n3 n0)) ≡ unit_lines
@@ -55,7 +53,7 @@ ten_examples = record {
   p4 = root_examples;
   p5 = switches_of_cyan;
   p6 = (simple_square, ink_trap_square);
-  p7 = (square_edges.0, square_colors, square_answers.0, square_answers.1, square_owners, square_edges.1);
+  p7 = (square_edges.0, square_colors, square_answers.0, square_answers.1, square_edges.1);
   p8 = split_exactly;
   p9 = split_from_negative_zero;
   p10 = tiny-direction;

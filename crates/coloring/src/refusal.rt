@@ -27,8 +27,6 @@ pub enum Refusal {
     BadTable,
     // 11, "short tray": the result would not fit
     ResultTooShort,
-    // 13, "no such foundry"
-    UnknownFoundry,
 }
 
 impl Refusal {
@@ -48,7 +46,6 @@ impl Refusal {
             Refusal::BadDistance => 9,
             Refusal::BadTable => 10,
             Refusal::ResultTooShort => 11,
-            Refusal::UnknownFoundry => 13,
         }
     }
 }

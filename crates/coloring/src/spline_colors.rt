@@ -7,14 +7,14 @@ ghost use Rattle.coloring.specs.PairOrder.{ValidDistances, pair_order};
 ghost use Rattle.coloring.specs.PairNumbers.{Below, pair_at};
 ghost use Rattle.coloring.specs.Answers.{checked_answer, first_refusal};
 ghost use Rattle.coloring.specs.Limits.{max_splines};
-ghost use Rattle.coloring.specs.SplineColors.{zero_pairs, other_pairs, enter_pairs, own_offers, color_splines, OfferableAll, Ordered};
+ghost use Rattle.coloring.specs.SplineColors.{zero_pairs, other_pairs, enter_pairs, color_splines, OfferableAll, Ordered};
 ghost use Rattle.coloring.specs.SplineColors.{check_splines, splines_colored, color_splines_into};
 
 use crate::limits::{MAX_DISTANCES, MAX_ENTRIES, MAX_SPLINES, PAIR_BASE};
 use crate::pair_order::{distance_at, distances_valid, order_pairs};
 use crate::refusal::{Checked, Refusal};
 use crate::second_degree::color_second_degree_graph;
-use crate::spline_table::{FIRST_FOUNDRY, ZERO_PAIR, enter_pair, try_add_edge_unchecked};
+use crate::spline_table::{enter_pair, try_add_edge_unchecked};
 
 // The code of the pair at place k of the order.
 fn code_at(codes: &[u16], order: &[u16], k: usize) -> u16
@@ -46,7 +46,7 @@ fn enter_zero_pairs(
         let code = code_at(codes, order, k);
         let a = (code / PAIR_BASE) as usize;
         let b = (code % PAIR_BASE) as usize;
-        enter_pair(edge_matrix, n, a, b, ZERO_PAIR);
+        enter_pair(edge_matrix, n, a, b, 1);
         k += 1;
     }
     k
@@ -63,14 +63,14 @@ fn offer_pairs(
     requires { OfferableAll coloring.old edge_matrix.old codes.now order.now }
     ensures { table_of coloring.new edge_matrix.new
         ≡ (run (table_of coloring.old edge_matrix.old)
-        (own_offers (map (pair_at codes.now) (drop from order.now)))).table }
+        (map (pair_at codes.now) (drop from order.now))).table }
 {
     let mut k = from;
     while k < order.len() {
         let code = code_at(codes, order, k);
         let a = (code / PAIR_BASE) as usize;
         let b = (code % PAIR_BASE) as usize;
-        try_add_edge_unchecked(coloring, edge_matrix, FIRST_FOUNDRY, a, b);
+        try_add_edge_unchecked(coloring, edge_matrix, a, b);
         k += 1;
     }
 }

@@ -1,21 +1,13 @@
-// The spline table of coloring/by_distance.rs: one offer of a pair of splines. A table is two buffers: the colour of
-// each of n splines, and n × n entries by rows, 0 or the owner of a pair that is kept.
+// The spline table of coloring/by_distance.rs: one offer of a pair of splines. A table is two
+// buffers: the colour of each of n splines, and n × n entries by rows, 1 where a pair is kept.
 ghost use Rattle.std.specs.Prelude.{◌≡◌, ◌+◌, ◌*◌, ◌<◌, length};
 ghost use Rattle.coloring.specs.Recolor.{Offerable};
 ghost use Rattle.coloring.specs.SplineTable as defined;
-ghost use Rattle.coloring.specs.SplineTable.{offer_answer, table_of, outcome, is_foundry, first_owner, enter_pair, enter_for, walked_on, try_add_edge};
-ghost use Rattle.coloring.specs.SplineTable.{at_most, mirrored, symmetric, sound, offer};
+ghost use Rattle.coloring.specs.SplineTable.{offer_answer, table_of, outcome, walked_on, enter_pair, try_add_edge, at_most, mirrored, symmetric, sound, offer};
 
 use crate::limits::MAX_SPLINES;
 use crate::recolor::{Walked, first_possible_color, recolor, row, vertex_possible_colors};
 use crate::refusal::Refusal;
-
-// Owners of a pair: one of two foundries whose offer was kept, or neither, since the pair is at distance zero.
-pub const FIRST_FOUNDRY: u8 = 1;
-
-pub const SECOND_FOUNDRY: u8 = 2;
-
-pub const ZERO_PAIR: u8 = 3;
 
 // What became of an offer. The number is the counter of the walk, 0 where there was none.
 #[derive(Drop)]
@@ -32,30 +24,6 @@ pub(crate) fn enter_pair(edge_matrix: &mut [u8], n: usize, a: usize, b: usize, e
 {
     edge_matrix[a * n + b] = e;
     edge_matrix[b * n + a] = e;
-}
-
-// The owner that a pair has already, or else the foundry.
-fn first_owner(owner: u8, foundry: u8) -> u8
-    ensures { result ≡ first_owner owner foundry }
-{
-    if owner == 0 { foundry } else { owner }
-}
-
-// The entry of spline j in the row of spline i.
-fn entry(edge_matrix: &[u8], n: usize, i: usize, j: usize) -> u8
-    requires { i * n + j < length edge_matrix.now }
-    ensures { result ≡ defined.entry n edge_matrix.now i j }
-{
-    edge_matrix[i * n + j]
-}
-
-// Enters a pair for a foundry. Its owner is read before anything is entered.
-fn enter_for(edge_matrix: &mut [u8], n: usize, a: usize, b: usize, foundry: u8)
-    requires { (a * n + b < length edge_matrix.old) × (b * n + a < length edge_matrix.old) }
-    ensures { edge_matrix.new ≡ enter_for n edge_matrix.old a b foundry }
-{
-    let owner = first_owner(entry(edge_matrix, n, a, b), foundry);
-    enter_pair(edge_matrix, n, a, b, owner);
 }
 
 // The offer of a pair that is entered, where b has no free colour: the colours of a walk on a copy, or
@@ -83,16 +51,15 @@ fn add_edge_by_walk(coloring: &mut [u8], edge_matrix: &mut [u8], a: usize, b: us
 pub(crate) fn try_add_edge_unchecked(
     coloring: &mut [u8],
     edge_matrix: &mut [u8],
-    foundry: u8,
     a: usize,
     b: usize,
 ) -> Offer
     requires { Offerable coloring.old edge_matrix.old a b }
     ensures { outcome (offer_answer result) coloring.new edge_matrix.new
-        ≡ try_add_edge (table_of coloring.old edge_matrix.old) foundry a b }
+        ≡ try_add_edge (table_of coloring.old edge_matrix.old) a b }
 {
     let n = coloring.len();
-    enter_for(edge_matrix, n, a, b, foundry);
+    enter_pair(edge_matrix, n, a, b, 1);
     if coloring[a] != coloring[b] {
         return Offer::Kept(0); // the colours differ
     }
@@ -115,6 +82,14 @@ fn at_most(values: &[u8], most: u8) -> bool
         i += 1;
     }
     good
+}
+
+// The entry of spline j in the row of spline i.
+fn entry(edge_matrix: &[u8], n: usize, i: usize, j: usize) -> u8
+    requires { i * n + j < length edge_matrix.now }
+    ensures { result ≡ defined.entry n edge_matrix.now i j }
+{
+    edge_matrix[i * n + j]
 }
 
 // Whether the entries before the diagonal in the row of spline i are the same the other way round.
@@ -151,27 +126,14 @@ fn is_sound(coloring: &[u8], edge_matrix: &[u8]) -> bool
     ensures { result ≡ sound (table_of coloring.now edge_matrix.now) }
 {
     let colors = at_most(coloring, 2);
-    let entries = at_most(edge_matrix, 3);
+    let entries = at_most(edge_matrix, 1);
     colors & entries & is_symmetric(edge_matrix, coloring.len())
 }
 
-// Whether there is such a foundry.
-fn is_foundry(foundry: u8) -> bool
-    ensures { result ≡ is_foundry foundry }
-{
-    (foundry == FIRST_FOUNDRY) | (foundry == SECOND_FOUNDRY)
-}
-
-// Offers the pair of splines a and b to a table, for a foundry.
-pub fn try_add_edge(
-    coloring: &mut [u8],
-    edge_matrix: &mut [u8],
-    foundry: u8,
-    a: usize,
-    b: usize,
-) -> Offer
+// Offers the pair of splines a and b to a table.
+pub fn try_add_edge(coloring: &mut [u8], edge_matrix: &mut [u8], a: usize, b: usize) -> Offer
     ensures { outcome (offer_answer result) coloring.new edge_matrix.new
-        ≡ offer (table_of coloring.old edge_matrix.old) foundry a b }
+        ≡ offer (table_of coloring.old edge_matrix.old) a b }
 {
     let n = coloring.len();
     if n > MAX_SPLINES {
@@ -186,8 +148,5 @@ pub fn try_add_edge(
     if n <= a || n <= b || a == b {
         return Offer::Refused(Refusal::BadTable);
     }
-    if !is_foundry(foundry) {
-        return Offer::Refused(Refusal::UnknownFoundry);
-    }
-    try_add_edge_unchecked(coloring, edge_matrix, foundry, a, b)
+    try_add_edge_unchecked(coloring, edge_matrix, a, b)
 }

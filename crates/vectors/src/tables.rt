@@ -1,6 +1,6 @@
 // Records of a run of offers to one spline table: five words (64, the record's bytes, how many colours, entries and
-// offers), the colours, the entries, four words an offer (the foundry, a, b and the answer), and the colours and the
-// entries after the last offer.
+// offers), the colours, the entries, three words an offer (a, b and the answer), and the colours and the entries after
+// the last offer.
 ghost use Rattle.std.specs.Prelude.{◌≤◌, ◌<◌, length};
 
 use crate::words::{load, part, size, word};
@@ -8,20 +8,19 @@ use capi::spline_table::merelsplum_try_add_edge;
 
 // Makes the offer that is recorded at the start of s: whether the answer is as recorded.
 fn is_offer(s: &[u8], coloring: &mut [u8], edge_matrix: &mut [u8]) -> bool {
-    let foundry = (word(s, 0) % 256) as u8;
-    let a = word(s, 8) as usize;
-    let b = word(s, 16) as usize;
-    merelsplum_try_add_edge(coloring, edge_matrix, foundry, a, b) == word(s, 24)
+    let a = word(s, 0) as usize;
+    let b = word(s, 8) as usize;
+    merelsplum_try_add_edge(coloring, edge_matrix, a, b) == word(s, 16)
 }
 
 // Makes the offers of s in order: whether all answers are as recorded.
 fn are_offers(s: &[u8], coloring: &mut [u8], edge_matrix: &mut [u8]) -> bool {
     let mut at = 0;
-    while 32 <= s.len() - at {
+    while 24 <= s.len() - at {
         if !is_offer(&s[at..], coloring, edge_matrix) {
             return false;
         }
-        at += 32;
+        at += 24;
     }
     true
 }
@@ -34,10 +33,10 @@ fn is_run(s: &[u8], coloring: &mut [u8], edge_matrix: &mut [u8], count: usize) -
     let m = edge_matrix.len();
     let entries = 40 + n;
     let first = entries + m;
-    let after = first + 32 * count;
+    let after = first + 24 * count;
     load(part(s, 40, n), coloring);
     load(part(s, entries, m), edge_matrix);
-    if !are_offers(part(s, first, 32 * count), coloring, edge_matrix) {
+    if !are_offers(part(s, first, 24 * count), coloring, edge_matrix) {
         return false;
     }
     check::same(coloring, part(s, after, n)) && check::same(edge_matrix, part(s, after + n, m))

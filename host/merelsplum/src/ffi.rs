@@ -270,7 +270,6 @@ unsafe extern "C" {
         coloring_len: usize,
         edge_matrix: *mut u8,
         edge_matrix_len: usize,
-        foundry: u8,
         a: usize,
         b: usize,
     ) -> u64;
@@ -476,9 +475,9 @@ pub(crate) fn edge_directions(o: &Flat, out: &mut FlatDirections) -> u64 {
     }
 }
 
-pub(crate) fn try_add_edge(colors: &mut [u8], pairs: &mut [u8], foundry: u8, a: usize, b: usize) -> u64 {
+pub(crate) fn try_add_edge(colors: &mut [u8], pairs: &mut [u8], a: usize, b: usize) -> u64 {
     // SAFETY: as above.
-    unsafe { merelsplum_try_add_edge(colors.as_mut_ptr(), colors.len(), pairs.as_mut_ptr(), pairs.len(), foundry, a, b) }
+    unsafe { merelsplum_try_add_edge(colors.as_mut_ptr(), colors.len(), pairs.as_mut_ptr(), pairs.len(), a, b) }
 }
 
 pub(crate) fn job_read(file: &[u8], job: &mut FlatJob) -> u64 {
@@ -550,6 +549,6 @@ mod tests {
         let most = 508 + (64 << 16) + (512 << 48);
         assert_eq!(Counts::of(most), Counts { edges: 508, splines: 64, stand_ins: 512 });
         assert!(!is_refusal(most) && (0..=512).all(|stand_ins: u64| !is_refusal(stand_ins << 48)));
-        assert!((1..=13).all(|number| is_refusal((1 << 32) + number)));
+        assert!((1..=11).all(|number| is_refusal((1 << 32) + number)));
     }
 }

@@ -21,8 +21,7 @@
 //!   are equally long.
 //! - [`edge_directions`] gives the unit directions of each edge, from which corners follow, and says for which of them (0, 1) stands in
 //!   since it had no length. Colourings count those, [`Colored::stand_ins`].
-//! - [`SplineTable::offer`] is one step of the colouring by distance, by itself. Two foundries may offer to one table;
-//!   [`SplineTable::owner`] says whose pair was kept.
+//! - [`SplineTable::offer`] is one step of the colouring by distance, by itself.
 //! - [`job`] reads, writes and colours job files.
 //!
 //! Input that cannot be coloured gives a [`Refusal`]; nothing panics. Calls keep no state, so threads may make them at
@@ -46,4 +45,4 @@ pub use coloring::{collect_splines, edge_coloring_by_distance, edge_coloring_ink
 pub use directions::{Direction, Directions, edge_directions};
 pub use outline::{Collected, Colored, Edge, EdgeColor, Outline, Point};
 pub use refusal::Refusal;
-pub use spline_table::{FIRST_FOUNDRY, Offer, SECOND_FOUNDRY, SplineTable, ZERO_PAIR};
+pub use spline_table::{Offer, SplineTable};

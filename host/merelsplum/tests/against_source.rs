@@ -287,27 +287,16 @@ proptest! {
         prop_assert_eq!(edge_coloring_by_distance(&outline, 0.125, 0, &distances), Err(expected));
     }
 
-    /// A list of offers of both foundries to one table, from pairs that are drawn. Some are kept from the start, by
-    /// every owner. Against the source an entry counts only as 0 or not 0.
+    /// A list of offers to one table, from pairs that are drawn.
     #[test]
-    fn offers(
-        colors in vec(0u8..3, 2..=24),
-        kept in vec((1u8..=3, 0usize..24, 0usize..24), 0..40),
-        pairs in vec((1u8..=2, 0usize..24, 0usize..24), 0..300),
-    ) {
+    fn offers(colors in vec(0u8..3, 2..=24), pairs in vec((0usize..24, 0usize..24), 0..300)) {
         let n = colors.len();
-        let mut entries = vec![0; n * n];
-        for (owner, a, b) in kept.into_iter().filter(|&(_, a, b)| a < n && b < n && a != b) {
-            entries[a * n + b] = owner;
-            entries[b * n + a] = owner;
-        }
-        let counted = |entries: &[u8]| entries.iter().map(|&entry| (entry != 0).into()).collect::<Vec<i32>>();
+        let mut table = SplineTable::new(&colors);
         let mut coloring: Vec<i32> = colors.iter().map(|&c| c.into()).collect();
-        let mut matrix = counted(&entries);
-        let mut table = SplineTable::from_parts(colors, entries);
-        for (foundry, a, b) in pairs {
+        let mut matrix = vec![0i32; n * n];
+        for (a, b) in pairs {
             let before = table.clone();
-            let answer = table.offer(foundry, a, b);
+            let answer = table.offer(a, b);
             if a >= n || b >= n || a == b {
                 prop_assert_eq!(answer, Err(Refusal::BadTable));
                 prop_assert_eq!(&table, &before);
@@ -318,7 +307,7 @@ proptest! {
             prop_assert_eq!(answer, Ok(if kept { Offer::Kept { steps } } else { Offer::Declined { steps } }));
             prop_assert_eq!(table.is_kept(b, a), kept);
             prop_assert!(table.colors().iter().map(|&c| c as i32).eq(coloring.iter().copied()));
-            prop_assert_eq!(&counted(table.pairs()), &matrix);
+            prop_assert!(table.pairs().iter().map(|&e| e as i32).eq(matrix.iter().copied()));
         }
     }
 

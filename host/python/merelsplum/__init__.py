@@ -64,7 +64,7 @@ class Directions(NamedTuple):
 
 
 def _load():
-    name = "libmerelsplum.so.0.4"
+    name = "libmerelsplum.so.0.2"
     beside = os.path.join(os.path.dirname(os.path.abspath(__file__)), name)
     if folder := os.environ.get("MERELSPLUM_LIB_DIR"):
         library = ctypes.CDLL(os.path.join(folder, name))

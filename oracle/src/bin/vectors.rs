@@ -2,12 +2,9 @@
 //! `vectors ../crates/replay`.
 
 use oracle::spoilt::spoilt;
-use oracle::tables::{self, Offer, Run};
-use oracle::{direction_sample, edges, job_sample, leaves, owners, shape_sample};
+use oracle::tables::{self, Run};
+use oracle::{direction_sample, edges, job_sample, leaves, shape_sample};
 use std::path::Path;
-
-/// The most bytes of a record that `replay` reads.
-const SPACE: usize = 65536;
 
 /// The records, and the counts that the program prints when every answer is as the source's.
 #[derive(Default)]
@@ -73,16 +70,15 @@ fn geometry() -> Vec<(String, Vec<Vec<u8>>)> {
     edges::FUNCTIONS.iter().enumerate().map(part).collect()
 }
 
-/// A run of offers: 64, the record's bytes, how many colours, entries and offers; the two buffers; foundry, a, b
+/// A run of offers: 64, the record's bytes, how many colours, entries and offers; the two buffers; a, b
 /// and the answer of each offer; the two buffers after the last.
 fn run(Run { before, offers, after }: &Run) -> Vec<u8> {
     let (n, m) = (before.coloring.len(), before.edge_matrix.len());
-    let size = 40 + 2 * (n + m) + 32 * offers.len();
-    assert!(size <= SPACE, "a run too long: {size} bytes");
+    let size = 40 + 2 * (n + m) + 24 * offers.len();
     let mut record = bytes(&[64, size as u64, n as u64, m as u64, offers.len() as u64]);
     record.extend([&before.coloring[..], &before.edge_matrix].concat());
-    for (Offer { foundry, pair: (a, b) }, answer) in offers {
-        record.extend(bytes(&[*foundry as u64, *a as u64, *b as u64, answer.code()]));
+    for ((a, b), answer) in offers {
+        record.extend(bytes(&[*a as u64, *b as u64, answer.code()]));
     }
     record.extend([&after.coloring[..], &after.edge_matrix].concat());
     record
@@ -101,10 +97,10 @@ fn main() {
     let mut out = Recording::default();
     let (math, geometry, offers) = (math(), geometry(), offers());
     let (math_firsts, geometry_firsts) = (firsts(&math), firsts(&geometry));
-    let owners = [offers[0].1[0].clone(), run(&owners::whose())];
+    let square = [offers[0].1[0].clone()];
     out.parts("math", math, &math_firsts, &[]);
     out.parts("geometry", geometry, &geometry_firsts, &[]);
-    out.parts("offers", offers, &owners, &[]);
+    out.parts("offers", offers, &square, &[]);
     out.parts("colours", shape_sample::sample(), &shape_sample::small_records(), &[]);
     let wrong = job_sample::wrong_records();
     out.parts("jobs", job_sample::sample(), &job_sample::small_records(), &wrong);

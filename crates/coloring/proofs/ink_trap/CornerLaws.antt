@@ -91,18 +91,18 @@ marking-none cs = refl
 
 -- whatever the flag does not touch stays while the corners are marked
 module _ {B : Type 0} (f : InkTrapCorner → B) (stays : (b : Bool) (k : InkTrapCorner) → f (with_minor b k) ≡ f k) where
-  marking-keeps : (i : ℕ) (cs : List InkTrapCorner) → i ≤ length cs → map f (marking i cs) ≡ map f cs
-  marking-keeps zero cs h = ap (map f) (marking-none cs)
-  marking-keeps (suc i) cs h =
+  marking_keeps : (i : ℕ) (cs : List InkTrapCorner) → i ≤ length cs → map f (marking i cs) ≡ map f cs
+  marking_keeps zero cs h = ap (map f) (marking-none cs)
+  marking_keeps (suc i) cs h =
       rw (← add-one i, ← marking-turn i cs h)
       (map-set_same f (marking i cs) i (marked_at cs i) no_corner
       (stays (is_minor cs i) (around cs i) ∙ ap f (around_here i cs h ∙ sym (marking-next i cs h)))
-      ∙ marking-keeps i cs (omega arith))
+      ∙ marking_keeps i cs (omega arith))
 
 marking-estimate : (i j : ℕ) (cs : List InkTrapCorner) → i ≤ length cs → estimate (get_or (marking i cs) j no_corner) ≡ estimate (get_or cs j no_corner)
 marking-estimate i j cs h =
     sym (get_or-map estimate (marking i cs) j no_corner)
-    ∙ ap (λ (l : List Float). get_or l j (estimate no_corner)) (marking-keeps estimate (λ b k. refl) i cs h)
+    ∙ ap (λ (l : List Float). get_or l j (estimate no_corner)) (marking_keeps estimate (λ b k. refl) i cs h)
     ∙ get_or-map estimate cs j no_corner
 
 -- a turn at place i: the flag from the three estimates as they stand

@@ -63,9 +63,9 @@ module _ (contour : Cornered) (l : length contour.corners ≡ length contour.edg
         ∙ ap (λ k. switch_each k pen) splines-split
         ∙ sym (colors-few strategy pen contour (omega (arith, one)))
 
-  splines-by : (b : Bool) → splits contour.corners ≡ b → spline_count (layout contour).corners ≡ spline_count contour.corners
-  splines-by true e = rw (layout-split contour e) (splines-split e)
-  splines-by false e = rw (layout_same contour e)
+  splines_by : (b : Bool) → splits contour.corners ≡ b → spline_count (layout contour).corners ≡ spline_count contour.corners
+  splines_by true e = rw (layout-split contour e) (splines-split e)
+  splines_by false e = rw (layout_same contour e)
 
   colors_by_lem : (b : Bool) → splits contour.corners ≡ b → (strategy : Strategy) (pen : Pen)
       → spline_colors strategy pen (layout contour) ≡ spline_colors strategy pen contour
@@ -77,7 +77,7 @@ module _ (contour : Cornered) (l : length contour.corners ≡ length contour.edg
 pub splines-laid : (found : List Cornered) → Flagged found → map spline_count (flags_in (map layout found)) ≡ map spline_count (flags_in found)
 unfolding Flagged
 splines-laid [] f = refl
-splines-laid (contour ∷ found) f = rw (splines-by contour f.0 (splits contour.corners) refl, splines-laid found f.1)
+splines-laid (contour ∷ found) f = rw (splines_by contour f.0 (splits contour.corners) refl, splines-laid found f.1)
 
 pub total-laid : (found : List Cornered) → Flagged found → spline_total (map layout found) ≡ spline_total found
 unfolding spline_total

@@ -38,9 +38,9 @@ pub row-entry : (n : ℕ) (edge_matrix : List ℕ) (v j : ℕ) → j < n → get
 unfolding row
 row-entry n edge_matrix v j h = rw (get_or-take, get_or-drop)
 
--- a matrix of n × n entries of 0 to 3, the same both ways round, and 0 of a spline with itself
+-- a matrix of n × n entries of 0 and 1, the same both ways round, and 0 of a spline with itself
 pub record Matrix (n : ℕ) (edge_matrix : List ℕ) : Type 0 where
   pub size : length edge_matrix ≡ n * n
-  pub low : (i j : ℕ) → i < n → j < n → entry n edge_matrix i j ≤ 3
+  pub low : (i j : ℕ) → i < n → j < n → entry n edge_matrix i j ≤ 1
   pub symmetric : (i j : ℕ) → i < n → j < n → entry n edge_matrix i j ≡ entry n edge_matrix j i
   pub loopless : (i : ℕ) → i < n → entry n edge_matrix i i ≡ 0

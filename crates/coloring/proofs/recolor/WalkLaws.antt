@@ -39,17 +39,17 @@ module _ (n : ℕ) (edge_matrix : List ℕ) where
 -- ---- one turn
 
 module _ (n : ℕ) (edge_matrix : List ℕ) (a c fuel step : ℕ) (coloring : List ℕ) (i : ℕ) (queue : List ℕ) where
-  pub turn_stop : 16 ≤ step → walk n edge_matrix a c (suc fuel) step coloring (i ∷ queue) ≡ stopped step
+  turn_stop : 16 ≤ step → walk n edge_matrix a c (suc fuel) step coloring (i ∷ queue) ≡ stopped step
   unfolding walk
   turn_stop h = rw (le-leb 16 step h, walk)
 
-  pub turn_free : step < 16 → free_of n edge_matrix coloring i ≢ 0
+  turn_free : step < 16 → free_of n edge_matrix coloring i ≢ 0
       → walk n edge_matrix a c (suc fuel) step coloring (i ∷ queue)
       ≡ walk n edge_matrix a c fuel step (set coloring i (first_possible_color (free_of n edge_matrix coloring i))) queue
   unfolding walk
   turn_free h p = rw (lt-leb 16 step h, ne_eqb (free_of n edge_matrix coloring i) 0 p, walk)
 
-  pub turn-forced : step < 16 → free_of n edge_matrix coloring i ≡ 0
+  turn-forced : step < 16 → free_of n edge_matrix coloring i ≡ 0
       → walk n edge_matrix a c (suc fuel) step coloring (i ∷ queue)
       ≡ (let s = step_of n edge_matrix a c i step in
       let w = forced n edge_matrix i (s % 3) coloring queue in

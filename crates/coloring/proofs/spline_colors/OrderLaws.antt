@@ -6,13 +6,12 @@ use Prim.Native.Nat.{ℕ, zero, suc, ◌+◌, ◌*◌, ◌<◌, ◌≤◌}
 use native.Mathlib.Omega.{arith}
 use lib.Ieee.{Float}
 use lib.ListN.{length, get_or, drop, replicate, length-replicate, length-set, drop_of_length-le}
-use Rattle.coloring.specs.SplineTable.{Table, table_of, enter_pair, zero_pair, try_add_edge}
+use Rattle.coloring.specs.SplineTable.{Table, table_of, enter_pair, try_add_edge}
 use Rattle.coloring.specs.Sequence.{Pair, run}
 use Rattle.coloring.specs.PairOrder.{pairs_from, SplinePair, with_distances, pair_order}
 use Rattle.coloring.specs.PairNumbers.{Each, Two, decode, pair_at, spline_pair_at, InOrder}
 use Rattle.coloring.specs.SecondDegree.{color_second_degree_graph}
-use Rattle.coloring.specs.SplineColors.{is_zero, zero_pairs, other_pairs, enter_pairs, start_table, own_offers}
-use Rattle.coloring.specs.SplineColors.{OfferableAll, Ordered, offer_splines, color_splines}
+use Rattle.coloring.specs.SplineColors.{is_zero, zero_pairs, other_pairs, enter_pairs, start_table, OfferableAll, Ordered, offer_splines, color_splines}
 use Rattle.coloring.specs.Bools.{split}
 use Rattle.coloring.proofs.Lists.{drop-next}
 use Rattle.coloring.proofs.recolor.RowLaws.{Matrix}
@@ -79,7 +78,7 @@ unfolding Each enter_pairs
 matrix_pairs n [] edge_matrix a m = m
 matrix_pairs n (p ∷ pairs) edge_matrix a m =
     let two = a.0 in
-    matrix_pairs n pairs _ a.1 (enter_matrix n edge_matrix p two.first two.second two.different zero_pair (omega arith) m)
+    matrix_pairs n pairs _ a.1 (enter_matrix n edge_matrix p two.first two.second two.different 1 (omega arith) m)
 
 start-sound : (n : ℕ) (distances : List Float) (seed : ℕ) → Sound n (start_table n (zero_pairs (pair_order n distances)) seed)
 unfolding start_table
@@ -131,7 +130,7 @@ module _ (n : ℕ) (codes order : List ℕ) (distances : List Float) (before : L
     here : k < length order → spline_pairs (drop k order) ≡ next ∷ spline_pairs (drop (k + 1) order)
     here h = ap spline_pairs (drop-next order k 0 h)
 
-    enter_one : k < length order → is_zero next ≡ true → Entered (enter_pair n edge_matrix next.pair.a next.pair.b zero_pair) (k + 1)
+    enter_one : k < length order → is_zero next ≡ true → Entered (enter_pair n edge_matrix next.pair.a next.pair.b 1) (k + 1)
     unfolding enter_pairs
     enter_one h z =
         let first = zero-first next (spline_pairs (drop (k + 1) order)) z in
@@ -143,9 +142,9 @@ module _ (n : ℕ) (codes order : List ℕ) (distances : List Float) (before : L
         }
 
     pub enter_next : k < length order → is_zero next ≡ true → (pair : ℕ) (after : List ℕ) → pair ≡ get_or codes (get_or order k 0) 0
-        → after ≡ enter_pair n edge_matrix (decode pair).a (decode pair).b zero_pair → Entered after (k + 1)
+        → after ≡ enter_pair n edge_matrix (decode pair).a (decode pair).b 1 → Entered after (k + 1)
     enter_next h z pair after p q =
-        subst (λ m. Entered m (k + 1)) (sym (q ∙ ap (λ (x : ℕ). enter_pair n edge_matrix (decode x).a (decode x).b zero_pair) p)) (enter_one h z)
+        subst (λ m. Entered m (k + 1)) (sym (q ∙ ap (λ (x : ℕ). enter_pair n edge_matrix (decode x).a (decode x).b 1) p)) (enter_one h z)
 
     -- the first pair that is not at distance zero
     pub zeros_stop : InOrder n codes order distances → k < length order → is_zero next ≡ false → ZerosEntered edge_matrix k
@@ -172,12 +171,12 @@ module _ (n : ℕ) (codes order : List ℕ) (whole : Table) where
   -- the table, with the pairs from place k on still to be offered
   pub record Offers (t : Table) (k : ℕ) : Type 0 where
     pub is_sound : Sound n t
-    pub rest : (run t (own_offers (map (pair_at codes) (drop k order)))).table ≡ whole
+    pub rest : (run t (map (pair_at codes) (drop k order))).table ≡ whole
 
   module _ (few : n ≤ 64) (all : Each (λ k. Two n (pair_at codes k)) order) (t : Table) (k : ℕ) (o : Offers t k) (h : k < length order)
       (pair : ℕ) (e : pair ≡ get_or codes (get_or order k 0) 0) where
     -- no check refuses the pair at place k
-    pub checked : Unrefused t 1 (decode pair).a (decode pair).b
+    pub checked : Unrefused t (decode pair).a (decode pair).b
     checked =
         let two = two_read n codes order all k pair h e in
         let s = o.is_sound in
@@ -188,25 +187,24 @@ module _ (n : ℕ) (codes order : List ℕ) (whole : Table) where
           first = rw s.splines two.first;
           second = rw s.splines two.second;
           different = two.different;
-          known = refl;
         }
 
-    pub offer-next : (after : Table) → after ≡ (try_add_edge t 1 (decode pair).a (decode pair).b).table → Offers after (k + 1)
+    pub offer-next : (after : Table) → after ≡ (try_add_edge t (decode pair).a (decode pair).b).table → Offers after (k + 1)
     unfolding run
     offer-next after q =
-        let rule = offer-sound t 1 (decode pair).a (decode pair).b checked in
+        let rule = offer-sound t (decode pair).a (decode pair).b checked in
         let here = ap (map (pair_at codes)) (drop-next order k 0 h) in
-        let next = (try_add_edge t 1 (decode pair).a (decode pair).b).table in
+        let next = (try_add_edge t (decode pair).a (decode pair).b).table in
         rw q (record {
           is_sound = subst (λ m. Sound m next) o.is_sound.splines rule.1;
           rest =
-              ap (λ (s : Table). (run s (own_offers (map (pair_at codes) (drop (k + 1) order)))).table) (ap (λ r. r.table) (sym rule.0))
-              ∙ rw e (ap (λ l. (run t (own_offers l)).table) (sym here)) ∙ o.rest;
+              ap (λ (s : Table). (run s (map (pair_at codes) (drop (k + 1) order))).table) (ap (λ r. r.table) (sym rule.0))
+              ∙ rw e (ap (λ l. (run t l).table) (sym here)) ∙ o.rest;
         })
 
   pub offers_end : (t : Table) (k : ℕ) → Offers t k → length order ≤ k → t ≡ whole
   unfolding run
-  offers_end t k o h = ap (λ l. (run t (own_offers (map (pair_at codes) l))).table) (sym (drop_of_length-le order h)) ∙ o.rest
+  offers_end t k o h = ap (λ l. (run t (map (pair_at codes) l)).table) (sym (drop_of_length-le order h)) ∙ o.rest
 
 -- ---- the whole
 
@@ -234,6 +232,6 @@ module _ (n : ℕ) (codes order : List ℕ) (distances : List Float) (before aft
       }
 
   -- and after them
-  pub ends : (t : Table) → t ≡ (run table (own_offers (map (pair_at codes) (drop r order)))).table → t.coloring ≡ color_splines n distances seed
+  pub ends : (t : Table) → t ≡ (run table (map (pair_at codes) (drop r order))).table → t.coloring ≡ color_splines n distances seed
   unfolding offer_splines
-  ends t e = ap (λ (s : Table). s.coloring) (e ∙ ap₂ (λ s l. (run s (own_offers l)).table) starts z.1)
+  ends t e = ap (λ (s : Table). s.coloring) (e ∙ ap₂ (λ s l. (run s l).table) starts z.1)

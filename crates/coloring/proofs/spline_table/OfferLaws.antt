@@ -14,7 +14,7 @@ use borrow.Author.Tests.{leb-true, ltb-true, eqb-true, eqb-false, not-true, le-l
 use Rattle.coloring.specs.Recolor.{row, vertex_possible_colors, first_possible_color, Walk, recolored, stopped, Waiting}
 use Rattle.coloring.specs.Recolor.{walk, walk_fuel, walk_from, walk_start, recolor, Offerable}
 use Rattle.coloring.specs.SplineTable.{Table, OfferAnswer, kept, declined, refused, Offered, outcome}
-use Rattle.coloring.specs.SplineTable.{is_foundry, enter_for, settled, walked_on, enter_pair, sound, try_add_edge, check_offer, offer}
+use Rattle.coloring.specs.SplineTable.{settled, walked_on, enter_pair, sound, try_add_edge, check_offer, offer}
 use Rattle.coloring.specs.Answers.{in_order}
 use Rattle.coloring.specs.Sequence.{Pair}
 use Rattle.coloring.specs.Bools.{and_left, and_right, split}
@@ -25,39 +25,39 @@ use Rattle.coloring.proofs.spline_table.TableLaws.{splines, sound-color, enter_a
 
 -- ---- the rule
 
-abbrev pub SameColor : Table → ℕ → ℕ → Type 0
-SameColor t a b = get_or t.coloring a 0 ≡ get_or t.coloring b 0
-
-module _ (t : Table) (foundry a b : ℕ) where
+module _ (t : Table) (a b : ℕ) where
   -- the entries with the pair in
   abbrev pub entered : List ℕ
-  entered = enter_for (splines t) t.edge_matrix a b foundry
+  entered = enter_pair (splines t) t.edge_matrix a b 1
 
   -- the colours that are then free for b
   abbrev pub free_of_b : ℕ
   free_of_b = vertex_possible_colors t.coloring (row (splines t) entered b)
 
-  pub rule_differ : (SameColor t a b → ⊥) → try_add_edge t foundry a b ≡ outcome (kept 0) t.coloring entered
+  abbrev pub SameColor : Type 0
+  SameColor = get_or t.coloring a 0 ≡ get_or t.coloring b 0
+
+  pub rule_differ : (SameColor → ⊥) → try_add_edge t a b ≡ outcome (kept 0) t.coloring entered
   unfolding try_add_edge
   rule_differ h = rw (ne_eqb (get_or t.coloring a 0) (get_or t.coloring b 0) h, try_add_edge)
 
-  pub rule_free : SameColor t a b → free_of_b ≢ 0 → try_add_edge t foundry a b ≡ outcome (kept 0) (set t.coloring b (first_possible_color free_of_b)) entered
+  pub rule_free : SameColor → free_of_b ≢ 0 → try_add_edge t a b ≡ outcome (kept 0) (set t.coloring b (first_possible_color free_of_b)) entered
   unfolding try_add_edge
   rule_free same h = rw (eq-eqb (get_or t.coloring a 0) (get_or t.coloring b 0) same, ne_eqb free_of_b 0 h, try_add_edge)
 
-  pub rule_walk : SameColor t a b → free_of_b ≡ 0 → try_add_edge t foundry a b ≡ walked_on t.coloring entered a b
+  pub rule_walk : SameColor → free_of_b ≡ 0 → try_add_edge t a b ≡ walked_on t.coloring entered a b
   unfolding try_add_edge
   rule_walk same none = rw (eq-eqb (get_or t.coloring a 0) (get_or t.coloring b 0) same, eq-eqb free_of_b 0 none, try_add_edge)
 
   -- what holds of the outcome, shown of each case
-  pub rule_cases : (P : Offered → Type 0) → ((SameColor t a b → ⊥) → P (outcome (kept 0) t.coloring entered))
-      → (SameColor t a b → free_of_b ≢ 0 → P (outcome (kept 0) (set t.coloring b (first_possible_color free_of_b)) entered))
-      → (SameColor t a b → free_of_b ≡ 0 → (w : Walk) → recolor t.coloring entered a b ≡ w → P (settled w t.coloring entered a b))
-      → P (try_add_edge t foundry a b)
+  pub rule_cases : (P : Offered → Type 0) → ((SameColor → ⊥) → P (outcome (kept 0) t.coloring entered))
+      → (SameColor → free_of_b ≢ 0 → P (outcome (kept 0) (set t.coloring b (first_possible_color free_of_b)) entered))
+      → (SameColor → free_of_b ≡ 0 → (w : Walk) → recolor t.coloring entered a b ≡ w → P (settled w t.coloring entered a b))
+      → P (try_add_edge t a b)
   unfolding walked_on
   rule_cases P differ free walked = go (ℕ_discrete (get_or t.coloring a 0) (get_or t.coloring b 0)) (ℕ_discrete free_of_b 0)
     where
-      go : Dec (SameColor t a b) → Dec (free_of_b ≡ 0) → P (try_add_edge t foundry a b)
+      go : Dec SameColor → Dec (free_of_b ≡ 0) → P (try_add_edge t a b)
       go (no d) none = rw (rule_differ d) (differ d)
       go (yes e) (no f) = rw (rule_free e f) (free e f)
       go (yes e) (yes f) = rw (rule_walk e f) (walked e f _ refl)
@@ -65,20 +65,19 @@ module _ (t : Table) (foundry a b : ℕ) where
 -- ---- the checks
 
 -- an offer that no check refuses
-pub record Unrefused (t : Table) (foundry a b : ℕ) : Type 0 where
+pub record Unrefused (t : Table) (a b : ℕ) : Type 0 where
   pub few : splines t ≤ 64
   pub size : length t.edge_matrix ≡ splines t * splines t
   pub is_sound : sound t ≡ true
   pub first : a < splines t
   pub second : b < splines t
   pub different : a ≢ b
-  pub known : is_foundry foundry ≡ true
 
-pub unrefused_offerable : (t : Table) (foundry a b : ℕ) → Unrefused t foundry a b → Offerable t.coloring t.edge_matrix a b
-unrefused_offerable t foundry a b v =
+pub unrefused_offerable : (t : Table) (a b : ℕ) → Unrefused t a b → Offerable t.coloring t.edge_matrix a b
+unrefused_offerable t a b v =
     record { few = v.few; entries = v.size; first = v.first; second = v.second; color = sound-color t v.is_sound a v.first }
 
-module _ (t : Table) (foundry a b : ℕ) where
+module _ (t : Table) (a b : ℕ) where
   abbrev refusal : ℕ → Offered
   refusal number = record { answer = refused number; table = t }
 
@@ -86,59 +85,50 @@ module _ (t : Table) (foundry a b : ℕ) where
   abbrev good : Bool
   good = sound t && ltb a (splines t) && ltb b (splines t) && not (eqb a b)
 
-  good-passes : sound t ≡ true → a < splines t → b < splines t → a ≢ b → good ≡ true
-  good-passes s first second different = rw (s, lt-ltb a (splines t) first, lt-ltb b (splines t) second, ne_eqb a b different)
-
-  pub offer-many : 64 < splines t → offer t foundry a b ≡ refusal 4
+  pub offer-many : 64 < splines t → offer t a b ≡ refusal 4
   unfolding offer in_order check_offer
   offer-many h = rw (lt-leb (splines t) 64 h, offer)
 
   module _ (few : splines t ≤ 64) where
-    pub offer-lengths : length t.edge_matrix ≢ splines t * splines t → offer t foundry a b ≡ refusal 8
+    pub offer-lengths : length t.edge_matrix ≢ splines t * splines t → offer t a b ≡ refusal 8
     unfolding offer in_order check_offer
     offer-lengths h = rw (le-leb (splines t) 64 few, ne_eqb (length t.edge_matrix) (splines t * splines t) h, offer)
 
     module _ (size : length t.edge_matrix ≡ splines t * splines t) where
-      bad : good ≡ false → offer t foundry a b ≡ refusal 10
+      bad : good ≡ false → offer t a b ≡ refusal 10
       unfolding offer in_order check_offer
       bad e = rw (le-leb (splines t) 64 few, eq-eqb (length t.edge_matrix) (splines t * splines t) size, e, offer)
 
-      pub offer_unsound : sound t ≡ false → offer t foundry a b ≡ refusal 10
+      pub offer_unsound : sound t ≡ false → offer t a b ≡ refusal 10
       offer_unsound e = bad (rw e)
 
-      pub offer-first : splines t ≤ a → offer t foundry a b ≡ refusal 10
+      pub offer-first : splines t ≤ a → offer t a b ≡ refusal 10
       offer-first h = bad (rw (le-ltb a (splines t) h, and_false (sound t)))
 
-      pub offer-second : splines t ≤ b → offer t foundry a b ≡ refusal 10
+      pub offer-second : splines t ≤ b → offer t a b ≡ refusal 10
       offer-second h = bad (rw (le-ltb b (splines t) h, and_false (sound t && ltb a (splines t))))
 
-      pub offer_equal : a ≡ b → offer t foundry a b ≡ refusal 10
+      pub offer_equal : a ≡ b → offer t a b ≡ refusal 10
       offer_equal e = bad (rw (eq-eqb a b e) (and_false (sound t && ltb a (splines t) && ltb b (splines t))))
 
-      pub offer_unknown : sound t ≡ true → a < splines t → b < splines t → a ≢ b → is_foundry foundry ≡ false → offer t foundry a b ≡ refusal 13
-      unfolding offer in_order check_offer
-      offer_unknown s first second different unknown =
-          rw (le-leb (splines t) 64 few, eq-eqb (length t.edge_matrix) (splines t * splines t) size, good-passes s first second different, unknown, offer)
-
   -- an offer of two different splines of a sound table is `try_add_edge`
-  pub offer_rule : Unrefused t foundry a b → offer t foundry a b ≡ try_add_edge t foundry a b
+  pub offer_rule : Unrefused t a b → offer t a b ≡ try_add_edge t a b
   unfolding offer in_order check_offer
   offer_rule v =
       let n = splines t in
-      let passes = good-passes v.is_sound v.first v.second v.different in
-      rw (le-leb n 64 v.few, eq-eqb (length t.edge_matrix) (n * n) v.size, passes, v.known, offer)
+      let passes : good ≡ true = rw (v.is_sound, lt-ltb a n v.first, lt-ltb b n v.second, ne_eqb a b v.different) in
+      rw (le-leb n 64 v.few, eq-eqb (length t.edge_matrix) (n * n) v.size, passes, offer)
 
   -- every other is refused, with the table as it came
-  pub offer_cases : (P : Offered → Type 0) → ((number : ℕ) → P (refusal number)) → (Unrefused t foundry a b → P (try_add_edge t foundry a b))
-      → P (offer t foundry a b)
+  pub offer_cases : (P : Offered → Type 0) → ((number : ℕ) → P (refusal number)) → (Unrefused t a b → P (try_add_edge t a b)) → P (offer t a b)
   unfolding offer in_order check_offer
   offer_cases P refuse tried = split (leb n 64) few (λ e. rw (e, offer) (refuse 4))
     where
       n : ℕ
       n = splines t
 
-      checked : leb n 64 ≡ true → eqb (length t.edge_matrix) (n * n) ≡ true → good ≡ true → is_foundry foundry ≡ true → Unrefused t foundry a b
-      checked e f g k =
+      checked : leb n 64 ≡ true → eqb (length t.edge_matrix) (n * n) ≡ true → good ≡ true → Unrefused t a b
+      checked e f g =
           let three = and_left (sound t && ltb a n && ltb b n) _ g in
           let two = and_left (sound t && ltb a n) _ three in
           record {
@@ -148,17 +138,12 @@ module _ (t : Table) (foundry a b : ℕ) where
             first = ltb-true _ _ (and_right (sound t) _ two);
             second = ltb-true _ _ (and_right (sound t && ltb a n) _ three);
             different = eqb-false _ _ (not-true _ (and_right (sound t && ltb a n && ltb b n) _ g));
-            known = k;
           }
 
-      passes : leb n 64 ≡ true → eqb (length t.edge_matrix) (n * n) ≡ true → good ≡ true → P (offer t foundry a b)
-      passes e f g =
-          split (is_foundry foundry) (λ k. rw (e, f, g, k, offer) (tried (checked e f g k))) (λ k. rw (e, f, g, k, offer) (refuse 13))
+      right : leb n 64 ≡ true → eqb (length t.edge_matrix) (n * n) ≡ true → P (offer t a b)
+      right e f = split good (λ g. rw (e, f, g, offer) (tried (checked e f g))) (λ g. rw (e, f, g, offer) (refuse 10))
 
-      right : leb n 64 ≡ true → eqb (length t.edge_matrix) (n * n) ≡ true → P (offer t foundry a b)
-      right e f = split good (passes e f) (λ g. rw (e, f, g, offer) (refuse 10))
-
-      few : leb n 64 ≡ true → P (offer t foundry a b)
+      few : leb n 64 ≡ true → P (offer t a b)
       few e = split (eqb (length t.edge_matrix) (n * n)) (right e) (λ f. rw (e, f, offer) (refuse 8))
 
 -- ---- the walk
@@ -188,69 +173,66 @@ counter (declined k) = k
 counter (refused n) = 0
 
 -- the splines a and b have one colour, and with the pair entered no colour is free for b
-pub record NeedsWalk (t : Table) (foundry a b : ℕ) : Type 0 where
+pub record NeedsWalk (t : Table) (a b : ℕ) : Type 0 where
   pub same : SameColor t a b
-  pub none_free : free_of_b t foundry a b ≡ 0
+  pub none_free : free_of_b t a b ≡ 0
 
-pub record OfferLaws (t : Table) (foundry a b : ℕ) : Type 0 where
+pub record OfferLaws (t : Table) (a b : ℕ) : Type 0 where
   -- the counter is 0 where there is no walk, and never above 17
-  pub without_walk : (NeedsWalk t foundry a b → ⊥) → counter (offer t foundry a b).answer ≡ 0
-  pub at_most17 : counter (offer t foundry a b).answer ≤ 17
+  pub without_walk : (NeedsWalk t a b → ⊥) → counter (offer t a b).answer ≡ 0
+  pub at_most17 : counter (offer t a b).answer ≤ 17
   -- a kept offer ends at 0 to 15, a declined one at 16 or 17
-  pub kept_at : (k : ℕ) → (offer t foundry a b).answer ≡ kept k → k ≤ 15
-  pub declined_at : (k : ℕ) → (offer t foundry a b).answer ≡ declined k → (k ≡ 16) ⊎ (k ≡ 17)
-  -- a kept offer leaves its pair with its first owner, or else the foundry, and changes no other entry
-  pub kept_pairs : (k : ℕ) → (offer t foundry a b).answer ≡ kept k → (offer t foundry a b).table.edge_matrix ≡ entered t foundry a b
+  pub kept_at : (k : ℕ) → (offer t a b).answer ≡ kept k → k ≤ 15
+  pub declined_at : (k : ℕ) → (offer t a b).answer ≡ declined k → (k ≡ 16) ⊎ (k ≡ 17)
   -- a declined offer changes no colour; the pair's two entries become 0, and no other changes
-  pub declined_colors : (k : ℕ) → (offer t foundry a b).answer ≡ declined k → (offer t foundry a b).table.coloring ≡ t.coloring
-  pub declined_pairs : (k : ℕ) → (offer t foundry a b).answer ≡ declined k
-      → (offer t foundry a b).table.edge_matrix ≡ enter_pair (splines t) t.edge_matrix a b 0
+  pub declined_colors : (k : ℕ) → (offer t a b).answer ≡ declined k → (offer t a b).table.coloring ≡ t.coloring
+  pub declined_pairs : (k : ℕ) → (offer t a b).answer ≡ declined k
+      → (offer t a b).table.edge_matrix ≡ enter_pair (splines t) t.edge_matrix a b 0
   -- a refused offer changes nothing
-  pub refused_same : (number : ℕ) → (offer t foundry a b).answer ≡ refused number → (offer t foundry a b).table ≡ t
+  pub refused_same : (number : ℕ) → (offer t a b).answer ≡ refused number → (offer t a b).table ≡ t
   -- the fuel of the walk is never used up: with any more of it the walk ends the same way
-  pub fuel : Unrefused t foundry a b → (more : ℕ) → (let w = walk_start t.coloring (entered t foundry a b) a b in
-      walk (splines t) (entered t foundry a b) a (get_or t.coloring a 0) (walk_fuel (splines t) + more) 0 w.coloring w.queue)
-      ≡ recolor t.coloring (entered t foundry a b) a b
+  pub fuel : Unrefused t a b → (more : ℕ) → (let w = walk_start t.coloring (entered t a b) a b in
+      walk (splines t) (entered t a b) a (get_or t.coloring a 0) (walk_fuel (splines t) + more) 0 w.coloring w.queue)
+      ≡ recolor t.coloring (entered t a b) a b
 
 -- the laws of an answer
-Says : Table → ℕ → ℕ → ℕ → OfferAnswer → Table → Type 0
-Says t foundry a b (kept k) after = ((NeedsWalk t foundry a b → ⊥) → k ≡ 0) × (k ≤ 15) × (after.edge_matrix ≡ entered t foundry a b)
-Says t foundry a b (declined k) after =
-    NeedsWalk t foundry a b × ((k ≡ 16) ⊎ (k ≡ 17)) × (after.coloring ≡ t.coloring) × (after.edge_matrix ≡ enter_pair (splines t) t.edge_matrix a b 0)
-Says t foundry a b (refused n) after = after ≡ t
+Says : Table → ℕ → ℕ → OfferAnswer → Table → Type 0
+Says t a b (kept k) after = ((NeedsWalk t a b → ⊥) → k ≡ 0) × (k ≤ 15)
+Says t a b (declined k) after =
+    NeedsWalk t a b × ((k ≡ 16) ⊎ (k ≡ 17)) × (after.coloring ≡ t.coloring) × (after.edge_matrix ≡ enter_pair (splines t) t.edge_matrix a b 0)
+Says t a b (refused n) after = after ≡ t
 
 two : (k : ℕ) → (16 ≤ k) × (k ≤ 17) → Dec (k ≡ 16) → (k ≡ 16) ⊎ (k ≡ 17)
 two k h (yes e) = inl e
 two k h (no e) = inr (omega arith)
 
-module _ (t : Table) (foundry a b : ℕ) where
-  try_says : Unrefused t foundry a b → Says t foundry a b (try_add_edge t foundry a b).answer (try_add_edge t foundry a b).table
+module _ (t : Table) (a b : ℕ) where
+  try_says : Unrefused t a b → Says t a b (try_add_edge t a b).answer (try_add_edge t a b).table
   unfolding Says
   try_says v =
-      rule_cases t foundry a b (λ o. Says t foundry a b o.answer o.table) (λ d. (λ h. refl, omega arith, refl)) (λ e f. (λ h. refl, omega arith, refl))
+      rule_cases t a b (λ o. Says t a b o.answer o.table) (λ d. (λ h. refl, omega arith)) (λ e f. (λ h. refl, omega arith))
       (λ e f w q. ends w (subst Ends q (recolor-ends t.coloring _ a b (sound-color t v.is_sound a v.first))) (record { same = e; none_free = f }))
     where
       pair : Pair
       pair = record { a = a; b = b }
 
-      ends : (w : Walk) → Ends w → NeedsWalk t foundry a b
-          → (let o = settled w t.coloring (entered t foundry a b) a b in Says t foundry a b o.answer o.table)
-      ends (recolored after step) c needs = (λ h. absurd (h needs), c, refl)
+      ends : (w : Walk) → Ends w → NeedsWalk t a b
+          → (let o = settled w t.coloring (entered t a b) a b in Says t a b o.answer o.table)
+      ends (recolored after step) c needs = (λ h. absurd (h needs), c)
       ends (stopped step) c needs =
-          (needs, two step c (ℕ_discrete step 16), refl, enter_again (splines t) t.edge_matrix pair v.first v.second v.different _ 0)
+          (needs, two step c (ℕ_discrete step 16), refl, enter_again (splines t) t.edge_matrix pair v.first v.second v.different 1 0)
 
-  says : Says t foundry a b (offer t foundry a b).answer (offer t foundry a b).table
+  says : Says t a b (offer t a b).answer (offer t a b).table
   unfolding Says
-  says = offer_cases t foundry a b (λ o. Says t foundry a b o.answer o.table) (λ r. refl) try_says
+  says = offer_cases t a b (λ o. Says t a b o.answer o.table) (λ r. refl) try_says
 
-  pub offer_laws : OfferLaws t foundry a b
+  pub offer_laws : OfferLaws t a b
   unfolding Says
   offer_laws =
       record {
-        without_walk = without (offer t foundry a b).answer says;
-        at_most17 = most (offer t foundry a b).answer says;
+        without_walk = without (offer t a b).answer says;
+        at_most17 = most (offer t a b).answer says;
         kept_at = λ k e. (at e).1;
-        kept_pairs = λ k e. (at e).2;
         declined_at = λ k e. (at e).1;
         declined_colors = λ k e. (at e).2;
         declined_pairs = λ k e. (at e).3;
@@ -258,15 +240,15 @@ module _ (t : Table) (foundry a b : ℕ) where
         fuel = λ v. recolor_fuel t.coloring _ a b (sound-color t v.is_sound a v.first);
       }
     where
-      at : {x : OfferAnswer} → (offer t foundry a b).answer ≡ x → Says t foundry a b x (offer t foundry a b).table
-      at e = subst (λ x. Says t foundry a b x (offer t foundry a b).table) e says
+      at : {x : OfferAnswer} → (offer t a b).answer ≡ x → Says t a b x (offer t a b).table
+      at e = subst (λ x. Says t a b x (offer t a b).table) e says
 
-      without : (x : OfferAnswer) → Says t foundry a b x (offer t foundry a b).table → (NeedsWalk t foundry a b → ⊥) → counter x ≡ 0
+      without : (x : OfferAnswer) → Says t a b x (offer t a b).table → (NeedsWalk t a b → ⊥) → counter x ≡ 0
       without (kept k) s h = s.0 h
       without (declined k) s h = absurd (h s.0)
       without (refused n) s h = refl
 
-      most : (x : OfferAnswer) → Says t foundry a b x (offer t foundry a b).table → counter x ≤ 17
+      most : (x : OfferAnswer) → Says t a b x (offer t a b).table → counter x ≤ 17
       most (kept k) s = omega arith
       most (declined k) s = ⊎_elim (λ e. omega arith) (λ e. omega arith) s.1
       most (refused n) s = omega arith

@@ -55,14 +55,14 @@ module _ (t : Table) where
 
   module _ (s : sound t ≡ true) where
     passes : (i : ℕ) → i < splines t
-        → (leb (get_or t.coloring i 0) 2 && all_below (splines t) (λ j. leb (at i j) 3 && eqb (at i j) (at j i)) && eqb (at i i) 0) ≡ true
+        → (leb (get_or t.coloring i 0) 2 && all_below (splines t) (λ j. leb (at i j) 1 && eqb (at i j) (at j i)) && eqb (at i i) 0) ≡ true
     unfolding sound
     passes = all-passes _ _ s
 
     pub sound-color : (i : ℕ) → i < splines t → get_or t.coloring i 0 < 3
     sound-color i h = omega (arith, leb-true (get_or t.coloring i 0) 2 (and_left _ _ (and_left _ _ (passes i h))))
 
-    entries : (i j : ℕ) → i < splines t → j < splines t → (leb (at i j) 3 && eqb (at i j) (at j i)) ≡ true
+    entries : (i j : ℕ) → i < splines t → j < splines t → (leb (at i j) 1 && eqb (at i j) (at j i)) ≡ true
     entries i j h k = all-passes _ _ (and_right (leb (get_or t.coloring i 0) 2) _ (and_left _ _ (passes i h))) j k
 
     pub sound_matrix : length t.edge_matrix ≡ splines t * splines t → Matrix (splines t) t.edge_matrix
@@ -70,7 +70,7 @@ module _ (t : Table) where
         record {
           size = e;
           low = λ i j h k. leb-true _ _ (and_left _ _ (entries i j h k));
-          symmetric = λ i j h k. eqb-true _ _ (and_right (leb (at i j) 3) _ (entries i j h k));
+          symmetric = λ i j h k. eqb-true _ _ (and_right (leb (at i j) 1) _ (entries i j h k));
           loopless = λ i h. eqb-true _ _ (and_right (leb (get_or t.coloring i 0) 2 && _) _ (passes i h));
         }
 
@@ -80,8 +80,8 @@ module _ (t : Table) where
       all_shown _ _ (λ i h.
       rw (le-leb (get_or t.coloring i 0) 2 (omega (arith, color i h)), all_shown _ _ (entries i h), eq-eqb (at i i) 0 (m.loopless i h)))
     where
-      entries : (i : ℕ) → i < splines t → (j : ℕ) → j < splines t → (leb (at i j) 3 && eqb (at i j) (at j i)) ≡ true
-      entries i h j k = rw (le-leb (at i j) 3 (m.low i j h k), eq-eqb (at i j) (at j i) (m.symmetric i j h k))
+      entries : (i : ℕ) → i < splines t → (j : ℕ) → j < splines t → (leb (at i j) 1 && eqb (at i j) (at j i)) ≡ true
+      entries i h j k = rw (le-leb (at i j) 1 (m.low i j h k), eq-eqb (at i j) (at j i) (m.symmetric i j h k))
 
 -- The code looks at each number once, and at each pair once.
 module _ (coloring edge_matrix : List ℕ) (size : length edge_matrix ≡ length coloring * length coloring) where
@@ -92,7 +92,7 @@ module _ (coloring edge_matrix : List ℕ) (size : length edge_matrix ≡ length
   table = table_of coloring edge_matrix
 
   abbrev looked : Bool
-  looked = at_most 2 coloring && at_most 3 edge_matrix && symmetric n edge_matrix
+  looked = at_most 2 coloring && at_most 1 edge_matrix && symmetric n edge_matrix
 
   there : looked ≡ true → sound table ≡ true
   there e =
@@ -100,9 +100,9 @@ module _ (coloring edge_matrix : List ℕ) (size : length edge_matrix ≡ length
       (λ i h. omega (arith, leb-true (get_or coloring i 0) 2 (all-passes n _ (and_left (at_most 2 coloring) _ (and_left _ _ e)) i h)))
     where
       rows : (i : ℕ) → i < n → (mirrored n edge_matrix i && eqb (at table i i) 0) ≡ true
-      rows = all-passes n _ (and_right (at_most 2 coloring && at_most 3 edge_matrix) _ e)
+      rows = all-passes n _ (and_right (at_most 2 coloring && at_most 1 edge_matrix) _ e)
 
-      low : (i j : ℕ) → i < n → j < n → at table i j ≤ 3
+      low : (i j : ℕ) → i < n → j < n → at table i j ≤ 1
       low i j h k =
           leb-true _ _ (all-passes (length edge_matrix) _ (and_right (at_most 2 coloring) _ (and_left _ _ e)) (i * n + j) (rw size (digits_lt h k)))
 
@@ -132,11 +132,11 @@ module _ (coloring edge_matrix : List ℕ) (size : length edge_matrix ≡ length
       some zero k h = absurd (omega arith)
       some (suc i) k h = omega arith
 
-      low : (k : ℕ) → k < length edge_matrix → leb (get_or edge_matrix k 0) 3 ≡ true
+      low : (k : ℕ) → k < length edge_matrix → leb (get_or edge_matrix k 0) 1 ≡ true
       low k h =
           let below : k < n * n = omega arith in
           let rows = some n k below in
-          le-leb _ 3 (rw (div-add-mod' k n) at (m.low (k / n) (k % n) ((div-lt_iff_lt-mul rows).1 below) (mod-lt k rows)))
+          le-leb _ 1 (rw (div-add-mod' k n) at (m.low (k / n) (k % n) ((div-lt_iff_lt-mul rows).1 below) (mod-lt k rows)))
 
       mirror : (i : ℕ) → i < n → (j : ℕ) → j < i → eqb (at table i j) (at table j i) ≡ true
       mirror i h j k = eq-eqb _ _ (m.symmetric i j h (omega arith))
@@ -181,7 +181,7 @@ module _ (n : ℕ) (edge_matrix : List ℕ) (p : Pair) (first : p.a < n) (second
       get_or-set_other (set edge_matrix _ e) _ _ e 0 (λ q. let r = place_injective first hj (sym q) in s (inr (r.1, r.0)))
       ∙ get_or-set_other edge_matrix _ _ e 0 (λ q. s (inl (place_injective second hj (sym q))))
 
-  pub enter_matrix : (e : ℕ) → e ≤ 3 → Matrix n edge_matrix → Matrix n (enter_pair n edge_matrix p.a p.b e)
+  pub enter_matrix : (e : ℕ) → e ≤ 1 → Matrix n edge_matrix → Matrix n (enter_pair n edge_matrix p.a p.b e)
   enter_matrix e small m =
       record {
         size = simp length-set m.size;
@@ -193,7 +193,7 @@ module _ (n : ℕ) (edge_matrix : List ℕ) (p : Pair) (first : p.a < n) (second
       one : {i : ℕ} → (p.a ≡ i) × (p.b ≡ i) → ⊥
       one (x, y) = different (x ∙ sym y)
 
-      still : (i j : ℕ) → i < n → j < n → Dec (Names p i j) → entry n (enter_pair n edge_matrix p.a p.b e) i j ≤ 3
+      still : (i j : ℕ) → i < n → j < n → Dec (Names p i j) → entry n (enter_pair n edge_matrix p.a p.b e) i j ≤ 1
       still i j hi hj (yes s) = omega (arith, enter_at e i j m.size s)
       still i j hi hj (no s) = omega (arith, enter_other e i j hi hj s, m.low i j hi hj)
 

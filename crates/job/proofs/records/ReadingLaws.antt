@@ -145,9 +145,9 @@ module _ (s : State) (a b : ℕ) (bytes : List ℕ) where
       }))
 
   -- a mark alone
-  alone-taken : (r : Record) → Lettered a b (record_mark r) → Allowed s (record_mark r) → below_maximum s.numbers (record_mark r) ≡ true
+  alone_taken : (r : Record) → Lettered a b (record_mark r) → Allowed s (record_mark r) → below_maximum s.numbers (record_mark r) ≡ true
       → fields_of r ≡ [] → record_size r ≡ 2 → Held r all-bytes → InRange r → Taken s all-bytes r bytes
-  alone-taken r l may room none takes held fits = record {
+  alone_taken r l may room none takes held fits = record {
     may = may;
     room = room;
     whole = omega (arith, takes);
@@ -206,8 +206,8 @@ module _ (s : State) (a b : ℕ) (bytes : List ℕ) where
       → OfStep s all-bytes (read_body mark (take (body_size mark) bytes) (drop (body_size mark) bytes))
   unfolding read_body fields_of
   body-taken Header l may room whole = header-taken l may room whole
-  body-taken Balanced l may room whole = alone-taken balanced l may room refl (size_is balanced) tt tt
-  body-taken Contour l may room whole = alone-taken contour l may room refl (size_is contour) tt tt
+  body-taken Balanced l may room whole = alone_taken balanced l may room refl (size_is balanced) tt tt
+  body-taken Contour l may room whole = alone_taken contour l may room refl (size_is contour) tt tt
   body-taken (Edge kind) l may room whole = edge-taken kind l may room whole
   body-taken Distances l may room whole = distances-taken l may whole
   body-taken End l may room whole = end_taken s a b bytes l may

@@ -2,87 +2,76 @@
 //! offers are struck.
 
 use crate::Tally;
-use crate::owners::Along;
 use crate::tables::{Guarded, try_add_edge};
-use oracle::clashes::{KINDS, Kind, at_fault, clash, clashes, first, kept, list, offers, one};
-use oracle::clashes::{size, strike, strikings, telling_drop};
+use oracle::clashes::{KINDS, Kind, at_fault, clash, clashes, first, kept, list, one};
+use oracle::clashes::{pairs, size, strike, strikings, telling_drop};
 use oracle::numbers::Random;
-use oracle::tables::{Answer, Offer, Pair, Table, Way, is_at_fault, offer, refusal, way};
+use oracle::tables::{Answer, Pair, Table, Way, offer, refusal, way};
 
 /// An offer that both sides answer alike, and how its pair stood before.
-pub struct Step {
-    pub answer: Answer,
-    pub code: u64,
-    pub way: Option<Way>,
-    pub kept: bool,
-    pub clash: bool,
+struct Step {
+    answer: Answer,
+    code: u64,
+    way: Option<Way>,
+    kept: bool,
+    clash: bool,
 }
 
 /// A list that was run on both sides, and the table that each leaves.
-pub struct Both {
-    pub steps: Vec<Step>,
-    pub proved: Table,
-    pub source: Table,
+struct Both {
+    steps: Vec<Step>,
+    proved: Table,
+    source: Table,
 }
 
 impl Both {
-    pub fn codes(&self) -> Vec<u64> {
+    fn codes(&self) -> Vec<u64> {
         self.steps.iter().map(|s| s.code).collect()
     }
 
-    pub fn answers(&self) -> Vec<Answer> {
+    fn answers(&self) -> Vec<Answer> {
         self.steps.iter().map(|s| s.answer).collect()
-    }
-
-    /// The places of the offers that dropped their pair.
-    pub fn drops(&self) -> Vec<usize> {
-        let drops = |s: &Step| s.clash && matches!(s.answer, Answer::Declined(_));
-        (0..self.steps.len()).filter(|&k| drops(&self.steps[k])).collect()
     }
 }
 
 /// Makes the offers on both sides and compares answer, counter and every byte after each. Then each clash that the
-/// proved code leaves must be one before the offer, one in the first table, and of no offer that was kept; and at the
-/// end the owners must be as the offers that it kept have them. None where something differs.
-pub fn run_both(part: &mut Tally, first: &Table, offers: &[Offer]) -> Option<Both> {
+/// proved code leaves must be one before the offer, one in the first table, and of no offer that was kept. None where
+/// something differs.
+fn run_both(part: &mut Tally, first: &Table, pairs: &[Pair]) -> Option<Both> {
     let (mut proved, mut source) = (first.clone(), first.clone());
     let mut coloring = Guarded::new(&first.coloring);
     let mut edge_matrix = Guarded::new(&first.edge_matrix);
-    let (mut steps, mut apart, mut along) = (Vec::new(), Vec::new(), Along::new(first));
-    for (place, &o) in offers.iter().enumerate() {
-        let p = o.pair;
-        let way = refusal(&source, o).is_none().then(|| way(&source, p));
+    let (mut steps, mut apart) = (Vec::new(), Vec::new());
+    for (place, &p) in pairs.iter().enumerate() {
+        let way = refusal(&source, p).is_none().then(|| way(&source, p));
         let (was_kept, was_clash) = (kept(&source, p), clash(&source, p));
-        let code = try_add_edge(coloring.part(), edge_matrix.part(), o);
-        let answer = offer(&mut source, o);
+        let code = try_add_edge(coloring.part(), edge_matrix.part(), p);
+        let answer = offer(&mut source, p);
         let agree = code == answer.code()
             && coloring.is(&source.coloring)
             && edge_matrix.is(&source.edge_matrix);
         part.note(agree, || {
-            format!("offer {place} of {offers:?} to {first:?}: {answer:?}, proved {code:#x}")
+            format!("offer {place} of {pairs:?} to {first:?}: {answer:?}, proved {code:#x}")
         });
         let before = proved;
         proved =
             Table { coloring: coloring.part().to_vec(), edge_matrix: edge_matrix.part().to_vec() };
-        along.note(o, code, kept(&before, p));
         if let Answer::Kept(_) = answer {
             apart.push((p.0.max(p.1), p.0.min(p.1)));
         }
         let old = |c: Pair| clash(&before, c) && clash(first, c) && !apart.contains(&c);
         let go = clashes(&proved).into_iter().all(old);
-        part.note(go, || format!("a clash comes, offer {place} of {offers:?} to {first:?}"));
+        part.note(go, || format!("a clash comes, offer {place} of {pairs:?} to {first:?}"));
         if !agree || !go {
             return None;
         }
         steps.push(Step { answer, code, way, kept: was_kept, clash: was_clash });
     }
-    let owners = along.owners_are(&proved);
-    part.note(owners, || format!("owners at the end of {offers:?} to {first:?}"));
-    owners.then_some(Both { steps, proved, source })
+    Some(Both { steps, proved, source })
 }
 
 /// The classes, and which of the three kinds of lists have them.
-const ROWS: [(&str, [bool; 3]); 27] = [
+const ROWS: [(&str, [bool; 3]); 26] = [
     ("a clash at first: all stay", [true; 3]),
     ("a clash at first: some go", [true; 3]),
     ("a clash at first: all go", [true; 3]),
@@ -98,7 +87,6 @@ const ROWS: [(&str, [bool; 3]); 27] = [
     ("refused 4", [true; 3]),
     ("refused 8", [true; 3]),
     ("refused 10", [true; 3]),
-    ("refused 13", [true; 3]),
     ("not kept before", [true; 3]),
     ("kept before, no clash", [false, true, true]),
     ("a clash, offer kept", [false, false, true]),
@@ -129,7 +117,7 @@ impl Classes {
     fn note_list(&mut self, kind: Kind, first: &Table, whole: &Both) {
         let (before, after) = (clashes(first).len(), clashes(&whole.source).len());
         let name = match after {
-            _ if is_at_fault(first) => "a table at fault",
+            _ if refusal(first, (0, 1)).is_some() => "a table at fault",
             _ if before == 0 => "no clash at first",
             0 => "a clash at first: all go",
             _ if after < before => "a clash at first: some go",
@@ -154,8 +142,7 @@ impl Classes {
             (Answer::Declined(_), _) => "declined at 17",
             (Answer::Refused(4), _) => "refused 4",
             (Answer::Refused(8), _) => "refused 8",
-            (Answer::Refused(10), _) => "refused 10",
-            (Answer::Refused(_), _) => "refused 13",
+            (Answer::Refused(_), _) => "refused 10",
         };
         self.note(kind, name);
         if let (Answer::Kept(counter), Some(Way::Walk)) = (step.answer, step.way) {
@@ -191,12 +178,12 @@ impl Classes {
 
 /// Strikes some declined and refused offers: the others' answers and the table must be those of the whole list, on
 /// either side.
-pub fn struck(part: &mut Tally, first: &Table, offers: &[Offer], whole: &Both, marks: &[bool]) {
-    let Some(rest) = run_both(part, first, &strike(marks, offers)) else { return };
+fn struck(part: &mut Tally, first: &Table, pairs: &[Pair], whole: &Both, marks: &[bool]) {
+    let Some(rest) = run_both(part, first, &strike(marks, pairs)) else { return };
     let proved = rest.codes() == strike(marks, &whole.codes()) && rest.proved == whole.proved;
     let source = rest.answers() == strike(marks, &whole.answers()) && rest.source == whole.source;
-    part.note(proved, || format!("proved code, {marks:?} struck of {offers:?} to {first:?}"));
-    part.note(source, || format!("source, {marks:?} struck of {offers:?} to {first:?}"));
+    part.note(proved, || format!("proved code, {marks:?} struck of {pairs:?} to {first:?}"));
+    part.note(source, || format!("source, {marks:?} struck of {pairs:?} to {first:?}"));
 }
 
 /// Which of the declined and refused offers are struck.
@@ -215,14 +202,14 @@ fn struck_class(answers: &[Answer], marks: &[bool]) -> &'static str {
 fn struck_drop(
     part: &mut Tally,
     first: &Table,
-    offers: &[Offer],
+    pairs: &[Pair],
     whole: &Both,
     drop: usize,
 ) -> Option<&'static str> {
-    let marks = one(offers.len(), drop);
-    let mut rest = run_both(part, first, &strike(&marks, offers))?;
+    let marks = one(pairs.len(), drop);
+    let mut rest = run_both(part, first, &strike(&marks, pairs))?;
     let answers = rest.answers() == strike(&marks, &whole.answers());
-    let ((a, b), n) = (offers[drop].pair, first.n());
+    let ((a, b), n) = (pairs[drop], first.n());
     for at in [a * n + b, b * n + a] {
         rest.source.edge_matrix[at] = whole.source.edge_matrix[at];
     }
@@ -231,6 +218,12 @@ fn struck_drop(
         true if rest.source != whole.source => "struck drop: only the table",
         true => "struck drop: its pair at most",
     })
+}
+
+/// The places of the offers that dropped their pair.
+fn drops(whole: &Both) -> Vec<usize> {
+    let drops = |s: &Step| s.clash && matches!(s.answer, Answer::Declined(_));
+    (0..whole.steps.len()).filter(|&k| drops(&whole.steps[k])).collect()
 }
 
 pub fn compare(all: &mut Tally) {
@@ -243,19 +236,19 @@ pub fn compare(all: &mut Tally) {
         let fault = number / 3 % 16 == 0;
         let t = if fault { at_fault(r, n) } else { first(r, n) };
         let length = 1 + r.below(2 * n as u64 + 12) as usize;
-        let offers = list(r, &t, kind, length);
-        let Some(whole) = run_both(&mut part, &t, &offers) else { continue };
+        let pairs = list(r, &t, kind, length);
+        let Some(whole) = run_both(&mut part, &t, &pairs) else { continue };
         classes.note_list(kind, &t, &whole);
-        let drops = whole.drops();
+        let drops = drops(&whole);
         for &drop in drops.iter().take(4) {
-            let class = struck_drop(&mut part, &t, &offers, &whole, drop);
+            let class = struck_drop(&mut part, &t, &pairs, &whole, drop);
             class.inspect(|name| classes.note(kind, name));
         }
         if !drops.is_empty() {
             continue;
         }
         for marks in strikings(r, &whole.answers()) {
-            struck(&mut part, &t, &offers, &whole, &marks);
+            struck(&mut part, &t, &pairs, &whole, &marks);
             classes.note(kind, struck_class(&whole.answers(), &marks));
             if !fault && whole.steps.iter().any(|s| s.clash) {
                 classes.note(kind, "struck: a clash's offer is kept");
@@ -265,10 +258,10 @@ pub fn compare(all: &mut Tally) {
     // rare: the answers stay, and the table alone is another
     for _ in 0..12 {
         let (run, drop) = telling_drop(r, false);
-        let (t, offers) = (&run.before, offers(&run));
-        let Some(whole) = run_both(&mut part, t, &offers) else { continue };
+        let (t, pairs) = (&run.before, pairs(&run));
+        let Some(whole) = run_both(&mut part, t, &pairs) else { continue };
         classes.note_list(Kind::Any, t, &whole);
-        let class = struck_drop(&mut part, t, &offers, &whole, drop);
+        let class = struck_drop(&mut part, t, &pairs, &whole, drop);
         class.inspect(|name| classes.note(Kind::Any, name));
     }
     classes.print(all);

@@ -9,7 +9,6 @@ mod distances;
 mod edges;
 mod jobs;
 mod leaves;
-mod owners;
 mod records;
 mod root;
 mod shapes;

@@ -1,12 +1,9 @@
 //! The spline table: single offers, refusals and lists of offers.
 
-use crate::owners::{Along, OwnerTable};
-use crate::{Tally, clashes, owners};
-use oracle::clashes::kept;
+use crate::{Tally, clashes};
 use oracle::numbers::Random;
-use oracle::owners::FOUNDRIES;
-use oracle::tables::{Answer, FAULTS, Offer, Table, Way};
-use oracle::tables::{foundry, list, offer, pair, size, sound, start, way};
+use oracle::tables::{Answer, FAULTS, Pair, Table, Way};
+use oracle::tables::{list, offer, pair, size, sound, start, way};
 
 #[link(name = "capi", kind = "static")]
 unsafe extern "C" {
@@ -15,17 +12,15 @@ unsafe extern "C" {
         n: usize,
         edge_matrix: *mut u8,
         entries: usize,
-        foundry: u8,
         a: usize,
         b: usize,
     ) -> u64;
 }
 
-pub fn try_add_edge(coloring: &mut [u8], edge_matrix: &mut [u8], o: Offer) -> u64 {
+pub fn try_add_edge(coloring: &mut [u8], edge_matrix: &mut [u8], (a, b): Pair) -> u64 {
     let (c, n) = (coloring.as_mut_ptr(), coloring.len());
     let (e, m) = (edge_matrix.as_mut_ptr(), edge_matrix.len());
-    let (a, b) = o.pair;
-    unsafe { merelsplum_try_add_edge(c, n, e, m, o.foundry, a, b) }
+    unsafe { merelsplum_try_add_edge(c, n, e, m, a, b) }
 }
 
 /// A buffer with bytes before and after it that must stay as they are.
@@ -51,13 +46,13 @@ impl Guarded {
 
 /// Makes an offer to the proved code and to the source, the latter on `t` itself, and compares
 /// answer, counter and every byte. The answer is the source's.
-pub fn compare_offer(part: &mut Tally, t: &mut Table, o: Offer) -> Answer {
+fn compare_offer(part: &mut Tally, t: &mut Table, p: Pair) -> Answer {
     let (mut coloring, mut edge_matrix) = (Guarded::new(&t.coloring), Guarded::new(&t.edge_matrix));
-    let code = try_add_edge(coloring.part(), edge_matrix.part(), o);
+    let code = try_add_edge(coloring.part(), edge_matrix.part(), p);
     let before = t.clone();
-    let answer = offer(t, o);
+    let answer = offer(t, p);
     let agree = code == answer.code() && coloring.is(&t.coloring) && edge_matrix.is(&t.edge_matrix);
-    part.note(agree, || format!("{o:?} to {before:?}: {answer:?}, proved {code:#x}"));
+    part.note(agree, || format!("offer {p:?} to {before:?}: {answer:?}, proved {code:#x}"));
     answer
 }
 
@@ -102,33 +97,22 @@ impl Histogram {
 fn offers(all: &mut Tally) {
     let mut part = Tally::default();
     let mut histogram = Histogram::default();
-    let mut owners = OwnerTable::default();
     let mut sizes = [0u64; 65];
-    let mut no_foundry = 0;
     let r = &mut Random(200);
     while part.compared < 1_200_000 {
         let n = size(r);
         let mut t = sound(r, n, part.compared % 2 == 1);
         let p = pair(r, &t);
-        let o = Offer { foundry: foundry(r), pair: p };
         sizes[n] += 1;
         if n < 2 {
-            compare_offer(&mut part, &mut t, o);
+            compare_offer(&mut part, &mut t, p);
             continue;
         }
-        let (way, clash, owner) = (way(&t, p), t.clashes(), t.owner(p));
-        let answer = compare_offer(&mut part, &mut t, o);
-        if answer == Answer::Refused(13) {
-            no_foundry += 1;
-            continue;
-        }
-        histogram.note(Histogram::row(way, answer), clash, owner != 0);
-        owners.note(way, answer, owner, o.foundry);
+        let (way, clash, kept) = (way(&t, p), t.clashes(), t.kept(p));
+        let answer = compare_offer(&mut part, &mut t, p);
+        histogram.note(Histogram::row(way, answer), clash, kept);
     }
     histogram.print();
-    owners.print(all);
-    println!("refused 13: {no_foundry}");
-    all.met(no_foundry, || "a single offer of no foundry".into());
     for (row, columns) in histogram.0.iter().enumerate() {
         // Where a pair was kept before and the colours are equal, the pair itself is the clash.
         for (column, count) in columns.iter().enumerate() {
@@ -141,53 +125,44 @@ fn offers(all: &mut Tally) {
     all.close("offers", part);
 }
 
-pub const REFUSALS: [u8; 4] = [4, 8, 10, 13];
-
 /// Offers with up to three faults: what is refused, by which number, and no byte changed.
 fn refusals(all: &mut Tally) {
     let mut part = Tally::default();
-    let mut alone = [[0u64; 5]; FAULTS.len()];
-    let mut together = [0u64; 5];
-    let mut no_foundry = [0u64; 5];
+    let mut alone = [[0u64; 4]; FAULTS.len()];
+    let mut together = [0u64; 4];
     let mut sizes = [0u64; 80];
     let r = &mut Random(201);
     for _ in 0..400_000 {
         let n = if r.coin() { size(r) } else { r.below(6) as usize };
         let mut t = sound(r, n, true);
-        let mut o = Offer { foundry: r.pick(&FOUNDRIES), pair: pair(r, &t) };
+        let mut p = pair(r, &t);
         let faults = r.below(4);
         let mut fault = 0;
         for _ in 0..faults {
             fault = r.below(FAULTS.len() as u64) as usize;
-            FAULTS[fault].1(r, &mut t, &mut o);
+            FAULTS[fault].1(r, &mut t, &mut p);
         }
         sizes[t.n()] += 1;
-        let which = match compare_offer(&mut part, &mut t, o) {
-            Answer::Refused(number) => 1 + REFUSALS.iter().position(|&n| n == number).unwrap(),
+        let which = match compare_offer(&mut part, &mut t, p) {
+            Answer::Refused(4) => 1,
+            Answer::Refused(8) => 2,
+            Answer::Refused(10) => 3,
             _ => 0,
         };
         together[which] += 1;
         if faults == 1 && n > 2 {
             alone[fault][which] += 1;
         }
-        if faults > 1 && !FOUNDRIES.contains(&o.foundry) {
-            no_foundry[which] += 1;
-        }
     }
-    let row = |name: &str, counts: &[u64; 5]| {
-        let counts = counts.map(|count| format!("{count:>10}")).concat();
-        println!("{name:32}{counts}");
-    };
-    println!("{:32}{:>10}{:>10}{:>10}{:>10}{:>10}", "", "accepted", "4", "8", "10", "13");
-    for ((name, _), counts) in FAULTS.iter().zip(alone) {
-        row(name, &counts);
-        all.met(counts[1..].iter().sum(), || format!("refused: {name}"));
+    println!("{:32}{:>10}{:>10}{:>10}{:>10}", "", "accepted", "4", "8", "10");
+    for ((name, _), [accepted, four, eight, ten]) in FAULTS.iter().zip(alone) {
+        println!("{name:32}{accepted:>10}{four:>10}{eight:>10}{ten:>10}");
+        all.met(four + eight + ten, || format!("refused: {name}"));
     }
-    row("up to three together", &together);
-    row("no foundry and another fault", &no_foundry);
-    for (which, number) in REFUSALS.iter().enumerate() {
+    let [accepted, four, eight, ten] = together;
+    println!("{:32}{accepted:>10}{four:>10}{eight:>10}{ten:>10}", "up to three together");
+    for (which, number) in [4, 8, 10].iter().enumerate() {
         all.met(together[1 + which], || format!("refused {number}"));
-        all.met(no_foundry[1 + which], || format!("refused {number}, of no foundry"));
     }
     for n in [0, 1, 2, 63, 64, 65] {
         all.met(sizes[n], || format!("refusals, {n} splines"));
@@ -199,39 +174,36 @@ fn refusals(all: &mut Tally) {
 fn lists(all: &mut Tally) {
     let mut part = Tally::default();
     let mut counts = [0u64; 3];
-    let mut without_drop = 0;
     let r = &mut Random(202);
     for number in 0..1600 {
         let n = size(r);
         let mut t = start(r, n, number % 4 == 0);
+        let mut p = (0, 1);
         if number % 16 == 1 {
             // a table at fault in itself
-            FAULTS[r.below(5) as usize].1(r, &mut t, &mut Offer { foundry: 1, pair: (0, 1) });
+            FAULTS[r.below(4) as usize].1(r, &mut t, &mut p);
         }
-        let (mut proved, mut along) = (t.clone(), Along::new(&t));
-        for o in list(r, n) {
-            let was_kept = kept(&proved, o.pair);
-            let code = try_add_edge(&mut proved.coloring, &mut proved.edge_matrix, o);
-            along.note(o, code, was_kept);
-            let answer = offer(&mut t, o);
+        let (mut coloring, mut edge_matrix) = (t.coloring.clone(), t.edge_matrix.clone());
+        for p in list(r, n) {
+            let code = try_add_edge(&mut coloring, &mut edge_matrix, p);
+            let answer = offer(&mut t, p);
             counts[match answer {
                 Answer::Kept(_) => 0,
                 Answer::Declined(_) => 1,
                 Answer::Refused(_) => 2,
             }] += 1;
-            let agree = code == answer.code() && proved == t;
-            part.note(agree, || format!("list {number}, {o:?}: {answer:?}, proved {code:#x}"));
+            let agree =
+                code == answer.code() && coloring == t.coloring && edge_matrix == t.edge_matrix;
+            part.note(agree, || {
+                format!("list {number}, offer {p:?}: {answer:?}, proved {code:#x}")
+            });
             if !agree {
                 break;
             }
         }
-        part.note(along.owners_are(&proved), || format!("list {number}: owners at the end"));
-        without_drop += along.none_dropped() as u64;
     }
     let [kept, declined, refused] = counts;
     println!("lists: {kept} kept, {declined} declined, {refused} refused");
-    println!("lists in which no offer drops its pair: {without_drop}");
-    all.met(without_drop, || "a list in which no offer drops its pair".into());
     for count in counts {
         all.met(count, || "an answer in the lists".into());
     }
@@ -243,5 +215,4 @@ pub fn compare(all: &mut Tally) {
     refusals(all);
     lists(all);
     clashes::compare(all);
-    owners::compare(all);
 }

@@ -7,7 +7,6 @@ use lib.ListN.{length, drop}
 use Rattle.coloring.specs.SplineTable.{table_of, Offered}
 use Rattle.coloring.specs.Sequence.{run}
 use Rattle.coloring.specs.PairNumbers.{pair_at}
-use Rattle.coloring.specs.SplineColors.{own_offers}
 use Rattle.coloring.proofs.spline_table.OfferLaws.{unrefused_offerable}
 use Rattle.coloring.proofs.spline_colors.OrderLaws.{Offers, checked, offer-next, offers_end}
 use Rattle.coloring.proofs.spline_colors.offer_pairs.Statement.{statement}
@@ -15,7 +14,7 @@ use Rattle.coloring.proofs.spline_colors.offer_pairs.Tie as tie
 
 abbrev invariant-loop : tie.invariant-loop
 invariant-loop coloring₀ edge-matrix₀ codes order from k₀ coloring edge-matrix k =
-    Offers (length coloring₀) codes order (run (table_of coloring₀ edge-matrix₀) (own_offers (map (pair_at codes) (drop from order)))).table
+    Offers (length coloring₀) codes order (run (table_of coloring₀ edge-matrix₀) (map (pair_at codes) (drop from order))).table
     (table_of coloring edge-matrix) k
 
 abbrev decreases-loop : tie.decreases-loop
@@ -46,7 +45,7 @@ try-add-edge-unchecked-requires c κs =
     let read = c.before.before in
     let at = read.before.before in
     let s = start at in
-    unrefused_offerable _ _ _ _
+    unrefused_offerable _ _ _
     (checked _ _ _ _ s.pre.few s.pre.pairs _ at.loop.k at.loop.invariant read.before.loop-test.true _ read.code_at.ensures)
 
 add-k : tie.Need-overflow-add-k invariant-loop decreases-loop

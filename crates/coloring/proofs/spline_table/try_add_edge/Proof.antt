@@ -1,16 +1,13 @@
 -- `try_add_edge` meets its contract: the refusals in their order, each with the buffers as they came, and then the
 -- rule.
-use mathlib.Core.Path.{◌≡◌, sym, ◌∙◌}
-use mathlib.Core.Logic.{⊎_elim, ◌≢◌}
-use mathlib.Core.Bool.{true}
-use Prim.Native.Nat.{◌<◌}
+use mathlib.Core.Path.{sym, ◌∙◌}
+use mathlib.Core.Logic.{⊎_elim}
 use native.Mathlib.Omega.{arith}
 use borrow.Author.Tests.{leb-true, leb-false, eqb-true, eqb-false, not-true, not-false}
-use Rattle.coloring.specs.SplineTable.{Table, table_of, sound}
+use Rattle.coloring.specs.SplineTable.{Table, table_of}
 use Rattle.coloring.proofs.recolor.RowLaws.{square_below}
-use Rattle.coloring.proofs.spline_table.TableLaws.{splines}
 use Rattle.coloring.proofs.spline_table.OfferLaws.{Unrefused, unrefused_offerable, offer-many, offer-lengths, offer_unsound}
-use Rattle.coloring.proofs.spline_table.OfferLaws.{offer-first, offer-second, offer_equal, offer_unknown, offer_rule}
+use Rattle.coloring.proofs.spline_table.OfferLaws.{offer-first, offer-second, offer_equal, offer_rule}
 use borrow.Author.Rules.{rules}
 use Rattle.coloring.proofs.spline_table.try_add_edge.Statement.{statement}
 use Rattle.coloring.proofs.spline_table.try_add_edge.Tie as tie
@@ -36,53 +33,32 @@ module _ (c : tie.Else6) where
   abbrev entry : tie.Start
   entry = start tested
 
-  is_sound : sound (given entry) ≡ true
-  is_sound = sym tested.is-sound.ensures ∙ not-false _ c.before.before.before.if3.false
-
-  first : entry.args.a < splines (given entry)
-  first = c.before.before.if4.false
-
-  second : entry.args.b < splines (given entry)
-  second = leb-false _ _ c.before.if5.false
-
-  different : entry.args.a ≢ entry.args.b
-  different = eqb-false _ _ c.if6.false
-
--- and a foundry
-
-module _ (c : tie.Else7) where
-  abbrev pair : tie.Else6
-  pair = c.before.before
-
-  passes : Unrefused (given (entry pair)) (entry pair).args.foundry (entry pair).args.a (entry pair).args.b
+  passes : Unrefused (given entry) entry.args.a entry.args.b
   passes =
       record {
-        few = (sized (tested pair)).before.if1.left;
-        size = (sized (tested pair)).if2.left;
-        is_sound = is_sound pair;
-        first = first pair;
-        second = second pair;
-        different = different pair;
-        known = sym c.before.is-foundry.ensures ∙ not-false _ c.if7.false;
+        few = (sized tested).before.if1.left;
+        size = (sized tested).if2.left;
+        is_sound = sym tested.is-sound.ensures ∙ not-false _ c.before.before.before.if3.false;
+        first = c.before.before.if4.false;
+        second = leb-false _ _ c.before.if5.false;
+        different = eqb-false _ _ c.if6.false;
       }
 
 returns : tie.Need-returns
-returns c = let s = c.before.before.before in sym (offer-many (given s) s.args.foundry s.args.a s.args.b c.if1.true)
+returns c = let s = c.before.before.before in sym (offer-many (given s) s.args.a s.args.b c.if1.true)
 
 mul-if2 : tie.Need-overflow-mul-if2
 mul-if2 c = omega (arith, square_below c.if1.false)
 
 returns_2 : tie.Need-returns-2
-returns_2 c =
-    let s = c.before.before.before.before in
-    sym (offer-lengths (given s) s.args.foundry s.args.a s.args.b c.before.if1.false c.if2.true)
+returns_2 c = let s = c.before.before.before.before in sym (offer-lengths (given s) s.args.a s.args.b c.before.if1.false c.if2.true)
 
 returns-3 : tie.Need-returns-3
 returns-3 c =
     let r = c.before in
     let s = start r in
     sym
-    (offer_unsound (given s) s.args.foundry s.args.a s.args.b (sized r).before.if1.false (sized r).if2.false
+    (offer_unsound (given s) s.args.a s.args.b (sized r).before.if1.false (sized r).if2.false
     (sym r.is-sound.ensures ∙ not-true _ c.if3.true))
 
 returns-4 : tie.Need-returns-4
@@ -92,35 +68,26 @@ returns-4 c =
     let few = (sized r).before.if1.false in
     let size = (sized r).if2.false in
     sym
-    (⊎_elim (λ w. offer-first (given s) s.args.foundry s.args.a s.args.b few size w.taken)
-    (⊎_elim (λ w. offer-second (given s) s.args.foundry s.args.a s.args.b few size (leb-true _ _ w.1.taken))
-    (λ w. offer_equal (given s) s.args.foundry s.args.a s.args.b few size (eqb-true _ _ w.2.taken)))
+    (⊎_elim (λ w. offer-first (given s) s.args.a s.args.b few size w.taken)
+    (⊎_elim (λ w. offer-second (given s) s.args.a s.args.b few size (leb-true _ _ w.1.taken))
+    (λ w. offer_equal (given s) s.args.a s.args.b few size (eqb-true _ _ w.2.taken)))
     c.if4.branch)
-
-returns-5 : tie.Need-returns-5
-returns-5 c =
-    let q = c.before.before in
-    let s = entry q in
-    let r = tested q in
-    sym
-    (offer_unknown (given s) s.args.foundry s.args.a s.args.b (sized r).before.if1.left (sized r).if2.left
-    (is_sound q) (first q) (second q) (different q) (sym c.before.is-foundry.ensures ∙ not-true _ c.if7.true))
 
 try-add-edge-unchecked-requires : tie.Need-try-add-edge-unchecked-requires
 try-add-edge-unchecked-requires c κs =
-    let known = c.before.before in
-    unrefused_offerable (given (entry (pair known))) _ _ _ (passes known)
+    let pair = c.before.before in
+    unrefused_offerable (given (entry pair)) _ _ (passes pair)
 
-returns-6 : tie.Need-returns-6
-returns-6 c =
+returns-5 : tie.Need-returns-5
+returns-5 c =
     let tries = c.before.before.before.before in
-    let known = tries.before.before.before in
-    let s = entry (pair known) in
-    tries.try-add-edge-unchecked.ensures ∙ sym (offer_rule (given s) s.args.foundry s.args.a s.args.b (passes known))
+    let pair = tries.before.before.before in
+    let s = entry pair in
+    tries.try-add-edge-unchecked.ensures ∙ sym (offer_rule (given s) s.args.a s.args.b (passes pair))
 
 pub try-add-edge-spec : {M : Type 1} → statement M
 try-add-edge-spec =
     tie.close
     (tie.spec returns mul-if2 returns_2 (λ c κs. search rules) (λ c. search rules) (λ c. search rules) returns-3
-    (λ c. search rules) (λ c. search rules) returns-4 (λ c κs. search rules) (λ c. search rules) (λ c. search rules) returns-5
-    try-add-edge-unchecked-requires (λ c. search rules) (λ c. search rules) returns-6)
+    (λ c. search rules) (λ c. search rules) returns-4 try-add-edge-unchecked-requires (λ c. search rules) (λ c. search rules)
+    returns-5)

@@ -32,24 +32,24 @@ module _ (distances : List Float) (found : List Cornered) (n : ℕ) (sized : n �
   Valued marking r values = (checked_answer r ≡ first_refusal (check_marking marking n distances)) × (r ≡ Passed → values ≡ spline_values marking distances found)
 
   module _ {marking : Marking} {values : List ℕ} where
-    by-colors : {strategy : Strategy} {seed : ℕ} → marking ≡ Colors strategy seed
+    by_colors : {strategy : Strategy} {seed : ℕ} → marking ≡ Colors strategy seed
         → values ≡ map bits_of (shape_colors strategy (init_color seed) found) → Valued marking Passed values
     unfolding spline_values first_refusal
-    by-colors m e = rw m (refl, λ p. e)
+    by_colors m e = rw m (refl, λ p. e)
 
     too_many : marking ≡ Numbers → 64 < n → Valued marking (Failed TooMany) values
     unfolding first_refusal
     too_many m h = rw m (rw (lt-leb n 64 h), λ p. cc)
 
-    by-numbers : marking ≡ Numbers → n ≤ 64 → values ≡ range 0 n → Valued marking Passed values
+    by_numbers : marking ≡ Numbers → n ≤ 64 → values ≡ range 0 n → Valued marking Passed values
     unfolding spline_values first_refusal
-    by-numbers m h e = rw m (rw (le-leb n 64 h), λ p. e ∙ ap (range 0) sized)
+    by_numbers m h e = rw m (rw (le-leb n 64 h), λ p. e ∙ ap (range 0) sized)
 
-    by-distances : (old : List ℕ) {seed : ℕ} {r : Checked} {coloring : List ℕ} → marking ≡ Distances seed → length old ≡ n
+    by_distances : (old : List ℕ) {seed : ℕ} {r : Checked} {coloring : List ℕ} → marking ≡ Distances seed → length old ≡ n
         → splines_colored (checked_answer r) coloring ≡ color_splines_into distances seed old → values ≡ map (λ color. bits_of (spline_color color)) coloring
         → Valued marking r values
     unfolding spline_values
-    by-distances old {seed} {r} {coloring} m long colors e =
+    by_distances old {seed} {r} {coloring} m long colors e =
         let outcome = splines_answered distances seed old r coloring colors in
         rw m (
           rw long at outcome.0,
@@ -79,7 +79,7 @@ returns_2 c =
     let colored = c.before.before in
     let told = colored.before.before.before in
     let known = told.before.before in
-    by-colors (start known).args.distances.now (found known) _ (size known) told.marking.given.1 colored.shape-colors.ensures
+    by_colors (start known).args.distances.now (found known) _ (size known) told.marking.given.1 colored.shape-colors.ensures
 
 returns-3 : tie.Need-returns-3
 returns-3 c =
@@ -87,7 +87,7 @@ returns-3 c =
     let few = counted.before.before in
     let told = few.before in
     let known = told.before.before in
-    by-numbers (start known).args.distances.now (found known) _ (size known) told.enum_told.given.1 few.if1.false counted.count-up.ensures
+    by_numbers (start known).args.distances.now (found known) _ (size known) told.enum_told.given.1 few.if1.false counted.count-up.ensures
 
 returns-4 : tie.Need-returns-4
 returns-4 c =
@@ -95,7 +95,7 @@ returns-4 c =
     let colored = bytes.before.before.before.before in
     let told = colored.before.before.before in
     let known = told.before.before in
-    by-distances (start known).args.distances.now (found known) _ (size known) _ told.marking2.given.1 refl colored.color-splines.ensures
+    by_distances (start known).args.distances.now (found known) _ (size known) _ told.marking2.given.1 refl colored.color-splines.ensures
     bytes.color-numbers.ensures
 
 pub spline-values-spec : {M : Type 1} → statement M

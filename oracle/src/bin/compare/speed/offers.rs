@@ -1,13 +1,12 @@
-//! Offers of all pairs to a spline table, whose neighbours in a ring are kept, by one foundry. The proved code checks
-//! the whole table at every offer; the source has no owners.
+//! Offers of all pairs to a spline table, whose neighbours in a ring are kept. The proved code checks
+//! the whole table at every offer.
 
 use super::clock::pass;
 use super::{Race, Row, Table};
 use crate::tables::try_add_edge;
 use oracle::given::probe;
 use oracle::numbers::Random;
-use oracle::owners::erased;
-use oracle::tables::{self, Offer, Pair, all_pairs, ring};
+use oracle::tables::{self, Pair, all_pairs, ring};
 use std::hint::black_box;
 
 /// A table, and what is offered to it, one after the other.
@@ -43,8 +42,7 @@ fn kept((table, pairs): List) -> List {
 
 fn offer_proved((table, pairs): &mut List) {
     for &pair in pairs.iter() {
-        let offer = Offer { foundry: 1, pair };
-        black_box(try_add_edge(&mut table.coloring, &mut table.edge_matrix, offer));
+        black_box(try_add_edge(&mut table.coloring, &mut table.edge_matrix, pair));
     }
 }
 
@@ -53,7 +51,7 @@ type SourceList = (Vec<i32>, Vec<i32>, Vec<Pair>);
 
 fn source_list((table, pairs): &List) -> SourceList {
     let wide = |bytes: &[u8]| bytes.iter().map(|&x| x as i32).collect();
-    (wide(&table.coloring), wide(&erased(&table.edge_matrix)), pairs.clone())
+    (wide(&table.coloring), wide(&table.edge_matrix), pairs.clone())
 }
 
 /// With the buffer that `edge_coloring_by_distance` allocates for all its offers.
