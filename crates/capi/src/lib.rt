@@ -1,4 +1,6 @@
 // The proved functions that a host calls, from C or Rust, over numbers and slices only. An answer is one number.
+#![tactic(auto)]
+
 pub mod balanced;
 pub mod by_distance;
 pub mod directions;

@@ -1,4 +1,6 @@
 // Reads a job file from standard input and prints a line for each coloured edge, or the number of its refusal.
+#![tactic(auto)]
+
 use job::limits::{DECIDING_BYTES, MAX_TEXT};
 use libc::{STDIN_FILENO, STDOUT_FILENO};
 

@@ -16,14 +16,14 @@ use geometry::edge_segment::Directions;
 use math::vector2::{Normalized, Vector2};
 
 // The answer of `edge_directions`: how many edges there are, or the refusal.
-#[derive(Drop)]
+#[derive(Clone, Copy)]
 pub enum Directed {
     Edges(usize),
     Refused(Refusal),
 }
 
 // The vectors of the two unit directions of an edge.
-#[derive(Drop)]
+#[derive(Clone, Copy)]
 pub(crate) struct Ends {
     pub(crate) start: Vector2,
     pub(crate) end: Vector2,

@@ -17,7 +17,7 @@ use geometry::edge_color::EdgeColor;
 
 // A corner of the ink-trap colouring: its place, the estimated length of the spline before it, whether it is minor, its
 // colour.
-#[derive(Drop)]
+#[derive(Clone, Copy)]
 pub struct InkTrapCorner {
     pub index: usize,
     pub prev_edge_length_estimate: f64,

@@ -1,5 +1,7 @@
 // The colouring itself, after the source's coloring/: simple, ink-trap and by-distance colouring of outlines, and the
 // spline table with its offers.
+#![tactic(auto)]
+
 pub mod by_distance;
 mod corners;
 pub mod directions;

@@ -15,7 +15,7 @@ use math::vector2::Vector2;
 
 // What a colouring wrote, how many contours and edges, and how many splines they have; and how many of the directions
 // of the outline's edges, two an edge, had no length, so that (0, 1) stands in for them.
-#[derive(Drop)]
+#[derive(Clone, Copy)]
 pub struct Counts {
     pub contours: usize,
     pub edges: usize,
@@ -24,7 +24,7 @@ pub struct Counts {
 }
 
 // The answer of a colouring: what was written, or the refusal.
-#[derive(Drop)]
+#[derive(Clone, Copy)]
 pub enum Colored {
     Edges(Counts),
     Refused(Refusal),

@@ -16,7 +16,7 @@ const MAX_RECOLOR_STEPS: u8 = 16;
 const FIRST_POSSIBLE_COLOR: [u8; 8] = [3, 0, 1, 0, 2, 2, 1, 0];
 
 // How a walk ended, with its counter.
-#[derive(Drop)]
+#[derive(Clone, Copy)]
 pub(crate) enum Walked {
     Recolored(u8),
     Stopped(u8),
@@ -211,7 +211,7 @@ pub(crate) fn recolor(
     requires { Offerable coloring.now edge_matrix.now a b × (length buffer.old ≡ length coloring.now) }
     ensures { ended result buffer.new ≡ defined.recolor coloring.now edge_matrix.now a b }
 {
-    bytes::copy(coloring, buffer);
+    buffer.copy_from_slice(coloring);
     let c = coloring[a];
     let d = first_possible_color(other_colors(c));
     buffer[b] = d;

@@ -3,7 +3,7 @@
 ghost use Rattle.std.specs.Prelude.{◌≡◌};
 ghost use Rattle.coloring.specs.Refusal.{refusal_number};
 
-#[derive(Drop)]
+#[derive(Clone, Copy)]
 pub enum Refusal {
     // 1, "torn": the file ends inside a record or before its end mark
     Truncated,
@@ -51,7 +51,7 @@ impl Refusal {
 }
 
 // What checks find.
-#[derive(Drop)]
+#[derive(Clone, Copy)]
 pub enum Checked {
     Passed,
     Failed(Refusal),

@@ -3,7 +3,7 @@ ghost use Rattle.std.specs.Prelude.{◌≡◌};
 ghost use Rattle.coloring.specs.Seed.{seed_extract2, seed_extract3};
 
 // A draw from a seed: the number drawn, and the seed that is left.
-#[derive(Drop)]
+#[derive(Clone, Copy)]
 pub struct Draw {
     pub value: u64,
     pub seed: u64,

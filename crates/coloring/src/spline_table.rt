@@ -10,7 +10,7 @@ use crate::recolor::{Walked, first_possible_color, recolor, row, vertex_possible
 use crate::refusal::Refusal;
 
 // What became of an offer. The number is the counter of the walk, 0 where there was none.
-#[derive(Drop)]
+#[derive(Clone, Copy)]
 pub enum Offer {
     Kept(u8),
     Declined(u8),
@@ -37,7 +37,7 @@ fn add_edge_by_walk(coloring: &mut [u8], edge_matrix: &mut [u8], a: usize, b: us
     let mut buffer = [0u8; MAX_SPLINES];
     match recolor(&mut buffer[..n], coloring, edge_matrix, a, b) {
         Walked::Recolored(step) => {
-            bytes::copy(&buffer[..n], coloring);
+            coloring.copy_from_slice(&buffer[..n]);
             Offer::Kept(step)
         }
         Walked::Stopped(step) => {

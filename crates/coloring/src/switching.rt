@@ -6,7 +6,7 @@ use crate::seed::{seed_extract2, seed_extract3};
 use geometry::edge_color::EdgeColor;
 
 // The colour that is being drawn with, and the seed that is left.
-#[derive(Drop)]
+#[derive(Clone, Copy)]
 pub struct Pen {
     pub color: EdgeColor,
     pub seed: u64,

@@ -2,7 +2,7 @@
 ghost use Rattle.std.specs.Prelude.{◌≡◌};
 ghost use Rattle.geometry.specs.EdgeColor.{bits_of, from_bits, has_red, has_green, has_blue, has_channel};
 
-#[derive(Drop)]
+#[derive(Clone, Copy)]
 pub enum EdgeColor {
     Black,
     Red,

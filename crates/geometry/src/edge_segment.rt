@@ -9,7 +9,7 @@ ghost use Rattle.geometry.specs.EdgeSegment.{start_control, end_control, split_c
 use math::vector2::{Normalized, Vector2, cross, scale};
 
 // An edge with its control points: 2 of a line, 3 of a quadratic, 4 of a cubic.
-#[derive(Drop)]
+#[derive(Clone, Copy)]
 pub enum EdgeSegment {
     Line(Vector2, Vector2),
     Quadratic(Vector2, Vector2, Vector2),
@@ -17,14 +17,14 @@ pub enum EdgeSegment {
 }
 
 // The unit directions in which an edge starts and ends, each with whether it is a stand-in.
-#[derive(Drop)]
+#[derive(Clone, Copy)]
 pub struct Directions {
     pub start: Normalized,
     pub end: Normalized,
 }
 
 // The three edges of a split.
-#[derive(Drop)]
+#[derive(Clone, Copy)]
 pub struct Thirds {
     pub first: EdgeSegment,
     pub second: EdgeSegment,
@@ -32,14 +32,14 @@ pub struct Thirds {
 }
 
 // The stored form of an edge: its kind, 1 line, 2 quadratic, 3 cubic, and its control points, x then y.
-#[derive(Drop)]
+#[derive(Clone, Copy)]
 pub struct Stored {
     pub kind: u8,
     pub points: [f64; 8],
 }
 
 // What a stored form stands for.
-#[derive(Drop)]
+#[derive(Clone, Copy)]
 pub enum Decoded {
     Edge(EdgeSegment),
     // The kind is none of 1, 2, 3.

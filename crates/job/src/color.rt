@@ -20,7 +20,7 @@ use coloring::settings::{Marking, Settings, Strategy as Pen};
 use math::bits::float;
 
 fn marking_by(strategy: Strategy, seed: u64) -> Marking
-    ensures* { λ r. ⌜ r ≡ marking_by strategy seed ⌝ }
+    ensures { result ≡ marking_by strategy seed }
 {
     match strategy {
         Strategy::Simple => Marking::Colors(Pen::Simple, seed),
@@ -31,7 +31,7 @@ fn marking_by(strategy: Strategy, seed: u64) -> Marking
 
 // What a job asks of the colouring of its outline.
 fn job_settings(n: Numbers) -> Settings
-    ensures* { λ r. ⌜ r ≡ job_settings n ⌝ }
+    ensures { result ≡ job_settings n }
 {
     let header = n.header;
     let strategy = header.strategy;
@@ -58,8 +58,8 @@ fn color_in(
     out_colors: &mut [u8],
 ) -> Colored
     requires { HoldsJobs (buffers lengths.old kinds.old points.old distances.old) }
-    ensures* { λ r. ⌜ outcome (colored_answer r) (at_exit out_lengths out_kinds out_points out_colors)
-        ≡ color_file file.now (at_entry out_lengths out_kinds out_points out_colors) ⌝ }
+    ensures { outcome (colored_answer result) (at_exit out_lengths out_kinds out_points out_colors)
+        ≡ color_file file.now (at_entry out_lengths out_kinds out_points out_colors) }
 {
     match progress::scan(file) {
         Read::Job(n) => {
@@ -95,8 +95,8 @@ pub fn color(
     out_points: &mut [f64],
     out_colors: &mut [u8],
 ) -> Colored
-    ensures* { λ r. ⌜ outcome (colored_answer r) (at_exit out_lengths out_kinds out_points out_colors)
-        ≡ color_file file.now (at_entry out_lengths out_kinds out_points out_colors) ⌝ }
+    ensures { outcome (colored_answer result) (at_exit out_lengths out_kinds out_points out_colors)
+        ≡ color_file file.now (at_entry out_lengths out_kinds out_points out_colors) }
 {
     let mut lengths = [0u16; MAX_CONTOURS];
     let mut kinds = [0u8; MAX_EDGES];
@@ -118,7 +118,7 @@ pub fn color(
 // How many pairs so many splines have.
 fn pair_count(splines: usize) -> usize
     requires { splines ≤ max_splines }
-    ensures* { λ r. ⌜ r ≡ splines * (splines - 1) / 2 ⌝ }
+    ensures { result ≡ splines * (splines - 1) / 2 }
 {
     if splines == 0 {
         return 0;
@@ -128,7 +128,7 @@ fn pair_count(splines: usize) -> usize
 
 // What was counted, where it has one distance for each pair of splines.
 fn paired(counted: Colored, distances: usize) -> Colored
-    ensures* { λ r. ⌜ colored_answer r ≡ paired (colored_answer counted) distances ⌝ }
+    ensures { colored_answer result ≡ paired (colored_answer counted) distances }
 {
     match counted {
         Colored::Edges(counts) => {
@@ -161,7 +161,7 @@ fn check_by_distance(
     requires asks_distances { AsksDistances (read_job file.now) n }
     requires holds_jobs { HoldsJobs (buffers lengths.old kinds.old points.old distances.old) }
     requires holds_results { HoldsResults (result out_lengths.old out_kinds.old out_points.old out_splines.old) }
-    ensures* { λ r. ⌜ colored_answer r ≡ check_file file.now ⌝ }
+    ensures { colored_answer result ≡ check_file file.now }
 {
     reader::fill(file, lengths, kinds, points, distances);
     let contours = n.contours;
@@ -184,7 +184,7 @@ fn check_by_distance(
 
 // The answer of reading and colouring a file where every result has room: how many edges, or the first refusal.
 pub fn check(file: &[u8]) -> Colored
-    ensures* { λ r. ⌜ colored_answer r ≡ check_file file.now ⌝ }
+    ensures { colored_answer result ≡ check_file file.now }
 {
     let mut out_lengths = [0u16; MAX_CONTOURS];
     let mut out_kinds = [0u8; MAX_RESULT_EDGES];
@@ -224,7 +224,7 @@ pub fn check(file: &[u8]) -> Colored
 // The numbers of an accepted file's job, or the first refusal of reading and checking it. A job without distances has
 // nothing left to check.
 pub fn accept(file: &[u8]) -> Read
-    ensures* { λ r. ⌜ read_answer r ≡ answer_of (accept_job file.now) ⌝ }
+    ensures { read_answer result ≡ answer_of (accept_job file.now) }
 {
     match progress::scan(file) {
         Read::Job(n) => {

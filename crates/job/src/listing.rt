@@ -16,7 +16,7 @@ use coloring::outline::Colored;
 use coloring::refusal::Refusal;
 
 // The answer of a listing: how many bytes were written, or 11.
-#[derive(Drop)]
+#[derive(Clone, Copy)]
 pub enum Listed {
     Bytes(usize),
     Refused(Refusal),
@@ -24,7 +24,7 @@ pub enum Listed {
 
 fn put(out: &mut [u8], at: usize, byte: u8) -> usize
     requires { at < length out.old }
-    ensures* { λ r. ⌜ Pasted (byte ∷ []) at out.old r out.new ⌝ }
+    ensures { Pasted (byte ∷ []) at out.old result out.new }
 {
     out[at] = byte;
     at + 1
@@ -32,7 +32,7 @@ fn put(out: &mut [u8], at: usize, byte: u8) -> usize
 
 fn digit(n: usize) -> u8
     requires { n < 10 }
-    ensures* { λ r. ⌜ r ≡ digit n ⌝ }
+    ensures { result ≡ digit n }
 {
     48 + n as u8
 }
@@ -40,7 +40,7 @@ fn digit(n: usize) -> u8
 // A number of up to three digits.
 fn put_decimal(out: &mut [u8], at: usize, n: usize) -> usize
     requires { (n < 1000) × (at + length (decimal n) ≤ length out.old) }
-    ensures* { λ r. ⌜ Pasted (decimal n) at out.old r out.new ⌝ }
+    ensures { Pasted (decimal n) at out.old result out.new }
 {
     if n < 10 {
         return put(out, at, digit(n));
@@ -56,7 +56,7 @@ fn put_decimal(out: &mut [u8], at: usize, n: usize) -> usize
 
 // L, Q or C.
 fn letter(kind: u8) -> u8
-    ensures* { λ r. ⌜ r ≡ letter kind ⌝ }
+    ensures { result ≡ letter kind }
 {
     match kind {
         0 => b'?',
@@ -69,7 +69,7 @@ fn letter(kind: u8) -> u8
 // A number and the byte after it.
 fn put_field(out: &mut [u8], at: usize, n: usize, byte: u8) -> usize
     requires { (n < 1000) × (at + length (field n byte) ≤ length out.old) }
-    ensures* { λ r. ⌜ Pasted (field n byte) at out.old r out.new ⌝ }
+    ensures { Pasted (field n byte) at out.old result out.new }
 {
     let next = put_decimal(out, at, n);
     put(out, next, byte)
@@ -77,7 +77,7 @@ fn put_field(out: &mut [u8], at: usize, n: usize, byte: u8) -> usize
 
 fn put_line(out: &mut [u8], at: usize, contour: usize, place: usize, kind: u8, color: u8) -> usize
     requires { (contour < 1000) × (place < 1000) × (at + length (edge_line contour place kind color) ≤ length out.old) }
-    ensures* { λ r. ⌜ Pasted (edge_line contour place kind color) at out.old r out.new ⌝ }
+    ensures { Pasted (edge_line contour place kind color) at out.old result out.new }
 {
     let second = put_field(out, at, contour, b' ');
     let third = put_field(out, second, place, b' ');
@@ -90,7 +90,7 @@ fn put_line(out: &mut [u8], at: usize, contour: usize, place: usize, kind: u8, c
 fn put_contour(out: &mut [u8], at: usize, contour: usize, kinds: &[u8], colors: &[u8]) -> usize
     requires contour_bound { (contour < 1000) × (length kinds.now < 1000) × (length colors.now ≡ length kinds.now) }
     requires colors_in_bounds { at + length (contour_lines contour 0 kinds.now colors.now) ≤ length out.old }
-    ensures* { λ r. ⌜ Pasted (contour_lines contour 0 kinds.now colors.now) at out.old r out.new ⌝ }
+    ensures { Pasted (contour_lines contour 0 kinds.now colors.now) at out.old result out.new }
 {
     let mut next = at;
     let mut i = 0;
@@ -106,9 +106,9 @@ fn put_shape(out: &mut [u8], at: usize, lengths: &[u16], kinds: &[u8], colors: &
     requires lengths_len_bound { (length lengths.now < 1000) × (length kinds.now < 1000)
         × (total lengths.now ≡ length kinds.now) × (length colors.now ≡ length kinds.now) }
     requires colors_in_bounds { at + length (shape_lines 0 (cut lengths.now kinds.now) (cut lengths.now colors.now)) ≤ length out.old }
-    ensures* { λ r. ⌜ Pasted
+    ensures { Pasted
         (shape_lines 0 (cut lengths.now kinds.now) (cut lengths.now colors.now))
-        at out.old r out.new ⌝ }
+        at out.old result out.new }
 {
     let mut next = at;
     let mut from = 0;
@@ -124,7 +124,7 @@ fn put_shape(out: &mut [u8], at: usize, lengths: &[u16], kinds: &[u8], colors: &
 
 fn put_word(out: &mut [u8], at: usize, word: &[u8]) -> usize
     requires { at + length word.now ≤ length out.old }
-    ensures* { λ r. ⌜ Pasted word.now at out.old r out.new ⌝ }
+    ensures { Pasted word.now at out.old result out.new }
 {
     let mut next = at;
     let mut i = 0;
@@ -138,7 +138,7 @@ fn put_word(out: &mut [u8], at: usize, word: &[u8]) -> usize
 // A word and a number.
 fn put_word_line(out: &mut [u8], at: usize, word: &[u8], n: usize) -> usize
     requires { (n < 1000) × (at + length (word_line word.now n) ≤ length out.old) }
-    ensures* { λ r. ⌜ Pasted (word_line word.now n) at out.old r out.new ⌝ }
+    ensures { Pasted (word_line word.now n) at out.old result out.new }
 {
     let next = put_word(out, at, word);
     put_field(out, next, n, b'\n')
@@ -155,9 +155,9 @@ fn write_listing(
     requires lengths_len_bound { (length lengths.now < 1000) × (length kinds.now < 1000) × (stand_ins < 1000)
         × (total lengths.now ≡ length kinds.now) × (length colors.now ≡ length kinds.now) }
     requires stand_ins_in_bounds { length (listing (cut lengths.now kinds.now) (cut lengths.now colors.now) stand_ins) ≤ length out.old }
-    ensures* { λ r. ⌜ Pasted
+    ensures { Pasted
         (listing (cut lengths.now kinds.now) (cut lengths.now colors.now) stand_ins)
-        0 out.old r out.new ⌝ }
+        0 out.old result out.new }
 {
     let lines = put_shape(out, 0, lengths, kinds, colors);
     let counted = put_word_line(out, lines, b"edges ", kinds.len());
@@ -167,7 +167,7 @@ fn write_listing(
 // The text of a refusal, from the start of the buffer; how many bytes.
 fn write_refusal(refusal: Refusal, out: &mut [u8]) -> usize
     requires { length (refusal_line (refusal_number refusal)) ≤ length out.old }
-    ensures* { λ r. ⌜ Pasted (refusal_line (refusal_number refusal)) 0 out.old r out.new ⌝ }
+    ensures { Pasted (refusal_line (refusal_number refusal)) 0 out.old result out.new }
 {
     put_word_line(out, 0, b"refused ", refusal.number() as usize)
 }
@@ -183,7 +183,7 @@ fn write_answer(
 ) -> usize
     requires holds_results { HoldsResults (result lengths.old kinds.old points.old colors.old) }
     requires max_text_in_bounds { max_text ≤ length text.old }
-    ensures* { λ r. ⌜ Pasted (file_text file.now) 0 text.old r text.new ⌝ }
+    ensures { Pasted (file_text file.now) 0 text.old result text.new }
 {
     match color::color(file, lengths, kinds, points, colors) {
         Colored::Edges(counts) => {
@@ -203,7 +203,7 @@ fn write_answer(
 
 // The text of a file's answer, at the start of a buffer that holds every text; how many bytes. What `channels` prints.
 pub fn text(file: &[u8], out: &mut [u8; MAX_TEXT]) -> usize
-    ensures* { λ r. ⌜ Printed (file_text file.now) out.old r out.new ⌝ }
+    ensures { Printed (file_text file.now) out.old result out.new }
 {
     let mut lengths = [0u16; MAX_CONTOURS];
     let mut kinds = [0u8; MAX_RESULT_EDGES];
@@ -223,7 +223,7 @@ pub fn text(file: &[u8], out: &mut [u8; MAX_TEXT]) -> usize
 // they do not fit, and the buffer is as it came. A file that is refused has a text too, one line. No text is longer
 // than 5,611 bytes.
 pub fn listing(file: &[u8], out: &mut [u8]) -> Listed
-    ensures* { λ r. ⌜ fill_outcome (listed_answer r) out.new ≡ list_file file.now out.old ⌝ }
+    ensures { fill_outcome (listed_answer result) out.new ≡ list_file file.now out.old }
 {
     let mut whole = [0u8; MAX_TEXT];
     let n = text(file, &mut whole);

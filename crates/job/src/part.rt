@@ -10,14 +10,14 @@ use crate::records::{Found, Item};
 use crate::{color, progress, records};
 
 // From a byte up to another.
-#[derive(Drop)]
+#[derive(Clone, Copy)]
 pub struct Span {
     pub start: usize,
     pub end: usize,
 }
 
 // How far the search for a contour is.
-#[derive(Drop)]
+#[derive(Clone, Copy)]
 pub enum Seek {
     // so many contours are still to be passed before it
     Passing(usize),

@@ -36,7 +36,7 @@ fn is_distance(pattern: u64) -> bool
 }
 
 // The two ranges that many numbers in a file have to keep to.
-#[derive(Drop)]
+#[derive(Clone, Copy)]
 pub(crate) enum Range {
     Coordinate,
     Distance,

@@ -10,7 +10,7 @@ use coloring::refusal::Refusal;
 use coloring::settings::Division;
 
 // The numbers of a job: its header, the division of its teardrops, and how many contours, edges and distances it has.
-#[derive(Drop)]
+#[derive(Clone, Copy)]
 pub struct Numbers {
     pub header: Header,
     pub division: Division,
@@ -20,14 +20,14 @@ pub struct Numbers {
 }
 
 // The answer of reading a file.
-#[derive(Drop)]
+#[derive(Clone, Copy)]
 pub enum Read {
     Job(Numbers),
     Refused(Refusal),
 }
 
 // How far a file is read: a place, and what was read before it.
-#[derive(Drop)]
+#[derive(Clone, Copy)]
 pub struct Progress {
     pub at: usize,
     pub state: State,

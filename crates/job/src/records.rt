@@ -12,7 +12,7 @@ use crate::progress::Numbers;
 use coloring::limits::{MAX_CONTOURS, MAX_DISTANCES, MAX_EDGES};
 use coloring::refusal::Refusal;
 
-#[derive(Drop)]
+#[derive(Clone, Copy)]
 pub enum Strategy {
     Simple,
     InkTrap,
@@ -32,14 +32,14 @@ impl Strategy {
     }
 }
 
-#[derive(Drop)]
+#[derive(Clone, Copy)]
 pub enum Kind {
     Line,
     Quadratic,
     Cubic,
 }
 
-#[derive(Drop)]
+#[derive(Clone, Copy)]
 pub enum Mark {
     // JB
     Header,
@@ -56,14 +56,14 @@ pub enum Mark {
 }
 
 // What two letters are the mark of.
-#[derive(Drop)]
+#[derive(Clone, Copy)]
 pub enum Marked {
     Known(Mark),
     Unknown,
 }
 
 // Where in a file a record stands.
-#[derive(Drop)]
+#[derive(Clone, Copy)]
 pub enum Phase {
     // before JB
     Start,
@@ -78,7 +78,7 @@ pub enum Phase {
 }
 
 // The fields of JB, the threshold as its bit pattern.
-#[derive(Drop)]
+#[derive(Clone, Copy)]
 pub struct Header {
     pub strategy: Strategy,
     pub seed: u64,
@@ -86,14 +86,14 @@ pub struct Header {
 }
 
 // What is allowed next follows from this.
-#[derive(Drop)]
+#[derive(Clone, Copy)]
 pub struct State {
     pub phase: Phase,
     pub numbers: Numbers,
 }
 
 // A record without its floats: of an edge its kind, of DS how many distances.
-#[derive(Drop)]
+#[derive(Clone, Copy)]
 pub enum Item {
     Header(Header),
     Balanced,
@@ -103,7 +103,7 @@ pub enum Item {
 }
 
 // What the first record of some bytes is: a record and how many bytes it takes, the end, or its fault.
-#[derive(Drop)]
+#[derive(Clone, Copy)]
 pub enum Found {
     Item(Item, usize),
     End,

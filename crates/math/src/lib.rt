@@ -1,4 +1,6 @@
 // The number leaves: floats by their bit patterns, the correctly rounded root, scalar helpers, the plane vector.
+#![tactic(auto)]
+
 pub mod bits;
 pub mod scalar;
 pub mod sqrt;

@@ -53,7 +53,7 @@ fn exponent(bits: u64) -> u64
 // ---- digit by digit
 
 // A root in the making: its digits so far, and what their square leaves of the digits taken from the number.
-#[derive(Drop)]
+#[derive(Clone, Copy)]
 struct Partial {
     root: u64,
     rem: u64,
@@ -107,7 +107,7 @@ fn rounded_by_digits(n: u64) -> u64
 // ---- by a guess in floats, which is checked in whole numbers
 
 // Digits of a guess: 32 of the root, and 29 of the inverse of twice the root. No more is claimed of them.
-#[derive(Drop)]
+#[derive(Clone, Copy)]
 struct Guessed {
     root: u64,
     inverse: u64,
@@ -153,7 +153,7 @@ fn guess(pattern: u64) -> Guessed
 }
 
 // What a guess comes to.
-#[derive(Drop)]
+#[derive(Clone, Copy)]
 enum Verdict {
     Nearest(u64),
     Wrong,

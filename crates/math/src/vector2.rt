@@ -7,14 +7,14 @@ ghost use Rattle.math.specs.Vector2.{dot, cross, add, sub, neg, mul, div, mul_sc
 use crate::sqrt::sqrt_near;
 
 // A vector, or a point, of the plane.
-#[derive(Drop)]
+#[derive(Clone, Copy)]
 pub struct Vector2 {
     pub x: f64,
     pub y: f64,
 }
 
 // A vector by its length, and whether that was 0, so that another stands in for it.
-#[derive(Drop)]
+#[derive(Clone, Copy)]
 pub struct Normalized {
     pub vector: Vector2,
     pub zero_length: bool,

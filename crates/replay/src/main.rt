@@ -1,4 +1,6 @@
 // Reads records from standard input, makes the calls, and prints for each part how many are answered as recorded.
+#![tactic(auto)]
+
 ghost use Rattle.std.specs.Prelude.{◌≤◌, length};
 
 use libc::{STDIN_FILENO, STDOUT_FILENO};
@@ -6,7 +8,7 @@ use std::num::wrapping_add_u64;
 use vectors::{is_heading, record_bytes, vectors_right};
 
 // How many records of the present part were right, of how many.
-#[derive(Drop)]
+#[derive(Clone, Copy)]
 struct Counts {
     right: u64,
     all: u64,

@@ -3,6 +3,8 @@
 // 69 a job file that is checked, listed and parted, 70 one that is read, 71 one that is coloured, 72 the directions of
 // an outline, 73 to 76 the colourings by the balanced division. Numbers are words of eight bytes, the lowest byte
 // first. The program `replay` reads records; the comparison with the Rust makes them one by one.
+#![tactic(auto)]
+
 mod edges;
 mod jobs;
 mod leaves;

@@ -71,6 +71,6 @@ pub(crate) fn part(s: &[u8], at: usize, len: usize) -> &[u8]
 // Puts s at the start of t, where it fits.
 pub(crate) fn load(s: &[u8], t: &mut [u8]) {
     if s.len() <= t.len() {
-        bytes::copy(s, t);
+        t[..s.len()].copy_from_slice(s);
     }
 }

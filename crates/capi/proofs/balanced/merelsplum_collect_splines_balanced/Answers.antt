@@ -1,0 +1,10 @@
+-- `capi::balanced::merelsplum_collect_splines_balanced` meets its contract, by those of its callees.
+use Rattle.capi.specs.EdgeColoring.{collected_code}
+use Rattle.capi.proofs.Handing.{hands_out}
+use Rattle.capi.proofs.balanced.merelsplum_collect_splines_balanced.Goals as goal
+
+pub returns : goal.returns
+returns c =
+    let kinds-back = c.before.before.before.before.before in
+    let colored = kinds-back.before.before.before.before in
+    hands_out collected_code c.collected_code.ensures colored.edge_coloring.ensures

@@ -1,0 +1,10 @@
+-- `capi::by_distance::merelsplum_edge_coloring_by_distance` meets its contract, by those of its callees.
+use Rattle.capi.specs.EdgeColoring.{colored_code}
+use Rattle.capi.proofs.Handing.{hands_out}
+use Rattle.capi.proofs.by_distance.merelsplum_edge_coloring_by_distance.Goals as goal
+
+pub returns : goal.returns
+returns c =
+    let kinds-back = c.before.before.before.before.before in
+    let colored = kinds-back.before.before.before.before in
+    hands_out colored_code c.code.ensures colored.edge_coloring_by_distance.ensures

@@ -1,0 +1,10 @@
+-- `capi::job_file::merelsplum_job_color` meets its contract, by those of its callees.
+use Rattle.capi.specs.EdgeColoring.{colored_code}
+use Rattle.capi.proofs.Handing.{hands_out}
+use Rattle.capi.proofs.job_file.merelsplum_job_color.Goals as goal
+
+pub returns : goal.returns
+returns c =
+    let kinds-back = c.before.before.before.before.before in
+    let colored = kinds-back.before.before.before.before in
+    hands_out colored_code c.code.ensures colored.color.ensures

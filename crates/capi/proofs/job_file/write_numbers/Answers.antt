@@ -1,0 +1,9 @@
+-- `capi::job_file::write_numbers` meets its contract, by the cases of the answer.
+use mathlib.Core.Path.{◌∙◌}
+use Rattle.capi.proofs.job_file.write_numbers.Goals as goal
+
+pub returns-in-Job : goal.returns-in-Job
+returns-in-Job c =
+    let wide = c.before in
+    let number = wide.before in
+    rw (number.in-Job.is, wide.wide.ensures.0 ∙ number.number.ensures)

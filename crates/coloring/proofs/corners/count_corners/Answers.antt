@@ -1,0 +1,43 @@
+use native.Mathlib.Omega.{arith}
+use mathlib.Core.Path.{ap}
+use mathlib.Core.Logic.{⊎_elim}
+use lib.ListN.{length}
+use Rattle.coloring.specs.Corners.{corners_of, corner_count}
+use Rattle.coloring.proofs.corners.FlagLaws.{places_corner, places-none, places_end}
+use Rattle.coloring.proofs.corners.count_corners.Goals as goal
+
+pub loop-i-init : goal.loop-i-init
+unfolding corner_count corners_of
+loop-i-init c = (omega arith, omega arith, omega arith)
+
+pub bounds-flags-i : goal.bounds-flags-i
+bounds-flags-i c = omega arith
+
+pub overflow_add-count : goal.overflow_add-count
+overflow_add-count c = omega arith
+
+pub overflow_add-i : goal.overflow_add-i
+overflow_add-i c = omega arith
+
+pub loop-i-smaller : goal.loop-i-smaller
+loop-i-smaller c = omega arith
+
+pub loop-i-preserved : goal.loop-i-preserved
+loop-i-preserved c =
+    let at = c.loop-i in
+    let h = c.loop-i-test.true in
+    ⊎_elim
+    (λ w. (
+      omega arith,
+      omega (arith, w.1),
+      omega (arith, w.1, at.invariant.2, ap length (places_corner c.args.flags.now at.i h w.0.taken)),
+    ))
+    (λ w. (
+      omega arith,
+      omega (arith, w.1),
+      omega (arith, w.1, at.invariant.2, ap length (places-none c.args.flags.now at.i h w.0.left)),
+    ))
+    c.if-flags-i.branch
+
+pub returns : goal.returns
+returns c = omega (arith, c.loop-i.invariant.2, ap length (places_end c.args.flags.now c.loop-i.i c.loop-i-test.false))

@@ -1,0 +1,394 @@
+use native.Mathlib.Omega.{arith}
+use mathlib.Core.Path.{◌≡◌, refl, sym, ap, ◌∙◌}
+use mathlib.Core.Logic.{⊎_elim}
+use mathlib.Core.List.{List}
+use Prim.Native.Nat.{ℕ, ◌%◌, ◌≤◌, ◌<◌}
+use native.Mathlib.Nat.{mod-lt}
+use lib.ListN.{length, take, set, length-set, length-replicate}
+use lib.Seq.{length-take-le, take_all}
+use borrow.Author.Tests.{not-true, not-false}
+use Rattle.geometry.specs.declared.edge_color.EdgeColor.TheVariants.{Black}
+use Rattle.coloring.specs.declared.ink_trap.InkTrapCorner.{InkTrapCorner}
+use Rattle.coloring.specs.Corners.{Cornered, corner_count, estimate_edge_length}
+use Rattle.coloring.specs.Outline.{edges_of, whole}
+use Rattle.coloring.specs.InkTrap.{Measured, measure_corners, mark_minors, major_count, color_majors, color_minors, color_corners}
+use Rattle.coloring.proofs.outline.EdgeLaws.{edges-length}
+use Rattle.coloring.proofs.ink_trap.MeasureLaws.{measuring_begins, measuring_corner, measuring-edge, measuring-ends, measured-count}
+use Rattle.coloring.proofs.ink_trap.CornerLaws.{close_first_lem, marking, marking-none, mark_turn, marks-many, majors_more, majors_same}
+use Rattle.coloring.proofs.ink_trap.CornerLaws.{going_begins, going_major, going_minor, going-ends, majors_fall, left_falls}
+use Rattle.coloring.proofs.ink_trap.CornerLaws.{left_stays, minor_turn, major_turn, minors-done, color_of, bytes-set, bytes_same}
+use Rattle.coloring.proofs.ink_trap.CornerLaws.{last_set, last_same, colored, drawn}
+use Rattle.coloring.proofs.ink_trap.colors_by_length.Goals as goal
+use Rattle.coloring.proofs.ink_trap.colors_by_length.Goals.{After-corner_at-none, After-majors, After-mark, After-measure, In-majors, Start}
+
+-- the contour at the call
+abbrev contour : Start → Cornered
+contour c = whole c.args.kinds.now c.args.points.now c.args.flags.now
+
+-- where the function began, from the first corner's making
+abbrev begun : After-corner_at-none
+    → Start
+begun c = c.before.before.before.before.before
+
+module _ (c : After-measure) where
+  abbrev start : Start
+  start = begun c.before.before
+
+  abbrev array : List InkTrapCorner
+  array = c.measure.corners
+
+  abbrev count : ℕ
+  count = c.measure.count
+
+  found : measure_corners (contour start) ≡ record { corners = take count array; spline_length = c.measure.spline-length }
+  found =
+      let a = start.args in
+      c.measure.invariant.3
+      ∙ measuring-ends count c.measure.index c.measure.spline-length array (edges_of a.kinds.now a.points.now) a.flags.now
+      (omega (arith, edges-length a.kinds.now a.points.now))
+
+  few : count ≤ 256
+  few = omega (arith, start.requires.0.few)
+
+  -- a place among the corners is one of the array
+  inside : (i : ℕ) → 0 < count → i % count < 256
+  inside i h = omega (arith, few, mod-lt i h)
+
+  size : length (take count array) ≡ count
+  size = length-take-le count array (omega (arith, few))
+
+  counted : count ≡ corner_count start.args.flags.now
+  counted =
+      let a = start.args in
+      sym size
+      ∙ sym (ap (λ (m : Measured). length m.corners) found)
+      ∙ measured-count (contour start) (start.requires.0.flagged ∙ sym (edges-length a.kinds.now a.points.now))
+
+module _ (c : After-mark) where
+  abbrev measured : After-measure
+  measured = c.before.before.before.before
+
+  abbrev marked_corners : List InkTrapCorner
+  marked_corners = take (count measured) c.mark.corners
+
+  all-marked : c.mark.i ≡ count measured
+  all-marked = omega arith
+
+  marked : marked_corners ≡ mark_minors (measure_corners (contour (start measured)))
+  marked =
+      let n = count measured in
+      let s = measured.measure.spline-length in
+      let first : InkTrapCorner → List InkTrapCorner = λ k. take n (set (array measured) 0 k) in
+      let close = c.closed in
+      c.mark.invariant.4
+      ∙ ap (λ i. marking i (first close.result)) all-marked
+      ∙ ap (λ k. marking n (first k)) close.ensures
+      ∙ rw (close_first_lem s (array measured), found measured) (marks-many n s (array measured) (omega (arith, few measured)) (omega (arith, counted measured)))
+
+  majors : c.mark.left ≡ major_count marked_corners
+  majors = omega (arith, c.mark.invariant.3, ap (λ i. major_count (take i c.mark.corners)) all-marked)
+
+at_major : (c : In-majors) → c.majors.j < 256
+at_major c = omega (arith, few (measured c.before.before))
+
+module _ (c : After-majors) where
+  abbrev marks : After-mark
+  marks = c.before.before
+
+  inked : color_majors Black marks.mark.left (start (measured marks)).args.pen (marked_corners marks)
+      ≡ record { corners = take (count (measured marks)) c.majors.corners; pen = c.majors.ink }
+  inked =
+      let at = c.majors in
+      at.invariant.3 ∙ going-ends at.j (count (measured marks)) at.initial at.left
+      at.ink at.corners at.invariant.0 c.majors-test.false (omega (arith, few (measured marks)))
+
+pub measure-init : goal.measure-init
+measure-init c =
+    (omega arith, omega arith, length-replicate 256 c.corner_at-none.result, measuring_begins _ (contour (begun c)))
+
+pub bounds-flags-index : goal.bounds-flags-index
+bounds-flags-index c = omega arith
+
+pub offset_bounds-corners-count : goal.offset_bounds-corners-count
+offset_bounds-corners-count c = omega arith
+
+pub bounds-corners-count : goal.bounds-corners-count
+bounds-corners-count c = omega arith
+
+pub overflow_add-count : goal.overflow_add-count
+overflow_add-count c = omega arith
+
+pub overflow_add-index : goal.overflow_add-index
+overflow_add-index c = omega arith
+
+pub measure-smaller : goal.measure-smaller
+measure-smaller c = omega arith
+
+pub measure-preserved : goal.measure-preserved
+measure-preserved c =
+    let head = c.before.before.before.before.before in
+    let start = begun head.before in
+    let at = head.measure in
+    let flags = start.args.flags.now in
+    let edges = edges_of start.args.kinds.now start.args.points.now in
+    let h : at.index < length edges = omega (arith, edges-length start.args.kinds.now start.args.points.now) in
+    let l : at.index < length flags = omega (arith, start.requires.0.flagged) in
+    let estimate = c.estimate_edge_length-spline_length.ensures ∙ ap estimate_edge_length c.edge_at.ensures in
+    ⊎_elim
+    (λ w. (
+      omega arith,
+      omega (arith, w.4),
+      ap length w.2 ∙ simp length-set at.invariant.2,
+      at.invariant.3
+          ∙ measuring_corner at.count at.index at.spline-length at.corners edges flags h l (omega (arith, start.requires.0.few)) w.0.taken
+          w.1.ensures w.2 w.3 w.4 estimate,
+    ))
+    (λ w. (
+      omega arith,
+      omega (arith, w.3),
+      ap length w.1 ∙ at.invariant.2,
+      at.invariant.3 ∙ measuring-edge at.count at.index at.spline-length at.corners edges flags h l w.0.left w.1 w.2 w.3 estimate,
+    ))
+    c.if-flags-index.branch
+
+pub bounds-corners-0 : goal.bounds-corners-0
+bounds-corners-0 c = omega arith
+
+pub bounds-corners-0-2 : goal.bounds-corners-0-2
+bounds-corners-0-2 c = omega arith
+
+pub mark-init : goal.mark-init
+unfolding major_count
+mark-init c =
+    let at = c.measure in
+    let long : length (set at.corners 0 c.closed.result) ≡ 256 = simp length-set at.invariant.2 in
+    (omega arith, long, long, omega arith, sym (marking-none _))
+
+pub offset_bounds-corners-i : goal.offset_bounds-corners-i
+offset_bounds-corners-i c = omega arith
+
+pub bounds-corners-i : goal.bounds-corners-i
+bounds-corners-i c = omega arith
+
+pub overflow_add-next : goal.overflow_add-next
+overflow_add-next c = omega arith
+
+pub nonzero_rem-next : goal.nonzero_rem-next
+nonzero_rem-next c = omega arith
+
+pub bounds-corners-i-in-mark : goal.bounds-corners-i-in-mark
+bounds-corners-i-in-mark c =
+    let measured = c.before.before.before.before.before in
+    inside measured _ (rem-next c)
+
+pub offset_bounds-corners-i-in-mark : goal.offset_bounds-corners-i-in-mark
+offset_bounds-corners-i-in-mark c = omega (arith, array-copy-out-next c)
+
+pub overflow_add-third : goal.overflow_add-third
+overflow_add-third c = omega arith
+
+pub nonzero_rem-third : goal.nonzero_rem-third
+nonzero_rem-third c = omega arith
+
+pub bounds-corners-i-in-mark-2 : goal.bounds-corners-i-in-mark-2
+bounds-corners-i-in-mark-2 c =
+    let read = c.before in
+    let measured = read.before.before.before.before.before in
+    inside measured _ (rem-third c)
+
+pub offset_bounds-corners-i-in-mark-2 : goal.offset_bounds-corners-i-in-mark-2
+offset_bounds-corners-i-in-mark-2 c = omega (arith, array-copy-out-third c)
+
+pub offset_bounds-corners-i-in-mark-3 : goal.offset_bounds-corners-i-in-mark-3
+offset_bounds-corners-i-in-mark-3 c = omega arith
+
+pub bounds-corners-i-in-mark-3 : goal.bounds-corners-i-in-mark-3
+bounds-corners-i-in-mark-3 c = omega arith
+
+pub overflow_sub-left : goal.overflow_sub-left
+overflow_sub-left c =
+    let read = c.before.before.before in
+    let head = read.before.before.before.before in
+    omega (arith, head.mark.invariant.3)
+
+pub overflow_add-i : goal.overflow_add-i
+overflow_add-i c = omega arith
+
+pub mark-smaller : goal.mark-smaller
+mark-smaller c = omega arith
+
+pub mark-preserved : goal.mark-preserved
+mark-preserved c =
+    let read = c.before.before.before in
+    let turn = read.before.before.before in
+    let closed = turn.before.before in
+    let measured = closed.before.before in
+    let at = turn.mark in
+    let n = count measured in
+    let flag = c.is_minor-minor.ensures in
+    let corner = c.with_minor.ensures in
+    let h : at.i < n = omega arith in
+    let fits : n ≤ length (set (array measured) 0 closed.closed.result) = omega (arith, at.invariant.2, few measured) in
+    let same : n ≤ length at.corners = omega (arith, few measured) in
+    let minor : c.with_minor.result.minor ≡ c.is_minor-minor.result = ap (λ (k : InkTrapCorner). k.minor) corner in (
+      omega arith,
+      simp length-set at.invariant.1,
+      at.invariant.2,
+      ⊎_elim
+          (λ w. omega (arith, at.invariant.3, w.1, majors_same at.i at.corners c.with_minor.result (omega arith) (minor ∙ w.0.taken)))
+          (λ w. omega (arith, at.invariant.3, w.1, majors_more at.i at.corners c.with_minor.result (omega arith) (minor ∙ w.0.left)))
+          c.if-minor.branch,
+      mark_turn at.i n (set (array measured) 0 closed.closed.result) at.corners h fits same at.invariant.4 flag corner,
+    )
+
+pub majors-init : goal.majors-init
+majors-init c = (omega arith, c.mark.invariant.1, majors c, going_begins _ _ _ _ _)
+
+pub offset_bounds-corners-j : goal.offset_bounds-corners-j
+offset_bounds-corners-j c = omega arith
+
+pub bounds-corners-j : goal.bounds-corners-j
+bounds-corners-j c = omega arith
+
+pub overflow_sub-left-then-not-corner : goal.overflow_sub-left-then-not-corner
+overflow_sub-left-then-not-corner c =
+    let measured = measured c.before.before.before.before.before in
+    let at = c.majors in
+    omega (arith, at.invariant.2, majors_fall at.j (count measured) at.corners (omega arith) (omega (arith, few measured)) (not-true _ c.if-not-corner.true))
+
+pub offset_bounds-corners-j-then-not-corner : goal.offset_bounds-corners-j-then-not-corner
+offset_bounds-corners-j-then-not-corner c = let branch = c.before.before.before in omega (arith, at_major branch.before.before.before)
+
+pub bounds-corners-j-then-not-corner : goal.bounds-corners-j-then-not-corner
+bounds-corners-j-then-not-corner c = let branch = c.before.before.before in at_major branch.before.before.before
+
+pub overflow_add-j : goal.overflow_add-j
+overflow_add-j c = omega arith
+
+pub majors-smaller : goal.majors-smaller
+majors-smaller c = omega arith
+
+pub majors-preserved : goal.majors-preserved
+majors-preserved c =
+    let measured = measured c.before.before.before.before.before in
+    let at = c.majors in
+    let n = count measured in
+    let h : at.j < n = omega arith in
+    let fits : n ≤ length at.corners = omega (arith, few measured) in
+    ⊎_elim
+    (λ w.
+    let major = not-true _ w.0.taken in (
+      omega arith,
+      ap length w.5 ∙ simp length-set at.invariant.1,
+      left_falls at.j n at.corners h fits w.3.result major at.invariant.2 w.5 w.6,
+      at.invariant.3
+          ∙ going_major at.initial at.left at.ink at.j n at.corners h fits major
+          w.1.ensures w.2.ensures w.3.ensures w.4.ensures w.5 w.6 w.7 w.8,
+    ))
+    (λ w.
+    let minor = not-false _ w.0.left in (
+      omega arith,
+      ap length w.1 ∙ at.invariant.1,
+      left_stays at.j n at.corners h fits minor at.invariant.2 w.1 w.2,
+      at.invariant.3 ∙ going_minor at.initial at.left at.ink at.j n at.corners h fits minor w.1 w.2 w.3 w.4,
+    ))
+    c.if-not-corner.branch
+
+pub minors-init : goal.minors-init
+minors-init c =
+    let at = c.majors in (
+      omega arith,
+      at.invariant.1,
+      (start (measured (marks c))).requires.2 ∙ sym (counted (measured (marks c))),
+      ap (λ k. color_minors 0 k at.ink.color (take (count (measured (marks c))) at.corners)) (omega arith),
+      refl,
+      refl,
+    )
+
+pub offset_bounds-corners-k : goal.offset_bounds-corners-k
+offset_bounds-corners-k c = omega arith
+
+pub bounds-corners-k : goal.bounds-corners-k
+bounds-corners-k c = omega arith
+
+pub overflow_add-next-then-corner : goal.overflow_add-next-then-corner
+overflow_add-next-then-corner c = omega arith
+
+pub nonzero_rem-next-then-corner : goal.nonzero_rem-next-then-corner
+nonzero_rem-next-then-corner c = omega arith
+
+pub bounds-corners-k-then-corner : goal.bounds-corners-k-then-corner
+bounds-corners-k-then-corner c =
+    inside (measured (marks c.before.before.before.before)) _ (rem-next-2 c)
+
+pub offset_bounds-corners-k-then-corner : goal.offset_bounds-corners-k-then-corner
+offset_bounds-corners-k-then-corner c = omega (arith, array-copy-out-next-2 c)
+
+pub offset_bounds-corners-k-then-corner-2 : goal.offset_bounds-corners-k-then-corner-2
+offset_bounds-corners-k-then-corner-2 c = omega arith
+
+pub bounds-corners-k-then-corner-2 : goal.bounds-corners-k-then-corner-2
+bounds-corners-k-then-corner-2 c = omega arith
+
+pub bounds-colors-k : goal.bounds-colors-k
+bounds-colors-k c = omega (arith, c.minors.invariant.2)
+
+pub overflow_add-k : goal.overflow_add-k
+overflow_add-k c = omega arith
+
+pub minors-smaller : goal.minors-smaller
+minors-smaller c = omega arith
+
+pub minors-preserved : goal.minors-preserved
+minors-preserved c =
+    let measured = measured (marks c.before.before.before.before.before) in
+    let at = c.minors in
+    let n = count measured in
+    let h : at.k < n = omega arith in
+    let fits : n ≤ length at.corners = omega (arith, few measured) in
+    let inside : at.k < length at.corners = omega arith in
+    let room : at.k < length at.colors = omega (arith, at.invariant.2) in
+    let long = length-set at.colors at.k c.bits.result ∙ at.invariant.2 in
+    ⊎_elim
+    (λ w.
+    let last = w.6 ∙ sym (ap color_of w.3.ensures) in (
+      omega arith,
+      ap length w.4 ∙ simp length-set at.invariant.1,
+      long,
+      at.invariant.3 ∙ minor_turn at.k n at.color at.corners h fits w.0.taken w.2.ensures w.3.ensures w.4 w.5,
+      bytes-set at.k at.corners at.colors inside room at.invariant.4 w.3.result c.bits.ensures last w.4,
+      last_set at.k at.corners w.3.result inside last w.4,
+    ))
+    (λ w. (
+      omega arith,
+      ap length w.1 ∙ at.invariant.1,
+      long,
+      at.invariant.3 ∙ major_turn at.k n at.color at.corners h fits w.0.left w.1 w.2,
+      bytes_same at.k at.corners at.colors inside room at.invariant.4 c.bits.ensures w.3 w.1,
+      last_same at.k at.corners w.3 w.1,
+    ))
+    c.if-corner.branch
+
+pub shape_of-colors : goal.shape_of-colors
+shape_of-colors c =
+    let measured = measured (marks c.before.before) in
+    c.minors.invariant.2 ∙ counted measured ∙ sym (start measured).requires.2
+
+pub returns : goal.returns
+returns c =
+    let done = c.before.before in
+    let marks = marks done in
+    let measured = measured marks in
+    let start = start measured in
+    let at = c.minors in
+    let ink = done.majors.ink in
+    let n = count measured in
+    let last : at.k ≡ n = omega arith in
+    let all = length-take-le n at.corners (omega (arith, few measured)) in
+    let corners : color_corners (measure_corners (contour start)) start.args.pen ≡ record { corners = take n at.corners; pen = ink } =
+    colored _ _ (marked_corners marks) marks.mark.left _ n (marked marks) (majors marks) (inked done)
+    (length-take-le n marks.mark.corners (omega (arith, marks.mark.invariant.1, few measured)))
+    ∙ ap (λ (cs : List InkTrapCorner). record { corners = cs; pen = ink })
+    (at.invariant.3 ∙ minors-done at.k n at.color at.corners c.minors-test.false) in
+    drawn (contour start) start.args.pen ink (take n at.corners) at.colors at.new corners
+    (sym (take_all n at.colors (omega (arith, at.invariant.2))) ∙ rw last at at.invariant.4) (rw all (rw last at at.invariant.5))

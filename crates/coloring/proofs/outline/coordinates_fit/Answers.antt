@@ -1,0 +1,79 @@
+use mathlib.Core.Path.{◌≡◌, refl, sym, ◌∙◌}
+use Prim.Native.Nat.{ℕ, ◌≤◌, ◌+◌, ◌*◌, ◌-◌}
+use native.Mathlib.Omega.{arith}
+use borrow.Author.Tests.{not-true, not-false}
+use lib.ListN.{take, drop, get_or}
+use Rattle.coloring.specs.Lists.{all}
+use Rattle.coloring.specs.Outline.{in_range, used_places}
+use Rattle.coloring.proofs.outline.CheckLaws.{kind_at, fit_fail, fit_more, fit_end}
+use Rattle.coloring.proofs.outline.coordinates_fit.Goals as goal
+use Rattle.coloring.proofs.outline.coordinates_fit.Goals.{After-places_fit, After-used_places, In-loop-i, Start}
+
+pub loop-i-init : goal.loop-i-init
+loop-i-init c = (omega arith, refl)
+
+pub overflow_mul-at : goal.overflow_mul-at
+overflow_mul-at c = omega arith
+
+pub bounds-kinds-i : goal.bounds-kinds-i
+bounds-kinds-i c = omega arith
+
+pub used_places-requires : goal.used_places-requires
+used_places-requires c = kind_at _ _ c.requires.1 c.loop-i-test.true
+
+-- an edge uses at most its eight places
+used : (c : After-used_places) → c.used_places.result ≤ 8
+used c =
+    let turn = c.before.before in
+    let start = turn.before.before.before.before in
+    omega (arith, kind_at start.args.kinds.now turn.loop-i.i start.requires.1 turn.loop-i-test.true)
+
+pub overflow_add-end : goal.overflow_add-end
+overflow_add-end c = omega (arith, used c)
+
+pub offset_bounds-points-at : goal.offset_bounds-points-at
+offset_bounds-points-at c = omega (arith, used c)
+
+pub slice_bounds-places_fit-count : goal.slice_bounds-places_fit-count
+slice_bounds-places_fit-count c = omega (arith, used c)
+
+pub slice_bounds-places_fit-start : goal.slice_bounds-places_fit-start
+slice_bounds-places_fit-start c = omega (arith, used c)
+
+pub slice_bounds-places_fit-end : goal.slice_bounds-places_fit-end
+slice_bounds-places_fit-end c = omega (arith, used c)
+
+-- the part that was tested holds the used places of the edge
+module _ (c : After-places_fit) where
+  abbrev turn : In-loop-i
+  turn = c.before.before.before.before
+
+  abbrev start : Start
+  start = turn.before.before.before.before
+
+  abbrev i : ℕ
+  i = turn.loop-i.i
+
+  tested : c.places_fit.result ≡ all in_range (take (used_places (get_or start.args.kinds.now i 0)) (drop (8 * i) start.args.points.now))
+  tested =
+      let e : 8 * i + c.used_places.result - 8 * i ≡ used_places (get_or start.args.kinds.now i 0) = omega arith in
+      c.places_fit.ensures ∙ rw e
+
+pub returns-then-not-places_fit : goal.returns-then-not-places_fit
+returns-then-not-places_fit c =
+    let turn = turn c.before in
+    fit_fail _ _ _ turn.loop-i.invariant.1 turn.loop-i-test.taken (sym (tested c.before) ∙ not-true _ c.if-not-places_fit.true-raw)
+
+pub overflow_add-i : goal.overflow_add-i
+overflow_add-i c = omega arith
+
+pub loop-i-smaller : goal.loop-i-smaller
+loop-i-smaller c = omega arith
+
+pub loop-i-preserved : goal.loop-i-preserved
+loop-i-preserved c =
+    let turn = turn c.before in
+    (omega arith, fit_more _ _ _ turn.loop-i.invariant.1 turn.loop-i-test.taken (sym (tested c.before) ∙ not-false _ c.if-not-places_fit.false-raw))
+
+pub returns : goal.returns
+returns c = fit_end _ _ _ c.loop-i.invariant.1 c.loop-i-test.false

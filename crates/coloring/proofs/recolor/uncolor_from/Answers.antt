@@ -1,0 +1,56 @@
+use mathlib.Core.Path.{refl, sym, ◌∙◌}
+use native.Mathlib.Omega.{arith}
+use Rattle.coloring.specs.Recolor.{Recoloring, recoloring}
+use Rattle.coloring.proofs.recolor.UncolorLaws.{uncolor_step, uncolor_end, one_uncolors, ring-kept}
+use Rattle.coloring.proofs.recolor.uncolor_from.Goals as goal
+use Rattle.coloring.proofs.recolor.uncolor_from.Goals.{After-uncolor_one-count, At-loop-i, Start}
+
+pub loop-i-init : goal.loop-i-init
+loop-i-init c = (c.requires.0, refl, refl, refl)
+
+pub uncolor_one-count-requires : goal.uncolor_one-count-requires
+uncolor_one-count-requires c = (c.loop-i.invariant.0, omega arith)
+
+pub overflow_add-i : goal.overflow_add-i
+overflow_add-i c = omega arith
+
+pub loop-i-smaller : goal.loop-i-smaller
+loop-i-smaller c = omega arith
+
+module _ (c : After-uncolor_one-count) where
+  abbrev at : At-loop-i
+  at = c.before.before.before.before
+
+  abbrev start : Start
+  start = at.before.before.before.before
+
+  abbrev so_far : Recoloring
+  so_far = recoloring at.loop-i.coloring at.loop-i.queue start.args.head at.loop-i.count
+
+pub loop-i-preserved : goal.loop-i-preserved
+loop-i-preserved c =
+    let u = c.before.before.before.before in
+    let one = u.uncolor_one-count in
+    let inv = (at u).loop-i.invariant in
+    let small = inv.0.color in
+    let args = (start u).args in
+    let entries = args.entries.now in (
+      ring-kept inv.0 (one_uncolors entries args.c small (at u).loop-i.i (so_far u)) one.new.0 one.new.1.0 one.result one.ensures
+          one.auto.1.0,
+      one.auto.0 ∙ inv.1,
+      one.auto.1.0 ∙ inv.2,
+      rw one.ensures (sym (uncolor_step entries args.c small (at u).loop-i.i args.to (so_far u) (omega arith)) ∙ inv.3),
+    )
+
+pub shape_of-coloring : goal.shape_of-coloring
+shape_of-coloring c = omega arith
+
+pub shape_of-queue : goal.shape_of-queue
+shape_of-queue c = omega arith
+
+pub returns : goal.returns
+returns c =
+    let args = c.args in
+    let loop = c.loop-i in
+    let so_far = recoloring loop.coloring loop.queue args.head loop.count in
+    sym (uncolor_end args.entries.now args.c loop.invariant.0.color loop.i args.to so_far (omega arith)) ∙ loop.invariant.3

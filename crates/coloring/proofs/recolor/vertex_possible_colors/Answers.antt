@@ -1,0 +1,22 @@
+-- `vertex_possible_colors` meets its contract: the sum of the three sets, which stays below 8.
+use native.Mathlib.Omega.{arith}
+use Rattle.coloring.specs.Recolor.{vertex_possible_colors}
+use Rattle.coloring.proofs.recolor.FreeColorLaws.{possible-below}
+use Rattle.coloring.proofs.recolor.vertex_possible_colors.Goals as goal
+
+pub returns : goal.returns
+unfolding vertex_possible_colors
+returns c =
+    let second = c.before.before in
+    let first = second.before.before in
+    rw (first.unless_used-first.ensures, second.unless_used-second.ensures, c.unless_used-third.ensures)
+    (rw (first.uses.ensures, second.uses-2.ensures, c.uses-3.ensures))
+
+pub overflow_add-result-2 : goal.overflow_add-result-2
+overflow_add-result-2 c =
+    let first = c.before.before.before.before in
+    let args = first.args in
+    omega (arith, returns c, possible-below args.coloring.now args.entries.now)
+
+pub overflow_add-result : goal.overflow_add-result
+overflow_add-result c = omega (arith, add-result-2 c)

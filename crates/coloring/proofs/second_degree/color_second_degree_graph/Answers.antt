@@ -1,0 +1,122 @@
+use mathlib.Core.Path.{◌≡◌, refl, sym, ap, ◌∙◌}
+use mathlib.Core.List.{List}
+use Prim.Native.Nat.{ℕ, ◌+◌, ◌-◌, ◌*◌, ◌<◌, ◌≤◌}
+use native.Mathlib.Omega.{arith}
+use lib.ListN.{length, take, drop, length-set, length-drop}
+use lib.Seq.{length-take-le}
+use Rattle.coloring.specs.Recolor.{row, vertex_possible_colors}
+use Rattle.coloring.specs.SecondDegree.{starting_color}
+use Rattle.coloring.proofs.recolor.RowLaws.{row_inside, square_below}
+use Rattle.coloring.proofs.recolor.FreeColorLaws.{possible-below}
+use Rattle.coloring.proofs.second_degree.StartingLaws.{starting_below, free_before, next, color-start, color-more, color_end}
+use Rattle.coloring.proofs.second_degree.color_second_degree_graph.Goals as goal
+use Rattle.coloring.proofs.second_degree.color_second_degree_graph.Goals.{After-starting_color-draw, After-vertex_possible_colors-possible, In-loop-i, Start}
+
+module _ (c : In-loop-i) where
+  abbrev start : Start
+  start = c.before.before.before.before
+
+  abbrev n : ℕ
+  n = length start.args.coloring.now
+
+  abbrev edge_matrix : List ℕ
+  edge_matrix = start.args.edge_matrix.now
+
+  abbrev i : ℕ
+  i = c.loop-i.i
+
+  -- the splines that have their colour
+  abbrev done : List ℕ
+  done = take i c.loop-i.coloring
+
+  -- the part of the row of i that stands for them
+  abbrev entries : List ℕ
+  entries = take (i * n + i - i * n) (drop (i * n) edge_matrix)
+
+  inside : (i * n + i ≤ length edge_matrix) × (length edge_matrix ≤ 4096)
+  inside =
+      let below : i < n = c.loop-i-test.true in
+      (omega (arith, start.requires.0, row_inside n i below), omega (arith, start.requires.0, square_below start.requires.1))
+
+  done-size : length done ≡ i
+  done-size = length-take-le i c.loop-i.coloring (omega arith)
+
+  entries-size : length entries ≡ i
+  entries-size = length-take-le (i * n + i - i * n) (drop (i * n) edge_matrix) (rw length-drop (omega (arith, inside))) ∙ omega arith
+
+module _ (c : After-vertex_possible_colors-possible) where
+  abbrev turn : In-loop-i
+  turn = c.before.before.before
+
+  free : c.vertex_possible_colors-possible.result ≡ vertex_possible_colors (done turn) (row (n turn) (edge_matrix turn) (i turn))
+  free = c.vertex_possible_colors-possible.ensures ∙ free_before (n turn) (i turn) (done turn) (edge_matrix turn) (done-size turn) (omega arith)
+
+module _ (c : After-starting_color-draw) where
+  abbrev at : In-loop-i
+  at = turn c.before
+
+  draw : c.starting_color-draw.result ≡ next (n at) (edge_matrix at) (i at) (done at) at.loop-i.rest
+  draw = c.starting_color-draw.ensures ∙ ap (λ p. starting_color p (i at) at.loop-i.rest) (free c.before)
+
+pub loop-i-init : goal.loop-i-init
+loop-i-init c = (omega arith, refl, color-start _ _ _)
+
+pub overflow_mul-start : goal.overflow_mul-start
+overflow_mul-start c = omega (arith, inside c)
+
+pub overflow_add-end : goal.overflow_add-end
+overflow_add-end c = omega (arith, inside c)
+
+slice_reshare_prefix_vertex_possible_colors :
+    tie.Need-slice-reshare-prefix-vertex-possible-colors invariant-loop decreases-loop
+slice_reshare_prefix_vertex_possible_colors c = omega arith
+
+slice_aggregate_vertex_possible_colors :
+    tie.Need-slice-aggregate-vertex-possible-colors invariant-loop decreases-loop
+slice_aggregate_vertex_possible_colors c = sym (done-size c.before)
+
+pub slice_bounds-vertex_possible_colors-count : goal.slice_bounds-vertex_possible_colors-count
+slice_bounds-vertex_possible_colors-count c = omega arith
+
+pub slice_bounds-vertex_possible_colors-start : goal.slice_bounds-vertex_possible_colors-start
+slice_bounds-vertex_possible_colors-start c = omega arith
+
+pub slice_bounds-vertex_possible_colors-end-in-loop-i-2 : goal.slice_bounds-vertex_possible_colors-end-in-loop-i-2
+slice_bounds-vertex_possible_colors-end-in-loop-i-2 c = omega (arith, inside c.before)
+
+pub vertex_possible_colors-possible-requires : goal.vertex_possible_colors-possible-requires
+vertex_possible_colors-possible-requires c = done-size c.before.before ∙ sym (entries-size c.before.before)
+
+pub starting_color-draw-requires : goal.starting_color-draw-requires
+starting_color-draw-requires c =
+    let turn = c.before.before.before in
+    (rw (free c) (possible-below (done turn) (row (n turn) (edge_matrix turn) turn.before.loop.i)), omega arith)
+
+pub overflow_cast-coloring : goal.overflow_cast-coloring
+overflow_cast-coloring c =
+    let t = at c.before in
+    rw (draw c.before) (omega (arith, starting_below (vertex_possible_colors (done t) (row (n t) (edge_matrix t) (i t))) (i t) t.loop-i.rest))
+
+pub bounds-coloring-i : goal.bounds-coloring-i
+bounds-coloring-i c = omega arith
+
+pub overflow_add-i : goal.overflow_add-i
+overflow_add-i c = omega arith
+
+pub loop-i-smaller : goal.loop-i-smaller
+loop-i-smaller c = omega arith
+
+pub loop-i-preserved : goal.loop-i-preserved
+loop-i-preserved c =
+    let t = at c.before in
+    let old = t.loop-i in
+    let more = color-more (n t) (edge_matrix t) (i t) old.rest old.coloring t.loop-i-test.taken old.inv.1 in
+    (omega arith, rw length-set old.inv.1, rw (draw c.before) (more ∙ old.inv.2))
+
+pub shape_of-coloring : goal.shape_of-coloring
+shape_of-coloring c = c.loop-i.invariant.1
+
+pub returns : goal.returns
+returns c =
+    let last = c.loop-i in
+    sym (color_end _ _ last.i last.rest last.coloring c.loop-i-test.false last.invariant.1) ∙ last.invariant.2

@@ -1,0 +1,126 @@
+-- `color_valid` meets its contract: the order of the pairs, and the colours in that order.
+use mathlib.Core.Path.{◌≡◌, refl, sym, ap, ◌∙◌}
+use mathlib.Core.List.{List, ◌∷◌, ◌++◌}
+use Prim.Native.Nat.{ℕ, zero, suc, ◌*◌, ◌≤◌}
+use native.Mathlib.Omega.{arith}
+use lib.ListN.{length, take, drop, replicate, length-append}
+use lib.Seq.{length-take-le, take_at}
+use Rattle.coloring.specs.SplineColors.{Ordered}
+use Rattle.coloring.proofs.recolor.RowLaws.{square_below}
+use Rattle.coloring.proofs.pair_order.PairLaws.{pairs_most}
+use Rattle.coloring.proofs.spline_colors.color_valid.Goals as goal
+use Rattle.coloring.proofs.spline_colors.color_valid.Goals.{After-color_in_order-arg-1, After-order_pairs, Start}
+
+abbrev zeros : List ℕ
+zeros = replicate 2016 0
+
+take-replicate : (k m : ℕ) → k ≤ m → take k (replicate m 0) ≡ replicate {A = ℕ} k 0
+take-replicate zero m h = refl
+take-replicate (suc k) zero h = absurd (omega arith)
+take-replicate (suc k) (suc m) h = ap (λ l. 0 ∷ l) (take-replicate k m (omega arith))
+
+module _ (s : Start) where
+  abbrev n : ℕ
+  n = length s.args.coloring.now
+
+  abbrev m : ℕ
+  m = length s.args.distances.now
+
+  square : n * n ≤ 4096
+  square = square_below s.requires.few
+
+  most : m ≤ 2016
+  most = rw s.requires.count (pairs_most n s.requires.few)
+
+  part-size : length (take m zeros) ≡ m
+  part-size = length-take-le m zeros most
+
+-- the places of the pairs, and of their order
+module _ (c : After-order_pairs) where
+  abbrev start : Start
+  start = c.before.before.before.before.before
+
+  abbrev codes : List ℕ
+  codes = c.order_pairs.new.codes
+
+  abbrev order : List ℕ
+  order = c.order_pairs.new.order
+
+  codes-size : length codes ≡ m start
+  codes-size = c.order_pairs.auto.codes ∙ part-size start
+
+  order-size : length order ≡ m start
+  order-size = c.order_pairs.auto.order ∙ part-size start
+
+  -- a list of m places, and the rest of the array
+  within : (l : List ℕ) → length l ≡ m start → m start ≤ length (l ++ drop (m start) zeros)
+  within l e = rw (length-append, e) (omega arith)
+
+  front : (l : List ℕ) → length l ≡ m start → take (m start) (l ++ drop (m start) zeros) ≡ l
+  front l e = take_at l (drop (m start) zeros) (m start) e
+
+  ordered :
+      Ordered (n start) (take (n start * n start) (replicate 4096 0))
+      (take (m start) (codes ++ drop (m start) zeros)) (take (m start) (order ++ drop (m start) zeros))
+      start.args.distances.now
+  ordered =
+      record {
+        given = start.requires;
+        in_order = rw (front codes codes-size, front order order-size) c.order_pairs.ensures;
+        same_count = ap length (front codes codes-size) ∙ codes-size;
+        none = take-replicate (n start * n start) 4096 (square start);
+      }
+
+abbrev made : After-color_in_order-arg-1 → After-order_pairs
+made c = c.before.before.before
+
+pub overflow_mul-size : goal.overflow_mul-size
+overflow_mul-size c = omega (arith, square c.before.before)
+
+pub slice_bounds-codes-end : goal.slice_bounds-codes-end
+slice_bounds-codes-end c = most c.before.before
+
+pub slice_bounds-order_pairs-end : goal.slice_bounds-order_pairs-end
+slice_bounds-order_pairs-end c = sym (part-size c.before.before.before)
+
+pub slice_bounds-order-end : goal.slice_bounds-order-end
+slice_bounds-order-end c = most c.before.before.before
+
+pub slice_bounds-order_pairs-end-2 : goal.slice_bounds-order_pairs-end-2
+slice_bounds-order_pairs-end-2 c = sym (part-size c.before.before.before.before)
+
+pub order_pairs-requires : goal.order_pairs-requires
+order_pairs-requires c =
+    let s = c.before.before.before.before in
+    (s.requires, part-size s, part-size s)
+
+pub slice_bounds-edge_matrix-end : goal.slice_bounds-edge_matrix-end
+slice_bounds-edge_matrix-end c = square (start (made c))
+
+pub slice_bounds-color_in_order-end : goal.slice_bounds-color_in_order-end
+slice_bounds-color_in_order-end c =
+    let s = start (made c.before) in
+    sym (length-take-le (n s * n s) (replicate 4096 0) (square s))
+
+pub slice_bounds-codes-end-2 : goal.slice_bounds-codes-end-2
+slice_bounds-codes-end-2 c =
+    let o = made c.before in
+    within o (codes o) (codes-size o)
+
+pub slice_bounds-color_in_order-end-2 : goal.slice_bounds-color_in_order-end-2
+slice_bounds-color_in_order-end-2 c =
+    let o = made c.before.before in
+    sym (ap length (front o (codes o) (codes-size o)) ∙ codes-size o)
+
+pub slice_bounds-order-end-2 : goal.slice_bounds-order-end-2
+slice_bounds-order-end-2 c =
+    let o = made c.before.before in
+    within o (order o) (order-size o)
+
+pub slice_bounds-color_in_order-end-3 : goal.slice_bounds-color_in_order-end-3
+slice_bounds-color_in_order-end-3 c =
+    let o = made c.before.before.before in
+    sym (ap length (front o (order o) (order-size o)) ∙ order-size o)
+
+pub color_in_order-requires : goal.color_in_order-requires
+color_in_order-requires c = ordered (made c.before.before.before)

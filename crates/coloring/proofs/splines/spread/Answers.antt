@@ -1,0 +1,85 @@
+use native.Mathlib.Omega.{arith}
+use mathlib.Core.Path.{sym, ◌∙◌}
+use mathlib.Core.Logic.{⊎_elim}
+use Prim.Native.Nat.{◌<◌}
+use lib.ListN.{length, drop, length-set}
+use Rattle.coloring.proofs.Writing.{over-all, over-next, over_nothing}
+use Rattle.coloring.specs.Splines.{spread}
+use Rattle.coloring.specs.Sizes.{spread-length}
+use Rattle.coloring.proofs.splines.SpreadLaws.{spread_corner, spread_beyond, spread-edge, spread_end}
+use Rattle.coloring.proofs.splines.spread.Goals as goal
+
+pub overflow_sub-value : goal.overflow_sub-value
+overflow_sub-value c = omega arith
+
+pub bounds-values-values : goal.bounds-values-values
+bounds-values-values c = omega arith
+
+pub loop-i-init : goal.loop-i-init
+loop-i-init c =
+    let a = c.args in (
+      omega arith,
+      omega arith,
+      c.requires.1,
+      sym (over-all (spread _ a.values.now a.flags.now) a.out.now (c.requires.1 ∙ sym (spread-length _ a.values.now a.flags.now))),
+    )
+
+pub bounds-flags-i : goal.bounds-flags-i
+bounds-flags-i c = omega arith
+
+pub bounds-values-next : goal.bounds-values-next
+bounds-values-next c = omega arith
+
+pub overflow_add-next : goal.overflow_add-next
+overflow_add-next c = omega arith
+
+pub bounds-out-i : goal.bounds-out-i
+bounds-out-i c = omega arith
+
+pub overflow_add-i : goal.overflow_add-i
+overflow_add-i c = omega arith
+
+pub loop-i-smaller : goal.loop-i-smaller
+loop-i-smaller c = omega arith
+
+pub loop-i-preserved : goal.loop-i-preserved
+loop-i-preserved c =
+    let at = c.loop-i in
+    let a = c.args in
+    let flags = a.flags.now in
+    let values = a.values.now in
+    let h = c.loop-i-test.true in
+    let room : at.i < length at.out = omega arith in
+    ⊎_elim
+    (λ w. (
+      omega arith,
+      omega (arith, w.4),
+      simp length-set at.invariant.2,
+      at.invariant.3
+          ∙ rw (w.3, w.4, spread_corner at.value values flags at.next at.i h 0 w.0.taken w.1.taken) (over-next at.i _ _ at.out room),
+    ))
+    (⊎_elim
+    (λ w. (
+      omega arith,
+      omega (arith, w.3),
+      simp length-set at.invariant.2,
+      at.invariant.3
+          ∙ rw (w.2, w.3, spread_beyond at.value values flags at.next at.i h w.0.taken w.1.left) (over-next at.i _ _ at.out room),
+    ))
+    (λ w. (
+      omega arith,
+      omega (arith, w.2),
+      simp length-set at.invariant.2,
+      at.invariant.3 ∙ rw (w.1, w.2, spread-edge at.value values flags at.next at.i h w.0.left) (over-next at.i _ _ at.out room),
+    )))
+    c.if-flags-i.branch
+
+pub shape_of-out : goal.shape_of-out
+shape_of-out c = omega arith
+
+pub returns : goal.returns
+returns c =
+    let at = c.loop-i in
+    let a = c.args in
+    sym (at.invariant.3
+    ∙ rw (spread_end at.value (drop at.next a.values.now) a.flags.now at.i c.loop-i-test.false) (over_nothing at.i at.out))

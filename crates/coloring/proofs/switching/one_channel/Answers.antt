@@ -1,0 +1,15 @@
+-- `one_channel`: one arm for each single channel.
+use borrow.Author.Tests.{ne_eqb}
+use Rattle.coloring.proofs.switching.one_channel.Goals as goal
+
+pub returns-in-1 : goal.returns-in-1
+returns-in-1 c = rw c.in-1.is
+
+pub returns-in-2 : goal.returns-in-2
+returns-in-2 c = rw c.in-2.is
+
+pub returns-in-4 : goal.returns-in-4
+returns-in-4 c = rw c.in-4.is
+
+pub returns-in_default : goal.returns-in_default
+returns-in_default c = simp (ne_eqb _ 1 c.in_default.rest.0.0.1, ne_eqb _ 2 c.in_default.rest.0.1, ne_eqb _ 4 c.in_default.rest.1)

@@ -1,0 +1,98 @@
+-- `spline_values` meets its contract, marking by marking.
+use mathlib.Core.Path.{◌≡◌, refl, sym, ap, ◌∙◌}
+use mathlib.Core.List.{List, map}
+use Prim.Native.Nat.{ℕ, ◌≤◌, ◌<◌}
+use lib.Ieee.{Float}
+use lib.ListN.{length}
+use borrow.Author.Tests.{le-leb, lt-leb}
+use Rattle.geometry.specs.EdgeColor.{bits_of}
+use Rattle.coloring.specs.declared.refusal.Refusal.TheVariants.{TooMany}
+use Rattle.coloring.specs.declared.refusal.Checked.{Checked}
+use Rattle.coloring.specs.declared.refusal.Checked.TheVariants.{Passed, Failed}
+use Rattle.coloring.specs.Answers.{checked_answer, first_refusal}
+use Rattle.coloring.specs.Lists.{range}
+use Rattle.coloring.specs.SplineColors.{color_splines, splines_colored, color_splines_into}
+use Rattle.coloring.specs.declared.settings.Strategy.{Strategy}
+use Rattle.coloring.specs.declared.settings.Marking.{Marking}
+use Rattle.coloring.specs.declared.settings.Marking.TheVariants.{Colors, Numbers, Distances}
+use Rattle.coloring.specs.Switching.{init_color}
+use Rattle.coloring.specs.Corners.{Cornered, cornered}
+use Rattle.coloring.specs.Splines.{spline_total}
+use Rattle.coloring.specs.Values.{shape_colors, spline_color, spline_values, check_marking}
+use Rattle.coloring.specs.Outline.{edges_of}
+use Rattle.coloring.proofs.shape.DeliverLaws.{splines-cut}
+use Rattle.coloring.proofs.spline_colors.CheckLaws.{splines_answered}
+use Rattle.coloring.proofs.values.spline_values.Goals as goal
+use Rattle.coloring.proofs.values.spline_values.Goals.{After-slice_known-1, Start}
+
+-- the answer and the bytes for n splines of the contours found
+module _ (distances : List Float) (found : List Cornered) (n : ℕ) (sized : n ≡ spline_total found) where
+  abbrev Valued : Marking → Checked → List ℕ → Type 0
+  Valued marking r values = (checked_answer r ≡ first_refusal (check_marking marking n distances)) × (r ≡ Passed → values ≡ spline_values marking distances found)
+
+  module _ {marking : Marking} {values : List ℕ} where
+    by_colors : {strategy : Strategy} {seed : ℕ} → marking ≡ Colors strategy seed
+        → values ≡ map bits_of (shape_colors strategy (init_color seed) found) → Valued marking Passed values
+    unfolding spline_values first_refusal
+    by_colors m e = rw m (refl, λ p. e)
+
+    too_many : marking ≡ Numbers → 64 < n → Valued marking (Failed TooMany) values
+    unfolding first_refusal
+    too_many m h = rw m (rw (lt-leb n 64 h), λ p. cc)
+
+    by_numbers : marking ≡ Numbers → n ≤ 64 → values ≡ range 0 n → Valued marking Passed values
+    unfolding spline_values first_refusal
+    by_numbers m h e = rw m (rw (le-leb n 64 h), λ p. e ∙ ap (range 0) sized)
+
+    by_distances : (old : List ℕ) {seed : ℕ} {r : Checked} {coloring : List ℕ} → marking ≡ Distances seed → length old ≡ n
+        → splines_colored (checked_answer r) coloring ≡ color_splines_into distances seed old → values ≡ map (λ color. bits_of (spline_color color)) coloring
+        → Valued marking r values
+    unfolding spline_values
+    by_distances old {seed} {r} {coloring} m long colors e =
+        let outcome = splines_answered distances seed old r coloring colors in
+        rw m (
+          rw long at outcome.0,
+          λ p. e ∙ ap (map (λ color. bits_of (spline_color color))) (outcome.1 p ∙ ap (λ (k : ℕ). color_splines k distances seed) (long ∙ sized)),
+        )
+
+module _ (c : After-slice_known-1) where
+  abbrev start : Start
+  start =
+      let first = c.before.before.before in
+      first.before.before.before
+
+  abbrev found : List Cornered
+  found = cornered start.args.lengths.now (edges_of start.args.kinds.now start.args.points.now) start.args.flags.now
+
+  size : length start.args.values.now ≡ spline_total found
+  size = start.requires.values_len ∙ sym (splines-cut start.args.lengths.now _ start.args.flags.now)
+
+pub returns-then-values-gt-MAX_SPLINES : goal.returns-then-values-gt-MAX_SPLINES
+returns-then-values-gt-MAX_SPLINES c =
+    let told = c.before in
+    let known = told.before.before in
+    too_many (start known).args.distances.now (found known) _ (size known) told.in-Numbers.is c.if-values-gt-MAX_SPLINES.true
+
+pub returns-in-Colors : goal.returns-in-Colors
+returns-in-Colors c =
+    let colored = c.before.before in
+    let told = colored.before.before.before in
+    let known = told.before.before in
+    by_colors (start known).args.distances.now (found known) _ (size known) told.in-Colors.is colored.shape_colors.ensures
+
+pub returns-else-values-gt-MAX_SPLINES : goal.returns-else-values-gt-MAX_SPLINES
+returns-else-values-gt-MAX_SPLINES c =
+    let counted = c.before.before in
+    let few = counted.before.before in
+    let told = few.before in
+    let known = told.before.before in
+    by_numbers (start known).args.distances.now (found known) _ (size known) told.in-Numbers.is few.if-values-gt-MAX_SPLINES.false counted.count_up.ensures
+
+pub returns-in-Distances : goal.returns-in-Distances
+returns-in-Distances c =
+    let bytes = c.before.before in
+    let colored = bytes.before.before.before.before in
+    let told = colored.before.before.before in
+    let known = told.before.before in
+    by_distances (start known).args.distances.now (found known) _ (size known) _ told.in-Distances.is refl colored.color_splines-checked.ensures
+    bytes.color_numbers.ensures

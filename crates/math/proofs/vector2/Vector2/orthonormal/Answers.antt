@@ -1,0 +1,26 @@
+-- `math::vector2::Vector2::orthonormal` meets its contract.
+use Rattle.std.proofs.Common.{◌≡◌, cond, ⊎_elim}
+use Rattle.math.specs.Scalar.{f0, f1}
+use Rattle.math.specs.Vector2.{div_scalar, orthogonal, orthonormal}
+use Rattle.math.proofs.vector2.Vector2.orthonormal.Goals as goal
+use Rattle.math.proofs.vector2.Vector2.orthonormal.Goals.{Joined-allow_zero}
+
+pub returns-then-polarity : goal.returns-then-polarity
+unfolding div_scalar orthogonal orthonormal
+returns-then-polarity c = simp (← c.length-len.ensures, c.if-len.true, c.if-polarity.true)
+
+pub returns-then-len : goal.returns-then-len
+unfolding div_scalar orthogonal orthonormal
+returns-then-len c = simp (← c.length-len.ensures, c.if-len.true, c.if-polarity.false)
+
+-- the y of a direction of length 0, past the branch that sets it
+height : (c : Joined-allow_zero) → c.if-allow_zero.z ≡ cond c.args.allow_zero f0 f1
+height c = ⊎_elim (λ w. rw (w.0.taken, w.1)) (λ w. rw (w.0.left, w.1)) c.if-allow_zero.branch
+
+pub returns-then-polarity-2 : goal.returns-then-polarity-2
+unfolding div_scalar orthogonal orthonormal
+returns-then-polarity-2 c = simp (← c.length-len.ensures, c.if-len.false, c.if-polarity-2.true, height c.before)
+
+pub returns-else-polarity-2 : goal.returns-else-polarity-2
+unfolding div_scalar orthogonal orthonormal
+returns-else-polarity-2 c = simp (← c.length-len.ensures, c.if-len.false, c.if-polarity-2.false, height c.before)
