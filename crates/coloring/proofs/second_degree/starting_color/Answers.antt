@@ -71,7 +71,7 @@ returns-in-7 c = rw (c.in-7.is, c.seed_extract3-draw.ensures)
 pub returns-in_default : goal.returns-in_default
 unfolding starting_color
 returns-in_default c =
-    let rest = c.in_default.rest in
+    let rest = c.in_default.in_default-own.rest in
     let p = c.args.possible in
     let four = below_four p c.requires.0 rest.1 rest.0.1 rest.0.0.1 rest.0.0.0.1 in
     rw (none_left p four rest.0.0.0.0.1 rest.0.0.0.0.0.1 rest.0.0.0.0.0.0.1)

@@ -28,4 +28,4 @@ pub returns-in_default : goal.returns-in_default
 returns-in_default c =
     let below : c.seed_extract3-draw.result.value ≡ c.args.seed % 3 = ap (λ (d : Draw). d.value) c.seed_extract3-draw.ensures in
     drawn c.seed_extract3-draw.result c.args.seed 2
-    c.seed_extract3-draw.ensures (omega (arith, c.in_default.rest.1, c.in_default.rest.0.1))
+    c.seed_extract3-draw.ensures (omega (arith, c.in_default.in_default-own.rest.1, c.in_default.in_default-own.rest.0.1))

@@ -12,4 +12,4 @@ other (suc (suc zero)) h k = absurd (k refl)
 other (suc (suc (suc n))) h k = refl
 
 pub returns-in_default : goal.returns-in_default
-returns-in_default c = sym (other _ c.in_default.rest.0.1 c.in_default.rest.1)
+returns-in_default c = sym (other _ c.in_default.in_default-own.rest.0.1 c.in_default.in_default-own.rest.1)

@@ -11,4 +11,4 @@ cubic (suc (suc zero)) a b d = absurd (d refl)
 cubic (suc (suc (suc n))) a b d = refl
 
 pub returns-in_default : goal.returns-in_default
-returns-in_default c = cubic c.args.kind c.in_default.rest.0.0.1 c.in_default.rest.0.1 c.in_default.rest.1
+returns-in_default c = cubic c.args.kind c.in_default.in_default-own.rest.0.0.1 c.in_default.in_default-own.rest.0.1 c.in_default.in_default-own.rest.1

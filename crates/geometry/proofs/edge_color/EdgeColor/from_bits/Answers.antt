@@ -37,7 +37,7 @@ last n a b = omega arith
 pub returns-in_default : goal.returns-in_default
 returns-in_default c =
     let n = c.args.b % 8 in
-    let rest = c.in_default.rest in
+    let rest = c.in_default.in_default-own.rest in
     let at-least-2 : 2 ≤ n = next 1 n (next 0 n zero-le rest.0.0.0.0.0.0.1) rest.0.0.0.0.0.1 in
     let at-least-4 : 4 ≤ n = next 3 n (next 2 n at-least-2 rest.0.0.0.0.1) rest.0.0.0.1 in
     let at-least-7 : 7 ≤ n = next 6 n (next 5 n (next 4 n at-least-4 rest.0.0.1) rest.0.1) rest.1 in

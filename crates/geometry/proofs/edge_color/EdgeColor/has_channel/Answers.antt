@@ -24,5 +24,5 @@ beyond k (suc (suc (suc i))) a b d = refl
 
 pub returns-in_default : goal.returns-in_default
 returns-in_default c =
-    let rest = c.in_default.rest in
+    let rest = c.in_default.in_default-own.rest in
     beyond c.args.self c.args.i rest.0.0.1 rest.0.1 rest.1

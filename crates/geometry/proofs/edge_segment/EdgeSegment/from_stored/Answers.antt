@@ -29,5 +29,5 @@ unknown (suc (suc (suc (suc n)))) ps a b d = refl
 
 pub returns-in_default : goal.returns-in_default
 returns-in_default c =
-    let rest = c.in_default.rest in
-    unknown c.args.kind c.args.t2 rest.0.0.1 rest.0.1 rest.1
+    let rest = c.in_default.in_default-own.rest in
+    unknown c.args.kind c.args.points rest.0.0.1 rest.0.1 rest.1
