@@ -23,7 +23,7 @@ at-color test p c =
     let p4 = and_r (test Yellow) _ p3 in
     let p5 = and_r (test Blue) _ p4 in
     let p6 = and_r (test Magenta) _ p5 in
-    elim c [
+    elim c as (λ k. T (test k)) [
       | Black ↦ and_l (test Black) _ p
       | Red ↦ and_l (test Red) _ p1
       | Green ↦ and_l (test Green) _ p2

@@ -11,7 +11,7 @@ use Rattle.coloring.specs.Lists.{over}
 use Rattle.coloring.specs.Answers.{Answer, gives, refusal}
 use Rattle.coloring.specs.Fill.{FillOutcome, fill_with}
 use Rattle.coloring.specs.Corners.{directions_of, ends_of, ends_in, flags_between, stand_in_mark, marks_of}
-use Rattle.coloring.specs.Outline.{Outline, Buffer, cut, contours, check_outline}
+use Rattle.coloring.specs.Outline.{Outline, MutBuffer, cut, contours, check_outline}
 use Rattle.coloring.specs.declared.directions.Directed.{Directed}
 use Rattle.coloring.specs.declared.directions.Directed.TheVariants.{Edges, Refused}
 use Rattle.coloring.specs.declared.directions.Ends.{Ends}
@@ -103,10 +103,10 @@ edge_directions o old = fill_directions o (flatten (map directions_of (contours 
 -- ---- in the words of contracts
 
 -- the two buffers at entry and at exit
-abbrev pub buffers_at_entry : Buffer Float → Buffer ℕ → DirectionBuffers
+abbrev pub buffers_at_entry : MutBuffer Float → MutBuffer ℕ → DirectionBuffers
 buffers_at_entry directions stand_ins = direction_buffers directions.entry.now stand_ins.entry.now
 
-abbrev pub buffers_at_exit : Buffer Float → Buffer ℕ → DirectionBuffers
+abbrev pub buffers_at_exit : MutBuffer Float → MutBuffer ℕ → DirectionBuffers
 buffers_at_exit directions stand_ins = direction_buffers directions.exit.now stand_ins.exit.now
 
 -- the flags of several contours one after the other, by the directions of all their edges

@@ -1,7 +1,7 @@
 -- Outline buffers and the contours that they stand for, both ways, and the checks of an outline (SCOPE, Buffers and
 -- Refusals).
 use Rattle.std.specs.Prelude.{ℕ, suc, ◌-◌, ◌*◌, ◌≤◌, ◌≡◌, refl, Bool, true, false, ◌&&◌, length, take, drop, leb, eqb, pos, Float}
-use Rattle.std.specs.Borrow.{Bor}
+use Rattle.std.specs.Borrow.{Bor, MutBor}
 use denote.Triple.Both.{Both}
 use mathlib.Core.List.{List, [], ◌∷◌, ◌++◌, map, flatten}
 use Rattle.std.specs.Float.Ieee as Ieee
@@ -189,14 +189,17 @@ result lengths kinds points colors = record { lengths = lengths; kinds = kinds; 
 abbrev pub Buffer : Type 0 → Type 0
 Buffer A = Both (Bor (List A)) (Bor (List A))
 
+abbrev pub MutBuffer : Type 0 → Type 0
+MutBuffer A = Both (MutBor (List A)) (MutBor (List A))
+
 -- the outline that is given, and the four result buffers at entry and at exit
 abbrev pub given : Buffer ℕ → Buffer ℕ → Buffer Float → Outline
 given lengths kinds points = outline lengths.entry.now kinds.entry.now points.entry.now
 
-abbrev pub at_entry : Buffer ℕ → Buffer ℕ → Buffer Float → Buffer ℕ → Result
+abbrev pub at_entry : MutBuffer ℕ → MutBuffer ℕ → MutBuffer Float → MutBuffer ℕ → Result
 at_entry lengths kinds points colors = result lengths.entry.now kinds.entry.now points.entry.now colors.entry.now
 
-abbrev pub at_exit : Buffer ℕ → Buffer ℕ → Buffer Float → Buffer ℕ → Result
+abbrev pub at_exit : MutBuffer ℕ → MutBuffer ℕ → MutBuffer Float → MutBuffer ℕ → Result
 at_exit lengths kinds points colors = result lengths.exit.now kinds.exit.now points.exit.now colors.exit.now
 
 -- the buffers of an outline agree, and hold no more contours and edges than are allowed

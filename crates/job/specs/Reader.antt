@@ -4,7 +4,7 @@ use Rattle.coloring.specs.Answers.{Answer, gives, refusal}
 use Rattle.job.specs.declared.progress.Numbers.{Numbers}
 use Rattle.job.specs.Job.{Reading}
 use Rattle.job.specs.Progress.{numbers_of}
-use Rattle.coloring.specs.Outline.{Buffer}
+use Rattle.coloring.specs.Outline.{MutBuffer}
 use Rattle.job.specs.Buffers.{Buffers, buffers, stored_job, over_each, room_for, has_room}
 
 -- ---- the answer and the buffers
@@ -26,10 +26,10 @@ read_into (gives job) old =
 -- ---- in the words of contracts
 
 -- the four buffers of a job at entry and at exit
-abbrev pub job_at_entry : Buffer ℕ → Buffer ℕ → Buffer Float → Buffer Float → Buffers
+abbrev pub job_at_entry : MutBuffer ℕ → MutBuffer ℕ → MutBuffer Float → MutBuffer Float → Buffers
 job_at_entry lengths kinds points distances = buffers lengths.entry.now kinds.entry.now points.entry.now distances.entry.now
 
-abbrev pub job_at_exit : Buffer ℕ → Buffer ℕ → Buffer Float → Buffer Float → Buffers
+abbrev pub job_at_exit : MutBuffer ℕ → MutBuffer ℕ → MutBuffer Float → MutBuffer Float → Buffers
 job_at_exit lengths kinds points distances = buffers lengths.exit.now kinds.exit.now points.exit.now distances.exit.now
 
 -- a file is read, and its job has room

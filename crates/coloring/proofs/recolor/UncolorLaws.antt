@@ -2,7 +2,7 @@
 -- ring.
 use mathlib.Core.Path.{◌≡◌, refl, sym, ap, ◌∙◌, subst⁻¹}
 use mathlib.Core.Logic.{◌⊎◌, inl, inr, ◌≢◌}
-use mathlib.Core.Bool.{Bool, true, false, ◌&&◌, cond, and_false}
+use mathlib.Core.Bool.{Bool, true, false, ◌&&◌, cond, and-false}
 use mathlib.Core.List.Memᴰ
 use mathlib.Core.List.{List, [], ◌∷◌, ◌++◌, Memᴰ}
 use Prim.Native.Nat.{ℕ, zero, suc, ◌+◌, ◌-◌, ◌%◌, ◌≤◌, ◌<◌}
@@ -238,4 +238,4 @@ module _ {coloring places entries : List ℕ} {head waiting c : ℕ} (u : Uncolo
     pub skip_color : get_or coloring i 0 ≢ c → recoloring coloring places head waiting ≡ uncolor_one entries c i (recoloring coloring places head waiting)
     skip_color e =
         let other : eqb (get_or coloring i uncolored) c ≡ false = ne_eqb _ c (λ f. e (get_d_any coloring i 0 uncolored inside ∙ f)) in
-        sym (miss entries c u.color i (recoloring coloring places head waiting) (rw other (and_false (joined entries i))))
+        sym (miss entries c u.color i (recoloring coloring places head waiting) (rw other (and-false (joined entries i))))

@@ -3,7 +3,7 @@
 -- refused offer leave as it was, and that the walk's fuel is never used up.
 use mathlib.Core.Path.{◌≡◌, refl, sym, ◌∙◌, subst}
 use mathlib.Core.Logic.{◌⊎◌, inl, inr, ⊎_elim, ◌≢◌}
-use mathlib.Core.Bool.{Bool, true, false, not, ◌&&◌, and_false}
+use mathlib.Core.Bool.{Bool, true, false, not, ◌&&◌, and-false}
 use mathlib.Core.List.{List, []}
 use Prim.Native.Nat.{ℕ, ◌+◌, ◌*◌, ◌≤◌, ◌<◌}
 use native.Mathlib.Decide.{ℕ_discrete}
@@ -103,13 +103,13 @@ module _ (t : Table) (a b : ℕ) where
       offer_unsound e = bad (rw e)
 
       pub offer-first : splines t ≤ a → offer t a b ≡ refusal 10
-      offer-first h = bad (rw (le-ltb a (splines t) h, and_false (sound t)))
+      offer-first h = bad (rw (le-ltb a (splines t) h, and-false (sound t)))
 
       pub offer-second : splines t ≤ b → offer t a b ≡ refusal 10
-      offer-second h = bad (rw (le-ltb b (splines t) h, and_false (sound t && ltb a (splines t))))
+      offer-second h = bad (rw (le-ltb b (splines t) h, and-false (sound t && ltb a (splines t))))
 
       pub offer_equal : a ≡ b → offer t a b ≡ refusal 10
-      offer_equal e = bad (rw (eq-eqb a b e) (and_false (sound t && ltb a (splines t) && ltb b (splines t))))
+      offer_equal e = bad (rw (eq-eqb a b e) (and-false (sound t && ltb a (splines t) && ltb b (splines t))))
 
   -- an offer of two different splines of a sound table is `try_add_edge`
   pub offer_rule : Unrefused t a b → offer t a b ≡ try_add_edge t a b

@@ -32,22 +32,19 @@ returns-then-is_heading c = sym (heading _ (sym c.is_heading.ensures ∙ c.if-is
 
 pub returns-then-f-lt32 : goal.returns-then-f-lt32
 returns-then-f-lt32 c =
-    let e = c.before in
-    sym (math _ (sym e.is_heading.ensures ∙ e.if-is_heading.false) (omega (arith, e.word-f.ensures, c.if-f-lt32.true)))
+    sym (math _ (sym c.is_heading.ensures ∙ c.if-is_heading.false) (omega (arith, c.word-f.ensures, c.if-f-lt32.true)))
 
 pub returns-then-f-lt64 : goal.returns-then-f-lt64
 returns-then-f-lt64 c =
-    let e = c.before.before in
-    let f = e.word-f.ensures in
+    let f = c.word-f.ensures in
     sym
     (geometry
     _
-    (sym e.is_heading.ensures ∙ e.if-is_heading.false)
+    (sym c.is_heading.ensures ∙ c.if-is_heading.false)
     (omega (arith, f, c.if-f-lt32.false))
     (omega (arith, f, c.if-f-lt64.true)))
 
 pub returns-else-f-lt64 : goal.returns-else-f-lt64
 returns-else-f-lt64 c =
-    let e = c.before.before.before in
     c.word.ensures ∙
-    sym (other _ (sym e.is_heading.ensures ∙ e.if-is_heading.false) (omega (arith, e.word-f.ensures, c.if-f-lt64.false)))
+    sym (other _ (sym c.is_heading.ensures ∙ c.if-is_heading.false) (omega (arith, c.word-f.ensures, c.if-f-lt64.false)))

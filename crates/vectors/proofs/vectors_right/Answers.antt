@@ -12,8 +12,7 @@ of_record s r h k = subst (λ (b : Bool). r ≤ cond b 1 0) (sym h) k
 
 pub returns-then-is_record : goal.returns-then-is_record
 returns-then-is_record c =
-    let e = c.before.before in
-    of_record _ _ (sym e.is_record.ensures ∙ e.if-is_record.true) c.one_if.ensures
+    of_record _ _ (sym c.is_record.ensures ∙ c.if-is_record.true) c.one_if.ensures
 
 pub returns : goal.returns
 returns c = omega arith

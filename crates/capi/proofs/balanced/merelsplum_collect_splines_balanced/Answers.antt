@@ -5,6 +5,4 @@ use Rattle.capi.proofs.balanced.merelsplum_collect_splines_balanced.Goals as goa
 
 pub returns : goal.returns
 returns c =
-    let kinds-back = c.before.before.before.before.before in
-    let colored = kinds-back.before.before.before.before in
-    hands_out collected_code c.collected_code.ensures colored.edge_coloring.ensures
+    hands_out collected_code c.collected_code.ensures c.edge_coloring.ensures

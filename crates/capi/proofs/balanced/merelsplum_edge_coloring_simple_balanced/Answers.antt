@@ -5,6 +5,4 @@ use Rattle.capi.proofs.balanced.merelsplum_edge_coloring_simple_balanced.Goals a
 
 pub returns : goal.returns
 returns c =
-    let kinds-back = c.before.before.before.before.before in
-    let colored = kinds-back.before.before.before.before in
-    hands_out colored_code c.code.ensures colored.edge_coloring.ensures
+    hands_out colored_code c.code.ensures c.edge_coloring.ensures

@@ -5,6 +5,4 @@ use Rattle.capi.proofs.job_file.merelsplum_job_color.Goals as goal
 
 pub returns : goal.returns
 returns c =
-    let kinds-back = c.before.before.before.before.before in
-    let colored = kinds-back.before.before.before.before in
-    hands_out colored_code c.code.ensures colored.color.ensures
+    hands_out colored_code c.code.ensures c.color.ensures

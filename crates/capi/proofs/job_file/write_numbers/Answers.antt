@@ -4,6 +4,4 @@ use Rattle.capi.proofs.job_file.write_numbers.Goals as goal
 
 pub returns-in-Job : goal.returns-in-Job
 returns-in-Job c =
-    let wide = c.before in
-    let number = wide.before in
-    rw (number.in-Job.is, wide.wide.ensures.0 ∙ number.number.ensures)
+    rw (c.in-Job.is, c.wide.ensures.0 ∙ c.number.ensures)

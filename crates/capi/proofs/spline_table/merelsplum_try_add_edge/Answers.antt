@@ -7,4 +7,4 @@ use Rattle.capi.proofs.spline_table.merelsplum_try_add_edge.Goals as goal
 pub returns : goal.returns
 returns c =
     let offered = c.try_add_edge.ensures in
-    (c.code.ensures ∙ ap (λ (o : Offered). answer_code o.answer) offered, ap (λ (o : Offered). o.table) offered)
+    record { answer = c.code.ensures ∙ ap (λ (o : Offered). answer_code o.answer) offered; buffers = ap (λ (o : Offered). o.table) offered }

@@ -14,11 +14,7 @@ use Rattle.coloring.proofs.outline.CutLaws.{none_passed, next_fits, next-passed}
 use Rattle.coloring.proofs.directions.DirectionLaws.{decode-length}
 use Rattle.coloring.proofs.corners.FoundLaws.{all-length, all-step, all_end}
 use Rattle.coloring.proofs.corners.compare_neighbors.Goals as goal
-use Rattle.coloring.proofs.corners.compare_neighbors.Goals.{At-loop-i, In-loop-i, Start}
-
--- where the function began, from the head of the loop
-abbrev begun : At-loop-i → Start
-begun at = at.before.before.before.before
+use Rattle.coloring.proofs.corners.compare_neighbors.Goals.{In-loop-i, Start}
 
 -- the directions of all edges
 module _ (start : Start) where
@@ -33,21 +29,17 @@ module _ (start : Start) where
 
 -- the next contour lies within the edges
 module _ (c : In-loop-i) where
-  abbrev start : Start
-  start = begun c.before
-
   abbrev n : ℕ
-  n = get_or start.args.lengths.now c.loop-i.i 0
+  n = get_or c.args.lengths.now c.loop-i.i 0
 
-  room : c.loop-i.at + n ≤ edges start
+  room : c.loop-i.at + n ≤ edges (goal.at.In-loop-i c).Start
   room = next_fits _ _ _ _ c.loop-i.invariant.0 c.loop-i-test.true
 
 pub loop-i-init : goal.loop-i-init
 loop-i-init c =
-    let start = c.before.before.before in
-    let a = start.args in
-    let long = all-length a.threshold a.lengths.now (all start) (omega (arith, start.requires.2, as_many start)) in
-    (none_passed _ _ start.requires.2, refl, sym (over-all _ a.flags.now (sym (long ∙ start.requires.2))))
+    let a = c.args in
+    let long = all-length a.threshold a.lengths.now (all (goal.at.loop-i-init c).Start) (omega (arith, c.requires.2, as_many (goal.at.loop-i-init c).Start)) in
+    (none_passed _ _ c.requires.2, refl, sym (over-all _ a.flags.now (sym (long ∙ c.requires.2))))
 
 pub offset_bounds-lengths-i : goal.offset_bounds-lengths-i
 offset_bounds-lengths-i c = omega arith
@@ -56,17 +48,16 @@ pub bounds-lengths-i : goal.bounds-lengths-i
 bounds-lengths-i c = omega arith
 
 pub overflow_cast-end : goal.overflow_cast-end
-overflow_cast-end c = omega (arith, room c.before, (start c.before).requires.1)
+overflow_cast-end c = omega (arith, room (goal.at.overflow_cast-end c).In-loop-i, c.requires.1)
 
 pub overflow_add-end : goal.overflow_add-end
-overflow_add-end c = omega (arith, room c.before, (start c.before).requires.1)
+overflow_add-end c = omega (arith, room (goal.at.overflow_add-end c).In-loop-i, c.requires.1)
 
 pub identify_part-requires : goal.identify_part-requires
 identify_part-requires c =
-    let turn = c.before.before in
-    let same = turn.loop-i.invariant.1 in
-    let pre = (start turn).requires in
-    (omega (arith, same, pre.0), omega (arith, same, pre.1), omega arith, omega (arith, same, room turn))
+    let same = c.loop-i.invariant.1 in
+    let pre = c.requires in
+    (omega (arith, same, pre.0), omega (arith, same, pre.1), omega arith, omega (arith, same, room (goal.at.identify_part-requires c).In-loop-i))
 
 pub overflow_add-i : goal.overflow_add-i
 overflow_add-i c = omega arith
@@ -76,24 +67,22 @@ loop-i-smaller c = omega arith
 
 pub loop-i-preserved : goal.loop-i-preserved
 loop-i-preserved c =
-    let called = c.before.before in
-    let turn = called.before.before.before in
-    let at = turn.loop-i in
-    let a = (start turn).args in
-    let n = n turn in
-    let h = turn.loop-i-test.true in
-    let contour = take n (drop at.at (all (start turn))) in
+    let at = c.loop-i in
+    let a = c.args in
+    let n = n (goal.at.loop-i-preserved c).In-loop-i in
+    let h = c.loop-i-test.true in
+    let contour = take n (drop at.at (all (goal.at.loop-i-preserved c).Start)) in
     let m : at.at + n - at.at ≡ n = omega arith in
-    let flagged : called.identify_part.new.flags ≡ over_from at.at (flags_between a.threshold contour) at.flags =
-    rw (at.invariant.1, m) at called.identify_part.ensures in
-    let inside = room turn in
+    let flagged : c.identify_part.new.flags ≡ over_from at.at (flags_between a.threshold contour) at.flags =
+    rw (at.invariant.1, m) at c.identify_part.ensures in
+    let inside = room (goal.at.loop-i-preserved c).In-loop-i in
     let long : length (flags_between a.threshold contour) ≡ n =
     between-length a.threshold contour
-    ∙ length-take-le n (drop at.at (all (start turn))) (omega (arith, length-drop at.at (all (start turn)), as_many (start turn))) in (
+    ∙ length-take-le n (drop at.at (all (goal.at.loop-i-preserved c).Start)) (omega (arith, length-drop at.at (all (goal.at.loop-i-preserved c).Start), as_many (goal.at.loop-i-preserved c).Start)) in (
       next-passed _ _ _ _ at.invariant.0 h,
-      called.identify_part.auto.flags ∙ at.invariant.1,
+      c.identify_part.auto.flags ∙ at.invariant.1,
       at.invariant.2
-          ∙ rw (flagged, all-step a.threshold a.lengths.now (all (start turn)) at.i at.at h)
+          ∙ rw (flagged, all-step a.threshold a.lengths.now (all (goal.at.loop-i-preserved c).Start) at.i at.at h)
           (over-more at.at n (flags_between a.threshold contour) _ at.flags long (omega (arith, at.invariant.1))),
     )
 
@@ -103,6 +92,5 @@ shape_of-flags c = omega arith
 pub returns : goal.returns
 returns c =
     let at = c.loop-i in
-    let start = begun c.before in
-    let a = start.args in
-    sym (at.invariant.2 ∙ rw (all_end a.threshold a.lengths.now (all start) at.i at.at c.loop-i-test.false) (over_nothing at.at at.flags))
+    let a = c.args in
+    sym (at.invariant.2 ∙ rw (all_end a.threshold a.lengths.now (all (goal.at.returns c).Start) at.i at.at c.loop-i-test.false) (over_nothing at.at at.flags))

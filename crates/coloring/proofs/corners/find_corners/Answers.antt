@@ -7,7 +7,7 @@ use lib.Ieee.{Float, binary64, of_bits}
 use lib.ListN.{length, replicate}
 use lib.Seq.{length-take-le}
 use Rattle.coloring.proofs.corners.find_corners.Goals as goal
-use Rattle.coloring.proofs.corners.find_corners.Goals.{Else-places-le-FEW_DIRECTION_PLACES, Start, Then-places-le-FEW_DIRECTION_PLACES}
+use Rattle.coloring.proofs.corners.find_corners.Goals.{Else-places-le-FEW_DIRECTION_PLACES, Then-places-le-FEW_DIRECTION_PLACES}
 
 abbrev places : ℕ → List Float
 places n = replicate n (of_bits binary64 0)
@@ -15,47 +15,38 @@ places n = replicate n (of_bits binary64 0)
 abbrev marks : ℕ → List ℕ
 marks n = replicate n 0
 
--- where the function began, from either branch
-abbrev few : Then-places-le-FEW_DIRECTION_PLACES → Start
-few c = c.before.before.before.before.before
-
-abbrev many : Else-places-le-FEW_DIRECTION_PLACES → Start
-many c = c.before.before.before.before.before
-
 pub overflow_mul-places : goal.overflow_mul-places
-overflow_mul-places c = let start = c.before.before.before.before in omega (arith, start.requires.matching.few)
+overflow_mul-places c = omega (arith, c.requires.matching.few)
 
 pub overflow_mul-ends : goal.overflow_mul-ends
-overflow_mul-ends c = let start = c.before.before.before.before in omega (arith, start.requires.matching.few)
+overflow_mul-ends c = omega (arith, c.requires.matching.few)
 
 -- half as many marks as places, in arrays of half the length
-half : (c : Then-places-le-FEW_DIRECTION_PLACES) → 2 * length (few c).args.kinds.now ≤ 128
+half : (c : Then-places-le-FEW_DIRECTION_PLACES) → 2 * length c.args.kinds.now ≤ 128
 half c = omega (arith, c.if-places-le-FEW_DIRECTION_PLACES.true)
 
 pub slice_bounds-search_corners-end : goal.slice_bounds-search_corners-end
 slice_bounds-search_corners-end c = sym (length-take-le _ (places 256) c.if-places-le-FEW_DIRECTION_PLACES.true)
 
 pub slice_bounds-search_corners-end-then-places-le-FEW_DIRECTION_PLACES : goal.slice_bounds-search_corners-end-then-places-le-FEW_DIRECTION_PLACES
-slice_bounds-search_corners-end-then-places-le-FEW_DIRECTION_PLACES c = sym (length-take-le _ (marks 128) (half c.before.before))
+slice_bounds-search_corners-end-then-places-le-FEW_DIRECTION_PLACES c = sym (length-take-le _ (marks 128) (half (goal.at.slice_bounds-search_corners-end-then-places-le-FEW_DIRECTION_PLACES c).Then-places-le-FEW_DIRECTION_PLACES))
 
 pub search_corners-requires : goal.search_corners-requires
 search_corners-requires c =
-    let small = c.before.before.before in
-    ((few small).requires, (length-take-le _ (places 256) small.if-places-le-FEW_DIRECTION_PLACES.true, length-take-le _ (marks 128) (half small)))
+    record { cut = c.requires; directions_len = (length-take-le _ (places 256) c.if-places-le-FEW_DIRECTION_PLACES.true, length-take-le _ (marks 128) (half (goal.at.search_corners-requires c).Then-places-le-FEW_DIRECTION_PLACES)) }
 
-within : (c : Else-places-le-FEW_DIRECTION_PLACES) → 4 * length (many c).args.kinds.now ≤ 1024
-within c = omega (arith, (many c).requires.matching.few)
+within : (c : Else-places-le-FEW_DIRECTION_PLACES) → 4 * length c.args.kinds.now ≤ 1024
+within c = omega (arith, c.requires.matching.few)
 
-within-marks : (c : Else-places-le-FEW_DIRECTION_PLACES) → 2 * length (many c).args.kinds.now ≤ 512
-within-marks c = omega (arith, (many c).requires.matching.few)
+within-marks : (c : Else-places-le-FEW_DIRECTION_PLACES) → 2 * length c.args.kinds.now ≤ 512
+within-marks c = omega (arith, c.requires.matching.few)
 
 pub slice_bounds-search_corners-end-2 : goal.slice_bounds-search_corners-end-2
-slice_bounds-search_corners-end-2 c = sym (length-take-le _ (places 1024) (within c.before))
+slice_bounds-search_corners-end-2 c = sym (length-take-le _ (places 1024) (within (goal.at.slice_bounds-search_corners-end-2 c).Else-places-le-FEW_DIRECTION_PLACES))
 
 pub slice_bounds-search_corners-end-3 : goal.slice_bounds-search_corners-end-3
-slice_bounds-search_corners-end-3 c = sym (length-take-le _ (marks 512) (within-marks c.before.before))
+slice_bounds-search_corners-end-3 c = sym (length-take-le _ (marks 512) (within-marks (goal.at.slice_bounds-search_corners-end-3 c).Else-places-le-FEW_DIRECTION_PLACES))
 
 pub search_corners-requires-2 : goal.search_corners-requires-2
 search_corners-requires-2 c =
-    let large = c.before.before.before in
-    ((many large).requires, (length-take-le _ (places 1024) (within large), length-take-le _ (marks 512) (within-marks large)))
+    record { cut = c.requires; directions_len = (length-take-le _ (places 1024) (within (goal.at.search_corners-requires-2 c).Else-places-le-FEW_DIRECTION_PLACES), length-take-le _ (marks 512) (within-marks (goal.at.search_corners-requires-2 c).Else-places-le-FEW_DIRECTION_PLACES)) }

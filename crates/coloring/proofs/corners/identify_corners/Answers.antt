@@ -13,13 +13,6 @@ use Rattle.coloring.proofs.Writing.{over-all, over-next, over_nothing}
 use Rattle.coloring.proofs.directions.DirectionLaws.{decode-length}
 use Rattle.coloring.proofs.corners.SearchLaws.{flags-start, flags-next, flags_end}
 use Rattle.coloring.proofs.corners.identify_corners.Goals as goal
-use Rattle.coloring.proofs.corners.identify_corners.Goals.{At-loop-i, Start}
-
--- where the function began, from the head of the loop
-abbrev begun : At-loop-i → Start
-begun at =
-    let last = at.before.before in
-    last.before.before.before.before
 
 pub returns-then-m-eq0 : goal.returns-then-m-eq0
 unfolding flags_between decode_ends
@@ -29,31 +22,27 @@ returns-then-m-eq0 c =
 
 pub loop-i-init : goal.loop-i-init
 loop-i-init c =
-    let last = c.before in
-    let a = last.args in
+    let a = c.args in
     let m = length a.flags.now in
     let found = decode_ends m a.directions.now in
     let long : m ≡ length (flags_between a.threshold found) = sym (between-length a.threshold found ∙ decode-length m a.directions.now) in
-    let start : flags_between a.threshold found ≡ flags_after a.threshold last.ends_at.result.end found =
+    let start : flags_between a.threshold found ≡ flags_after a.threshold c.ends_at.result.end found =
     flags-start a.threshold m a.directions.now (omega arith)
-    ∙ ap (λ (d : Ends). flags_after a.threshold d.end found) (sym last.ends_at.ensures) in
+    ∙ ap (λ (d : Ends). flags_after a.threshold d.end found) (sym c.ends_at.ensures) in
     (refl, omega arith, refl, sym (over-all _ a.flags.now long) ∙ ap (λ (flags : List Bool). over_from 0 flags a.flags.now) start)
 
 pub loop-i-preserved : goal.loop-i-preserved
 loop-i-preserved c =
-    let corner = c.before in
-    let read = corner.before in
-    let head = read.before.before in
-    let at = head.loop-i in
-    let a = (begun head).args in
+    let at = c.loop-i in
+    let a = c.args in
     let i = at.i in (
       at.invariant.0,
       omega arith,
       simp length-set at.invariant.2,
       at.invariant.3
           ∙ rw (
-            corner.is_corner.ensures,
-            read.ends_at-d.ensures,
+            c.is_corner.ensures,
+            c.ends_at-d.ensures,
             flags-next a.threshold (length a.flags.now) a.directions.now at.prev i (omega arith),
           )
           (over-next i _ _ at.flags (omega arith)),
@@ -62,6 +51,6 @@ loop-i-preserved c =
 pub returns : goal.returns
 returns c =
     let at = c.loop-i in
-    let a = (begun c.before).args in
+    let a = c.args in
     sym (at.invariant.3
     ∙ rw (flags_end a.threshold (length a.flags.now) a.directions.now at.prev at.i (omega arith)) (over_nothing at.i at.flags))

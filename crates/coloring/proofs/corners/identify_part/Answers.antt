@@ -18,14 +18,12 @@ identify_corners-requires c = (
 
 pub returns : goal.returns
 returns c =
-    let called = c.before.before in
-    let start = called.before.before.before.before.before in
-    let a = start.args in
+    let a = c.args in
     let m = a.end - a.at in
     let n = length a.flags.now in
     let part = take m (drop a.at (decode_ends n a.directions.now)) in
-    let as_many : length (take m (drop a.at a.flags.now)) ≡ m = simp (length-take, length-drop) (omega (arith, start.requires.3)) in
+    let as_many : length (take m (drop a.at a.flags.now)) ≡ m = simp (length-take, length-drop) (omega (arith, c.requires.3)) in
     let long : length (flags_between a.threshold part) ≡ m =
-    between-length a.threshold part ∙ simp (length-take, length-drop) (omega (arith, start.requires.3, decode-length n a.directions.now)) in
-    rw (called.identify_corners.ensures, as_many, decode-part a.at a.end n a.directions.now start.requires.2 start.requires.3)
+    between-length a.threshold part ∙ simp (length-take, length-drop) (omega (arith, c.requires.3, decode-length n a.directions.now)) in
+    rw (c.identify_corners.ensures, as_many, decode-part a.at a.end n a.directions.now c.requires.2 c.requires.3)
     (over-part a.at m (flags_between a.threshold part) a.flags.now long)

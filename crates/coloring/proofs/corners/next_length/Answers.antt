@@ -5,5 +5,4 @@ use Rattle.coloring.proofs.corners.next_length.Goals as goal
 
 pub returns-then-eq : goal.returns-then-eq
 returns-then-eq c =
-    let start = c.before.before in
-    start.requires ∙ sym (length_same start.args.v start.args.before (sym c.eq.ensures ∙ c.if-eq.true))
+    c.requires ∙ sym (length_same c.args.v c.args.before (sym c.eq.ensures ∙ c.if-eq.true))

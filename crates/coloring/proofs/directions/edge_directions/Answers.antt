@@ -1,7 +1,7 @@
 -- `edge_directions` meets its contract: a refusal of the checks, 11, or the directions of all edges.
 use mathlib.Core.Path.{◌≡◌, refl, sym, ap, ◌∙◌}
 use mathlib.Core.Bool.{true, false}
-use mathlib.Core.List.{List, ◌++◌, map, flatten}
+use mathlib.Core.List.{List, [], ◌++◌, map, flatten}
 use Prim.Native.Nat.{ℕ, ◌*◌, ◌≤◌, ◌<◌}
 use native.Mathlib.Omega.{arith}
 use borrow.Author.Tests.{le-leb, lt-leb}
@@ -20,7 +20,7 @@ use Rattle.coloring.proofs.outline.EdgeLaws.{edges-length}
 use Rattle.coloring.proofs.shape.DeliverLaws.{passed_agrees}
 use Rattle.coloring.proofs.directions.DirectionLaws.{places-length, directions-whole}
 use Rattle.coloring.proofs.directions.edge_directions.Goals as goal
-use Rattle.coloring.proofs.directions.edge_directions.Goals.{After-check_outline-checked, Else-marks-out_stand_ins, In_default, Start}
+use Rattle.coloring.proofs.directions.edge_directions.Goals.{Else-marks-out_stand_ins, In_default, Start}
 
 -- the outcome by the checks and by how long the buffers are
 module _ (o : Outline) (old : DirectionBuffers) where
@@ -95,81 +95,52 @@ old s = direction_buffers s.args.out_directions.now s.args.out_stand_ins.now
 abbrev given : Start → Outline
 given s = outline s.args.lengths.now s.args.kinds.now s.args.points.now
 
--- the checks are made
-module _ (c : After-check_outline-checked) where
-  abbrev begun : Start
-  begun =
-      let known = c.before.before.before in
-      known.before.before.before
-
 pub returns-in-Failed : goal.returns-in-Failed
 returns-in-Failed c =
-    let checked = c.before.before.before in
-    let s = begun checked in
-    refused (given s) (old s) (sym checked.check_outline-checked.ensures ∙ ap checked_answer c.in-Failed.is)
+    refused (given (goal.at.returns-in-Failed c).Start) (old (goal.at.returns-in-Failed c).Start) (sym c.check_outline-checked.ensures ∙ ap checked_answer c.in-Failed.is)
 
 -- and passed
 module _ (c : In_default) where
-  abbrev start : Start
-  start = begun c.before.before
-
-  passed : first_refusal (check_outline (given start)) ≡ all_pass
+  passed : first_refusal (check_outline (given (goal.at.In_default c).Start)) ≡ all_pass
   passed = sym c.check_outline-checked.ensures ∙ ap checked_answer c.in_default.is
 
 pub overflow_mul-places : goal.overflow_mul-places
-overflow_mul-places c = omega (arith, (agrees (given (start c)) (old (start c)) (passed c)).few)
+overflow_mul-places c = omega (arith, (agrees (given (goal.at.overflow_mul-places c).Start) (old (goal.at.overflow_mul-places c).Start) (passed c)).few)
 
 pub overflow_mul-marks : goal.overflow_mul-marks
-overflow_mul-marks c = omega (arith, (agrees (given (start c)) (old (start c)) (passed c)).few)
+overflow_mul-marks c = omega (arith, (agrees (given (goal.at.overflow_mul-marks c).Start) (old (goal.at.overflow_mul-marks c).Start) (passed c)).few)
 
 pub returns-then-places-out_directions : goal.returns-then-places-out_directions
 returns-then-places-out_directions c =
-    let s = start c.before in
-    directions-short (given s) (old s) (passed c.before) c.if-places-out_directions.true
+    directions-short (given (goal.at.returns-then-places-out_directions c).Start) (old (goal.at.returns-then-places-out_directions c).Start) (passed (goal.at.returns-then-places-out_directions c).In_default) c.if-places-out_directions.true
 
 pub returns-then-marks-out_stand_ins : goal.returns-then-marks-out_stand_ins
 returns-then-marks-out_stand_ins c =
-    let told = c.before.before in
-    let s = start told in
-    marks-short (given s) (old s) (passed told) c.if-places-out_directions.false c.if-marks-out_stand_ins.true
+    marks-short (given (goal.at.returns-then-marks-out_stand_ins c).Start) (old (goal.at.returns-then-marks-out_stand_ins c).Start) (passed (goal.at.returns-then-marks-out_stand_ins c).In_default) c.if-places-out_directions.false c.if-marks-out_stand_ins.true
 
 -- there is room
 module _ (c : Else-marks-out_stand_ins) where
-  abbrev told : In_default
-  told = c.before.before
-
-  abbrev s : Start
-  s = start told
-
-  directions-room : 4 * length s.args.kinds.now ≤ length s.args.out_directions.now
+  directions-room : 4 * length c.args.kinds.now ≤ length c.args.out_directions.now
   directions-room = c.if-places-out_directions.false
 
-  marks-room : 2 * length s.args.kinds.now ≤ length s.args.out_stand_ins.now
+  marks-room : 2 * length c.args.kinds.now ≤ length c.args.out_stand_ins.now
   marks-room = c.if-marks-out_stand_ins.false
 
 pub slice_bounds-unit_directions-end-2 : goal.slice_bounds-unit_directions-end-2
-slice_bounds-unit_directions-end-2 c = sym (length-take-le _ (s c.before).args.out_directions.now (directions-room c.before))
+slice_bounds-unit_directions-end-2 c = sym (length-take-le _ c.args.out_directions.now (directions-room (goal.at.slice_bounds-unit_directions-end-2 c).Else-marks-out_stand_ins))
 
 pub slice_bounds-unit_directions-end-4 : goal.slice_bounds-unit_directions-end-4
 slice_bounds-unit_directions-end-4 c =
-    let room = c.before.before in
-    sym (length-take-le _ (s room).args.out_stand_ins.now (marks-room room))
+    sym (length-take-le _ c.args.out_stand_ins.now (marks-room (goal.at.slice_bounds-unit_directions-end-4 c).Else-marks-out_stand_ins))
 
 pub unit_directions-requires : goal.unit_directions-requires
 unit_directions-requires c =
-    let room = c.before.before in
-    let s = s room in (
-      agrees (given s) (old s) (passed (told room)),
-      (
-        length-take-le _ s.args.out_directions.now (directions-room room),
-        length-take-le _ s.args.out_stand_ins.now (marks-room room),
-      ),
-    )
+    record { agrees = agrees (given (goal.at.unit_directions-requires c).Start) (old (goal.at.unit_directions-requires c).Start) (passed (goal.at.unit_directions-requires c).In_default); out_len = (
+        length-take-le _ c.args.out_directions.now (directions-room (goal.at.unit_directions-requires c).Else-marks-out_stand_ins),
+        length-take-le _ c.args.out_stand_ins.now (marks-room (goal.at.unit_directions-requires c).Else-marks-out_stand_ins),
+      ) }
 
 pub returns : goal.returns
 returns c =
-    let called = c.before.before.before.before in
-    let room = called.before.before.before in
-    let s = s room in
-    rw (called.unit_directions.ensures.out_after, called.unit_directions.ensures.marks_after)
-    (fits (given s) (old s) (passed (told room)) (directions-room room) (marks-room room))
+    rw (c.unit_directions.ensures.out_after, c.unit_directions.ensures.marks_after)
+    (fits (given (goal.at.returns c).Start) (old (goal.at.returns c).Start) (passed (goal.at.returns c).In_default) (directions-room (goal.at.returns c).Else-marks-out_stand_ins) (marks-room (goal.at.returns c).Else-marks-out_stand_ins))

@@ -8,14 +8,12 @@ use Rattle.coloring.proofs.directions.ends_at.Goals as goal
 
 pub returns : goal.returns
 returns c =
-    let first = c.before.before.before in
-    let start = first.before.before.before.before in
-    let places = start.args.directions.now in
-    let at = 4 * start.args.i in
+    let places = c.args.directions.now in
+    let at = 4 * c.args.i in
     let here : at + 0 ≡ at = omega arith in
     rw (
       c.new-2.ensures,
-      first.new.ensures,
+      c.new.ensures,
       get_or-drop at places 0 nan,
       get_or-drop at places 1 nan,
       get_or-drop at places 2 nan,

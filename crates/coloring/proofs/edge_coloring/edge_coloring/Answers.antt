@@ -1,7 +1,7 @@
 -- `edge_coloring` meets its contract: a refusal of the checks, or the corners and then the edges and their colours.
 use mathlib.Core.Path.{◌≡◌, sym, ap, ◌∙◌}
 use mathlib.Core.Bool.{Bool, false}
-use mathlib.Core.List.{List, ◌∷◌, ◌++◌}
+use mathlib.Core.List.{List, [], ◌∷◌, ◌++◌}
 use Prim.Native.Nat.{ℕ, ◌≤◌, ◌<◌}
 use native.Mathlib.Omega.{arith}
 use lib.Dec.{leb}
@@ -18,15 +18,10 @@ use Rattle.coloring.specs.EdgeColoring.{edge_coloring}
 use Rattle.coloring.specs.DeliverLaws.{found_passed, found_failed}
 use Rattle.coloring.proofs.shape.DeliverLaws.{passed_agrees}
 use Rattle.coloring.proofs.edge_coloring.edge_coloring.Goals as goal
-use Rattle.coloring.proofs.edge_coloring.edge_coloring.Goals.{After-check-checked, After-find_corners-stand_ins, After-slice_known-4-1, In_default, Start}
+use Rattle.coloring.proofs.edge_coloring.edge_coloring.Goals.{After-find_corners-stand_ins, In_default, Start}
 
 abbrev none : List Bool
 none = replicate 256 false
-
-abbrev begun : After-slice_known-4-1 → Start
-begun c =
-    let known = c.before.before.before in
-    known.before.before.before.before.before
 
 -- the outcome by the checks
 module _ (settings : Settings) (o : Outline) (distances : List Float) where
@@ -61,38 +56,26 @@ given s = outline s.args.lengths.now s.args.kinds.now s.args.points.now
 
 -- the checks are passed
 module _ (c : In_default) where
-  abbrev passing : After-check-checked
-  passing = c.before.before
+  passed : first_refusal (check (given (goal.at.In_default c).Start) c.args.settings.threshold) ≡ all_pass
+  passed = sym c.check-checked.ensures ∙ ap checked_answer c.in_default.is
 
-  abbrev start : Start
-  start = begun passing.before.before
-
-  passed : first_refusal (check (given start) start.args.settings.threshold) ≡ all_pass
-  passed = sym passing.check-checked.ensures ∙ ap checked_answer c.in_default.is
-
-  agrees : Agrees (given start)
+  agrees : Agrees (given (goal.at.In_default c).Start)
   unfolding check
   agrees = passed_agrees _ _ passed
 
-  all-passed : first_refusal (checks start.args.settings (given start) start.args.distances.now) ≡ all_pass
-  all-passed = not_many start.args.settings (given start) start.args.distances.now passing.if-distances-gt-MAX_DISTANCES.left ∙ passed
+  all-passed : first_refusal (checks c.args.settings (given (goal.at.In_default c).Start) c.args.distances.now) ≡ all_pass
+  all-passed = not_many c.args.settings (given (goal.at.In_default c).Start) c.args.distances.now c.if-distances-gt-MAX_DISTANCES.false ∙ passed
 
 -- the corners are searched
 module _ (c : After-find_corners-stand_ins) where
-  abbrev told : In_default
-  told = c.before.before
-
-  abbrev s : Start
-  s = start told
-
   abbrev n : ℕ
-  n = length s.args.kinds.now
+  n = length c.args.kinds.now
 
   abbrev flags : List Bool
   flags = c.find_corners-stand_ins.new.flags
 
   size : length flags ≡ n
-  size = c.find_corners-stand_ins.auto.flags ∙ length-take-le n none (agrees told).few
+  size = c.find_corners-stand_ins.auto.flags ∙ length-take-le n none (agrees (goal.at.After-find_corners-stand_ins c).In_default).few
 
   -- the array with them, and its first part
   within : n ≤ length (flags ++ drop n none)
@@ -103,55 +86,45 @@ module _ (c : After-find_corners-stand_ins) where
 
 pub returns-then-distances-gt-MAX_DISTANCES : goal.returns-then-distances-gt-MAX_DISTANCES
 returns-then-distances-gt-MAX_DISTANCES c =
-    let s = begun c.before in
-    refused s.args.settings (given s) s.args.distances.now (old s) (too_many s.args.settings (given s) s.args.distances.now c.if-distances-gt-MAX_DISTANCES.true)
+    refused c.args.settings (given (goal.at.returns-then-distances-gt-MAX_DISTANCES c).Start) c.args.distances.now (old (goal.at.returns-then-distances-gt-MAX_DISTANCES c).Start) (too_many c.args.settings (given (goal.at.returns-then-distances-gt-MAX_DISTANCES c).Start) c.args.distances.now c.if-distances-gt-MAX_DISTANCES.true)
 
 pub returns-in-Failed : goal.returns-in-Failed
 returns-in-Failed c =
-    let checked = c.before.before.before in
-    let s = begun checked.before.before in
-    let failed = sym checked.check-checked.ensures ∙ ap checked_answer c.in-Failed.is in
-    refused s.args.settings (given s) s.args.distances.now (old s)
-    (not_many s.args.settings (given s) s.args.distances.now checked.if-distances-gt-MAX_DISTANCES.false ∙ failed)
+    let failed = sym c.check-checked.ensures ∙ ap checked_answer c.in-Failed.is in
+    refused c.args.settings (given (goal.at.returns-in-Failed c).Start) c.args.distances.now (old (goal.at.returns-in-Failed c).Start)
+    (not_many c.args.settings (given (goal.at.returns-in-Failed c).Start) c.args.distances.now c.if-distances-gt-MAX_DISTANCES.false ∙ failed)
 
 pub slice_bounds-flags-end : goal.slice_bounds-flags-end
 slice_bounds-flags-end c = (agrees c).few
 
 pub slice_bounds-find_corners-end : goal.slice_bounds-find_corners-end
-slice_bounds-find_corners-end c = sym (length-take-le (length (start c.before).args.kinds.now) none (agrees c.before).few)
+slice_bounds-find_corners-end c = sym (length-take-le (length c.args.kinds.now) none (agrees (goal.at.slice_bounds-find_corners-end c).In_default).few)
 
 pub find_corners-stand_ins-requires : goal.find_corners-stand_ins-requires
 find_corners-stand_ins-requires c =
-    let a = agrees c.before in
+    let a = agrees (goal.at.find_corners-stand_ins-requires c).In_default in
     record {
-      matching = record { places = a.places; flagged = length-take-le (length (start c.before).args.kinds.now) none a.few; few = a.few };
+      matching = record { places = a.places; flagged = length-take-le (length c.args.kinds.now) none a.few; few = a.few };
       whole = sym a.edges;
       contours-few = a.contours-few;
     }
 
 pub slice_bounds-flags-end-2 : goal.slice_bounds-flags-end-2
-slice_bounds-flags-end-2 c = within c.before
+slice_bounds-flags-end-2 c = within (goal.at.slice_bounds-flags-end-2 c).After-find_corners-stand_ins
 
 pub slice_bounds-color_shape-end : goal.slice_bounds-color_shape-end
-slice_bounds-color_shape-end c = sym (ap length (front c.before.before) ∙ size c.before.before)
+slice_bounds-color_shape-end c = sym (ap length (front (goal.at.slice_bounds-color_shape-end c).After-find_corners-stand_ins) ∙ size (goal.at.slice_bounds-color_shape-end c).After-find_corners-stand_ins)
 
 pub color_shape-requires : goal.color_shape-requires
 color_shape-requires c =
-    let handed = c.before.before.before.before in
-    let searched = handed.before.before in
-    let a = agrees (told searched) in
+    let a = agrees (goal.at.color_shape-requires c).In_default in
     record {
-      matching = record { places = a.places; flagged = ap length (front searched) ∙ size searched; few = a.few };
+      matching = record { places = a.places; flagged = ap length (front (goal.at.color_shape-requires c).After-find_corners-stand_ins) ∙ size (goal.at.color_shape-requires c).After-find_corners-stand_ins; few = a.few };
       whole = sym a.edges;
       contours-few = a.contours-few;
     }
 
 pub returns : goal.returns
 returns c =
-    let points = c.before.before.before.before in
-    let colored = points.before.before.before.before in
-    let handed = colored.before.before.before.before.before in
-    let searched = handed.before.before in
-    let s = s searched in
-    (rw (front searched) at colored.color_shape.ensures)
-    ∙ goes_on s.args.settings (given s) s.args.distances.now (old s) (all-passed (told searched)) searched.find_corners-stand_ins.ensures
+    (rw (front (goal.at.returns c).After-find_corners-stand_ins) at c.color_shape.ensures)
+    ∙ goes_on c.args.settings (given (goal.at.returns c).Start) c.args.distances.now (old (goal.at.returns c).Start) (all-passed (goal.at.returns c).In_default) c.find_corners-stand_ins.ensures

@@ -19,36 +19,28 @@ use Rattle.coloring.proofs.ink_trap.CornerLaws.{going_begins, going_major, going
 use Rattle.coloring.proofs.ink_trap.CornerLaws.{left_stays, minor_turn, major_turn, minors-done, color_of, bytes-set, bytes_same}
 use Rattle.coloring.proofs.ink_trap.CornerLaws.{last_set, last_same, colored, drawn}
 use Rattle.coloring.proofs.ink_trap.colors_by_length.Goals as goal
-use Rattle.coloring.proofs.ink_trap.colors_by_length.Goals.{After-corner_at-none, After-majors, After-mark, After-measure, In-majors, Start}
+use Rattle.coloring.proofs.ink_trap.colors_by_length.Goals.{After-majors, After-mark, After-measure, In-majors, Start}
 
 -- the contour at the call
 abbrev contour : Start → Cornered
 contour c = whole c.args.kinds.now c.args.points.now c.args.flags.now
 
--- where the function began, from the first corner's making
-abbrev begun : After-corner_at-none
-    → Start
-begun c = c.before.before.before.before.before
-
 module _ (c : After-measure) where
-  abbrev start : Start
-  start = begun c.before.before
-
   abbrev array : List InkTrapCorner
   array = c.measure.corners
 
   abbrev count : ℕ
   count = c.measure.count
 
-  found : measure_corners (contour start) ≡ record { corners = take count array; spline_length = c.measure.spline-length }
+  found : measure_corners (contour (goal.at.After-measure c).Start) ≡ record { corners = take count array; spline_length = c.measure.spline_length }
   found =
-      let a = start.args in
+      let a = c.args in
       c.measure.invariant.3
-      ∙ measuring-ends count c.measure.index c.measure.spline-length array (edges_of a.kinds.now a.points.now) a.flags.now
+      ∙ measuring-ends count c.measure.index c.measure.spline_length array (edges_of a.kinds.now a.points.now) a.flags.now
       (omega (arith, edges-length a.kinds.now a.points.now))
 
   few : count ≤ 256
-  few = omega (arith, start.requires.0.few)
+  few = omega (arith, c.requires.0.few)
 
   -- a place among the corners is one of the array
   inside : (i : ℕ) → 0 < count → i % count < 256
@@ -57,54 +49,48 @@ module _ (c : After-measure) where
   size : length (take count array) ≡ count
   size = length-take-le count array (omega (arith, few))
 
-  counted : count ≡ corner_count start.args.flags.now
+  counted : count ≡ corner_count c.args.flags.now
   counted =
-      let a = start.args in
+      let a = c.args in
       sym size
       ∙ sym (ap (λ (m : Measured). length m.corners) found)
-      ∙ measured-count (contour start) (start.requires.0.flagged ∙ sym (edges-length a.kinds.now a.points.now))
+      ∙ measured-count (contour (goal.at.After-measure c).Start) (c.requires.0.flagged ∙ sym (edges-length a.kinds.now a.points.now))
 
 module _ (c : After-mark) where
-  abbrev measured : After-measure
-  measured = c.before.before.before.before
-
   abbrev marked_corners : List InkTrapCorner
-  marked_corners = take (count measured) c.mark.corners
+  marked_corners = take (count (goal.at.After-mark c).After-measure) c.mark.corners
 
-  all-marked : c.mark.i ≡ count measured
+  all-marked : c.mark.i ≡ count (goal.at.After-mark c).After-measure
   all-marked = omega arith
 
-  marked : marked_corners ≡ mark_minors (measure_corners (contour (start measured)))
+  marked : marked_corners ≡ mark_minors (measure_corners (contour (goal.at.After-mark c).Start))
   marked =
-      let n = count measured in
-      let s = measured.measure.spline-length in
-      let first : InkTrapCorner → List InkTrapCorner = λ k. take n (set (array measured) 0 k) in
+      let n = count (goal.at.After-mark c).After-measure in
+      let s = c.measure.spline_length in
+      let first : InkTrapCorner → List InkTrapCorner = λ k. take n (set (array (goal.at.After-mark c).After-measure) 0 k) in
       let close = c.closed in
       c.mark.invariant.4
       ∙ ap (λ i. marking i (first close.result)) all-marked
       ∙ ap (λ k. marking n (first k)) close.ensures
-      ∙ rw (close_first_lem s (array measured), found measured) (marks-many n s (array measured) (omega (arith, few measured)) (omega (arith, counted measured)))
+      ∙ rw (close_first_lem s (array (goal.at.After-mark c).After-measure), found (goal.at.After-mark c).After-measure) (marks-many n s (array (goal.at.After-mark c).After-measure) (omega (arith, few (goal.at.After-mark c).After-measure)) (omega (arith, counted (goal.at.After-mark c).After-measure)))
 
-  majors : c.mark.left ≡ major_count marked_corners
+  majors : c.mark.false ≡ major_count marked_corners
   majors = omega (arith, c.mark.invariant.3, ap (λ i. major_count (take i c.mark.corners)) all-marked)
 
 at_major : (c : In-majors) → c.majors.j < 256
-at_major c = omega (arith, few (measured c.before.before))
+at_major c = omega (arith, few (goal.at.In-majors c).After-measure)
 
 module _ (c : After-majors) where
-  abbrev marks : After-mark
-  marks = c.before.before
-
-  inked : color_majors Black marks.mark.left (start (measured marks)).args.pen (marked_corners marks)
-      ≡ record { corners = take (count (measured marks)) c.majors.corners; pen = c.majors.ink }
+  inked : color_majors Black c.mark.false c.args.pen (marked_corners (goal.at.After-majors c).After-mark)
+      ≡ record { corners = take (count (goal.at.After-majors c).After-measure) c.majors.corners; pen = c.majors.ink }
   inked =
       let at = c.majors in
-      at.invariant.3 ∙ going-ends at.j (count (measured marks)) at.initial at.left
-      at.ink at.corners at.invariant.0 c.majors-test.false (omega (arith, few (measured marks)))
+      at.invariant.3 ∙ going-ends at.j (count (goal.at.After-majors c).After-measure) at.initial at.left
+      at.ink at.corners at.invariant.0 c.majors-test.false (omega (arith, few (goal.at.After-majors c).After-measure))
 
 pub measure-init : goal.measure-init
 measure-init c =
-    (omega arith, omega arith, length-replicate 256 c.corner_at-none.result, measuring_begins _ (contour (begun c)))
+    (omega arith, omega arith, length-replicate 256 c.corner_at-none.result, measuring_begins _ (contour (goal.at.measure-init c).Start))
 
 pub bounds-flags-index : goal.bounds-flags-index
 bounds-flags-index c = omega arith
@@ -126,13 +112,11 @@ measure-smaller c = omega arith
 
 pub measure-preserved : goal.measure-preserved
 measure-preserved c =
-    let head = c.before.before.before.before.before in
-    let start = begun head.before in
-    let at = head.measure in
-    let flags = start.args.flags.now in
-    let edges = edges_of start.args.kinds.now start.args.points.now in
-    let h : at.index < length edges = omega (arith, edges-length start.args.kinds.now start.args.points.now) in
-    let l : at.index < length flags = omega (arith, start.requires.0.flagged) in
+    let at = c.measure in
+    let flags = c.args.flags.now in
+    let edges = edges_of c.args.kinds.now c.args.points.now in
+    let h : at.index < length edges = omega (arith, edges-length c.args.kinds.now c.args.points.now) in
+    let l : at.index < length flags = omega (arith, c.requires.0.flagged) in
     let estimate = c.estimate_edge_length-spline_length.ensures ∙ ap estimate_edge_length c.edge_at.ensures in
     ⊎_elim
     (λ w. (
@@ -140,7 +124,7 @@ measure-preserved c =
       omega (arith, w.4),
       ap length w.2 ∙ simp length-set at.invariant.2,
       at.invariant.3
-          ∙ measuring_corner at.count at.index at.spline-length at.corners edges flags h l (omega (arith, start.requires.0.few)) w.0.taken
+          ∙ measuring_corner at.count at.index at.spline-length at.corners edges flags h l (omega (arith, c.requires.0.few)) w.0.taken
           w.1.ensures w.2 w.3 w.4 estimate,
     ))
     (λ w. (
@@ -178,11 +162,10 @@ nonzero_rem-next c = omega arith
 
 pub bounds-corners-i-in-mark : goal.bounds-corners-i-in-mark
 bounds-corners-i-in-mark c =
-    let measured = c.before.before.before.before.before in
-    inside measured _ (rem-next c)
+    inside (goal.at.bounds-corners-i-in-mark c).After-measure _ (nonzero_rem-next c)
 
 pub offset_bounds-corners-i-in-mark : goal.offset_bounds-corners-i-in-mark
-offset_bounds-corners-i-in-mark c = omega (arith, array-copy-out-next c)
+offset_bounds-corners-i-in-mark c = omega (arith, bounds-corners-i-in-mark c)
 
 pub overflow_add-third : goal.overflow_add-third
 overflow_add-third c = omega arith
@@ -192,12 +175,10 @@ nonzero_rem-third c = omega arith
 
 pub bounds-corners-i-in-mark-2 : goal.bounds-corners-i-in-mark-2
 bounds-corners-i-in-mark-2 c =
-    let read = c.before in
-    let measured = read.before.before.before.before.before in
-    inside measured _ (rem-third c)
+    inside (goal.at.bounds-corners-i-in-mark-2 c).After-measure _ (nonzero_rem-third c)
 
 pub offset_bounds-corners-i-in-mark-2 : goal.offset_bounds-corners-i-in-mark-2
-offset_bounds-corners-i-in-mark-2 c = omega (arith, array-copy-out-third c)
+offset_bounds-corners-i-in-mark-2 c = omega (arith, bounds-corners-i-in-mark-2 c)
 
 pub offset_bounds-corners-i-in-mark-3 : goal.offset_bounds-corners-i-in-mark-3
 offset_bounds-corners-i-in-mark-3 c = omega arith
@@ -207,9 +188,7 @@ bounds-corners-i-in-mark-3 c = omega arith
 
 pub overflow_sub-left : goal.overflow_sub-left
 overflow_sub-left c =
-    let read = c.before.before.before in
-    let head = read.before.before.before.before in
-    omega (arith, head.mark.invariant.3)
+    omega (arith, c.mark.invariant.3)
 
 pub overflow_add-i : goal.overflow_add-i
 overflow_add-i c = omega arith
@@ -219,17 +198,13 @@ mark-smaller c = omega arith
 
 pub mark-preserved : goal.mark-preserved
 mark-preserved c =
-    let read = c.before.before.before in
-    let turn = read.before.before.before in
-    let closed = turn.before.before in
-    let measured = closed.before.before in
-    let at = turn.mark in
-    let n = count measured in
+    let at = c.mark in
+    let n = count (goal.at.mark-preserved c).After-measure in
     let flag = c.is_minor-minor.ensures in
     let corner = c.with_minor.ensures in
     let h : at.i < n = omega arith in
-    let fits : n ≤ length (set (array measured) 0 closed.closed.result) = omega (arith, at.invariant.2, few measured) in
-    let same : n ≤ length at.corners = omega (arith, few measured) in
+    let fits : n ≤ length (set (array (goal.at.mark-preserved c).After-measure) 0 c.closed.result) = omega (arith, at.invariant.2, few (goal.at.mark-preserved c).After-measure) in
+    let same : n ≤ length at.corners = omega (arith, few (goal.at.mark-preserved c).After-measure) in
     let minor : c.with_minor.result.minor ≡ c.is_minor-minor.result = ap (λ (k : InkTrapCorner). k.minor) corner in (
       omega arith,
       simp length-set at.invariant.1,
@@ -238,7 +213,7 @@ mark-preserved c =
           (λ w. omega (arith, at.invariant.3, w.1, majors_same at.i at.corners c.with_minor.result (omega arith) (minor ∙ w.0.taken)))
           (λ w. omega (arith, at.invariant.3, w.1, majors_more at.i at.corners c.with_minor.result (omega arith) (minor ∙ w.0.left)))
           c.if-minor.branch,
-      mark_turn at.i n (set (array measured) 0 closed.closed.result) at.corners h fits same at.invariant.4 flag corner,
+      mark_turn at.i n (set (array (goal.at.mark-preserved c).After-measure) 0 c.closed.result) at.corners h fits same at.invariant.4 flag corner,
     )
 
 pub majors-init : goal.majors-init
@@ -252,15 +227,14 @@ bounds-corners-j c = omega arith
 
 pub overflow_sub-left-then-not-corner : goal.overflow_sub-left-then-not-corner
 overflow_sub-left-then-not-corner c =
-    let measured = measured c.before.before.before.before.before in
     let at = c.majors in
-    omega (arith, at.invariant.2, majors_fall at.j (count measured) at.corners (omega arith) (omega (arith, few measured)) (not-true _ c.if-not-corner.true))
+    omega (arith, at.invariant.2, majors_fall at.j (count (goal.at.overflow_sub-left-then-not-corner c).After-measure) at.corners (omega arith) (omega (arith, few (goal.at.overflow_sub-left-then-not-corner c).After-measure)) (not-true _ c.if-not-corner.true))
 
 pub offset_bounds-corners-j-then-not-corner : goal.offset_bounds-corners-j-then-not-corner
-offset_bounds-corners-j-then-not-corner c = let branch = c.before.before.before in omega (arith, at_major branch.before.before.before)
+offset_bounds-corners-j-then-not-corner c = omega (arith, at_major (goal.at.offset_bounds-corners-j-then-not-corner c).In-majors)
 
 pub bounds-corners-j-then-not-corner : goal.bounds-corners-j-then-not-corner
-bounds-corners-j-then-not-corner c = let branch = c.before.before.before in at_major branch.before.before.before
+bounds-corners-j-then-not-corner c = at_major (goal.at.bounds-corners-j-then-not-corner c).In-majors
 
 pub overflow_add-j : goal.overflow_add-j
 overflow_add-j c = omega arith
@@ -270,11 +244,10 @@ majors-smaller c = omega arith
 
 pub majors-preserved : goal.majors-preserved
 majors-preserved c =
-    let measured = measured c.before.before.before.before.before in
     let at = c.majors in
-    let n = count measured in
+    let n = count (goal.at.majors-preserved c).After-measure in
     let h : at.j < n = omega arith in
-    let fits : n ≤ length at.corners = omega (arith, few measured) in
+    let fits : n ≤ length at.corners = omega (arith, few (goal.at.majors-preserved c).After-measure) in
     ⊎_elim
     (λ w.
     let major = not-true _ w.0.taken in (
@@ -299,8 +272,8 @@ minors-init c =
     let at = c.majors in (
       omega arith,
       at.invariant.1,
-      (start (measured (marks c))).requires.2 ∙ sym (counted (measured (marks c))),
-      ap (λ k. color_minors 0 k at.ink.color (take (count (measured (marks c))) at.corners)) (omega arith),
+      c.requires.2 ∙ sym (counted (goal.at.minors-init c).After-measure),
+      ap (λ k. color_minors 0 k at.ink.color (take (count (goal.at.minors-init c).After-measure) at.corners)) (omega arith),
       refl,
       refl,
     )
@@ -319,10 +292,10 @@ nonzero_rem-next-then-corner c = omega arith
 
 pub bounds-corners-k-then-corner : goal.bounds-corners-k-then-corner
 bounds-corners-k-then-corner c =
-    inside (measured (marks c.before.before.before.before)) _ (rem-next-2 c)
+    inside (goal.at.bounds-corners-k-then-corner c).After-measure _ (nonzero_rem-next-then-corner c)
 
 pub offset_bounds-corners-k-then-corner : goal.offset_bounds-corners-k-then-corner
-offset_bounds-corners-k-then-corner c = omega (arith, array-copy-out-next-2 c)
+offset_bounds-corners-k-then-corner c = omega (arith, bounds-corners-k-then-corner c)
 
 pub offset_bounds-corners-k-then-corner-2 : goal.offset_bounds-corners-k-then-corner-2
 offset_bounds-corners-k-then-corner-2 c = omega arith
@@ -341,11 +314,10 @@ minors-smaller c = omega arith
 
 pub minors-preserved : goal.minors-preserved
 minors-preserved c =
-    let measured = measured (marks c.before.before.before.before.before) in
     let at = c.minors in
-    let n = count measured in
+    let n = count (goal.at.minors-preserved c).After-measure in
     let h : at.k < n = omega arith in
-    let fits : n ≤ length at.corners = omega (arith, few measured) in
+    let fits : n ≤ length at.corners = omega (arith, few (goal.at.minors-preserved c).After-measure) in
     let inside : at.k < length at.corners = omega arith in
     let room : at.k < length at.colors = omega (arith, at.invariant.2) in
     let long = length-set at.colors at.k c.bits.result ∙ at.invariant.2 in
@@ -371,24 +343,19 @@ minors-preserved c =
 
 pub shape_of-colors : goal.shape_of-colors
 shape_of-colors c =
-    let measured = measured (marks c.before.before) in
-    c.minors.invariant.2 ∙ counted measured ∙ sym (start measured).requires.2
+    c.minors.invariant.2 ∙ counted (goal.at.shape_of-colors c).After-measure ∙ sym c.requires.2
 
 pub returns : goal.returns
 returns c =
-    let done = c.before.before in
-    let marks = marks done in
-    let measured = measured marks in
-    let start = start measured in
     let at = c.minors in
-    let ink = done.majors.ink in
-    let n = count measured in
+    let ink = c.majors.ink in
+    let n = count (goal.at.returns c).After-measure in
     let last : at.k ≡ n = omega arith in
-    let all = length-take-le n at.corners (omega (arith, few measured)) in
-    let corners : color_corners (measure_corners (contour start)) start.args.pen ≡ record { corners = take n at.corners; pen = ink } =
-    colored _ _ (marked_corners marks) marks.mark.left _ n (marked marks) (majors marks) (inked done)
-    (length-take-le n marks.mark.corners (omega (arith, marks.mark.invariant.1, few measured)))
+    let all = length-take-le n at.corners (omega (arith, few (goal.at.returns c).After-measure)) in
+    let corners : color_corners (measure_corners (contour (goal.at.returns c).Start)) c.args.pen ≡ record { corners = take n at.corners; pen = ink } =
+    colored _ _ (marked_corners (goal.at.returns c).After-mark) c.mark.false _ n (marked (goal.at.returns c).After-mark) (majors (goal.at.returns c).After-mark) (inked (goal.at.returns c).After-majors)
+    (length-take-le n c.mark.corners (omega (arith, c.mark.invariant.1, few (goal.at.returns c).After-measure)))
     ∙ ap (λ (cs : List InkTrapCorner). record { corners = cs; pen = ink })
     (at.invariant.3 ∙ minors-done at.k n at.color at.corners c.minors-test.false) in
-    drawn (contour start) start.args.pen ink (take n at.corners) at.colors at.new corners
+    drawn (contour (goal.at.returns c).Start) c.args.pen ink (take n at.corners) at.colors at.new corners
     (sym (take_all n at.colors (omega (arith, at.invariant.2))) ∙ rw last at at.invariant.4) (rw all (rw last at at.invariant.5))

@@ -8,9 +8,6 @@ use Rattle.coloring.proofs.ink_trap.ink_trap_colors.Goals as goal
 
 pub returns-then-colors-le3 : goal.returns-then-colors-le3
 returns-then-colors-le3 c =
-    let called = c.before.before in
-    let branch = called.before.before in
-    let start = branch.before.before.before.before.before in
-    let contour = whole start.args.kinds.now start.args.points.now start.args.flags.now in
-    let long = start.requires.0.flagged ∙ sym (edges-length start.args.kinds.now start.args.points.now) in
-    rw (few_simple contour start.args.pen long (omega arith) (omega (arith, start.requires.2)), ← start.requires.2) called.simple_colors.ensures
+    let contour = whole c.args.kinds.now c.args.points.now c.args.flags.now in
+    let long = c.requires.0.flagged ∙ sym (edges-length c.args.kinds.now c.args.points.now) in
+    rw (few_simple contour c.args.pen long (omega arith) (omega (arith, c.requires.2)), ← c.requires.2) c.simple_colors.ensures

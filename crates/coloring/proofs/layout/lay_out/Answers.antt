@@ -14,63 +14,51 @@ use Rattle.coloring.proofs.outline.EdgeLaws.{edges-length}
 use Rattle.coloring.proofs.outline.CutLaws.{none_passed, next_fits, left_step}
 use Rattle.coloring.proofs.layout.LayoutLaws.{laying-next, laying-ends}
 use Rattle.coloring.proofs.layout.lay_out.Goals as goal
-use Rattle.coloring.proofs.layout.lay_out.Goals.{After-lay_out_part, After-part_edges-edges, At-loop-i, In-loop-i, Start}
-
-abbrev start-at : At-loop-i → Start
-start-at c =
-    let known = c.before.before.before.before in
-    known.before.before.before.before.before
+use Rattle.coloring.proofs.layout.lay_out.Goals.{After-part_edges-edges, In-loop-i}
 
 -- the next contour lies within the edges
 module _ (c : In-loop-i) where
-  abbrev start : Start
-  start = start-at c.before
-
   abbrev n : ℕ
-  n = get_or start.args.lengths.now c.loop-i.i 0
+  n = get_or c.args.lengths.now c.loop-i.i 0
 
-  room : c.loop-i.at + n ≤ length start.args.kinds.now
-  room = rw (edges-length start.args.kinds.now start.args.points.now) at (next_fits _ _ _ _ c.loop-i.invariant.1.passed c.loop-i-test.true)
+  room : c.loop-i.at + n ≤ length c.args.kinds.now
+  room = rw (edges-length c.args.kinds.now c.args.points.now) at (next_fits _ _ _ _ c.loop-i.invariant.1.passed c.loop-i-test.true)
 
   -- its flags
   abbrev part : List Bool
-  part = take n (drop c.loop-i.at start.args.flags.now)
+  part = take n (drop c.loop-i.at c.args.flags.now)
 
   whole : c.loop-i.at + n - c.loop-i.at ≡ n
   whole = omega arith
 
 module _ (c : After-part_edges-edges) where
   -- what it comes to
-  counted : c.part_edges-edges.result ≡ result_edges (part c.before.before)
-  counted = rw (whole c.before.before) at c.part_edges-edges.ensures
+  counted : c.part_edges-edges.result ≡ result_edges (part (goal.at.After-part_edges-edges c).In-loop-i)
+  counted = rw (whole (goal.at.After-part_edges-edges c).In-loop-i) at c.part_edges-edges.ensures
 
   -- there is room for it
-  fit : let a = (start c.before.before).args in
+  fit : let a = c.args in
       c.loop-i.to + c.part_edges-edges.result ≤ total (map result_edges (cut a.lengths.now a.flags.now))
   fit =
-      let turn = c.before.before in
-      let s = turn.loop-i in
-      let a = (start turn).args in
-      omega (arith, counted, s.invariant.1.counted, left_step result_edges a.lengths.now a.flags.now s.i s.at turn.loop-i-test.true)
+      let s = c.loop-i in
+      let a = c.args in
+      omega (arith, counted, s.invariant.1.counted, left_step result_edges a.lengths.now a.flags.now s.i s.at c.loop-i-test.true)
 
   bound : c.part_edges-edges.result ≤ 768
   bound =
-      let turn = c.before.before in
-      let at = turn.loop-i.at in
-      let flags = (start turn).args.flags.now in
-      let m = (start turn).requires.cut.matching in
-      let long = length-take-le (n turn) (drop at flags) (omega (arith, room turn, length-drop at flags, m.flagged)) in
-      omega (arith, counted, edges_bound (part turn), room turn, m.few)
+      let at = c.loop-i.at in
+      let flags = c.args.flags.now in
+      let m = c.requires.cut.matching in
+      let long = length-take-le (n (goal.at.After-part_edges-edges c).In-loop-i) (drop at flags) (omega (arith, room (goal.at.After-part_edges-edges c).In-loop-i, length-drop at flags, m.flagged)) in
+      omega (arith, counted, edges_bound (part (goal.at.After-part_edges-edges c).In-loop-i), room (goal.at.After-part_edges-edges c).In-loop-i, m.few)
 
 pub loop-i-init : goal.loop-i-init
 unfolding over_from
 loop-i-init c =
-    let known = c.before.before.before in
-    let start = known.before.before.before.before.before in
-    let a = start.args in (
+    let a = c.args in (
       record { lengths-kept = refl; kinds_kept = refl; points_kept = refl; flags-kept = refl },
       record {
-        passed = none_passed _ _ (start.requires.cut.whole ∙ sym (edges-length a.kinds.now a.points.now));
+        passed = none_passed _ _ (c.requires.cut.whole ∙ sym (edges-length a.kinds.now a.points.now));
         counted = omega arith;
         lengths_so_far = refl;
         kinds_so_far = refl;
@@ -86,18 +74,18 @@ pub bounds-lengths-i : goal.bounds-lengths-i
 bounds-lengths-i c = omega arith
 
 pub overflow_cast-end : goal.overflow_cast-end
-overflow_cast-end c = omega (arith, room c.before, (start c.before).requires.cut.matching.few)
+overflow_cast-end c = omega (arith, room (goal.at.overflow_cast-end c).In-loop-i, c.requires.cut.matching.few)
 
 pub overflow_add-end : goal.overflow_add-end
-overflow_add-end c = omega (arith, room c.before, (start c.before).requires.cut.matching.few)
+overflow_add-end c = omega (arith, room (goal.at.overflow_add-end c).In-loop-i, c.requires.cut.matching.few)
 
 pub part_edges-edges-requires : goal.part_edges-edges-requires
 part_edges-edges-requires c =
-    let m = (start c.before).requires.cut.matching in
-    (omega arith, omega (arith, room c.before, m.flagged), omega (arith, m.flagged, m.few))
+    let m = c.requires.cut.matching in
+    (omega arith, omega (arith, room (goal.at.part_edges-edges-requires c).In-loop-i, m.flagged), omega (arith, m.flagged, m.few))
 
 pub overflow_add-next : goal.overflow_add-next
-overflow_add-next c = omega (arith, fit c, (start c.before.before).requires.result_room.kinds_fit, (start c.before.before).good)
+overflow_add-next c = omega (arith, fit c, c.requires.result_room.kinds_fit, c.well_formed)
 
 pub overflow_cast-out_lengths : goal.overflow_cast-out_lengths
 overflow_cast-out_lengths c = omega (arith, bound c)
@@ -107,53 +95,34 @@ offset_bounds-out_lengths-i c = omega arith
 
 pub bounds-out_lengths-i : goal.bounds-out_lengths-i
 bounds-out_lengths-i c =
-    let turn = c.before.before in
-    omega (arith, turn.loop-i.invariant.0.lengths-kept, (start turn).requires.result_room.lengths_fit, turn.loop-i-test.true)
+    omega (arith, c.loop-i.invariant.0.lengths-kept, c.requires.result_room.lengths_fit, c.loop-i-test.true)
 
 pub lay_out_part-requires : goal.lay_out_part-requires
 lay_out_part-requires c =
-    let edges = c.before.before.before in
-    let turn = edges.before.before in
-    let pre = (start turn).requires in
-    let at = turn.loop-i in
+    let pre = c.requires in
+    let at = c.loop-i in
     let kept = at.invariant.0 in
-    let enough = fit edges in (
-      (record { matching = pre.cut.matching; start = omega arith; inside = room turn }, ap (λ k. at.to + k) edges.part_edges-edges.ensures),
-      (
+    let enough = fit (goal.at.lay_out_part-requires c).After-part_edges-edges in record { part = (record { matching = pre.cut.matching; start = omega arith; inside = room (goal.at.lay_out_part-requires c).In-loop-i }, ap (λ k. at.to + k) c.part_edges-edges.ensures); next_in_bounds = (
         omega (arith, enough, kept.kinds_kept, pre.result_room.kinds_fit),
         omega (arith, enough, kept.points_kept, pre.result_room.points_fit),
         omega (arith, enough, kept.flags-kept, pre.result_room.flags_fit),
-      ),
-    )
-
--- the next contour is laid out
-module _ (c : After-lay_out_part) where
-  abbrev counting : After-part_edges-edges
-  counting = c.before.before.before.before
-
-  abbrev turned : In-loop-i
-  turned = counting.before.before
+      ) }
 
 pub overflow_add-i : goal.overflow_add-i
 overflow_add-i c =
-    let points = c.before.before.before in
-    let turn = turned points.before.before.before in
-    omega (arith, turn.loop-i-test.taken, (start turn).good)
+    omega (arith, c.loop-i-test.true, c.well_formed)
 
 pub loop-i-smaller : goal.loop-i-smaller
 loop-i-smaller c = omega arith
 
 pub loop-i-preserved : goal.loop-i-preserved
 loop-i-preserved c =
-    let points = c.before.before.before in
-    let laid_out = points.before.before.before in
-    let turn = turned laid_out in
-    let pre = (start turn).requires in
-    let a = (start turn).args in
-    let at = turn.loop-i in
+    let pre = c.requires in
+    let a = c.args in
+    let at = c.loop-i in
     let kept = at.inv.0 in
-    let size = laid_out.lay_out_part.auto.1.1.1.1.1.1.1 in
-    let stored = rw (whole turn) at laid_out.lay_out_part.ensures in (
+    let size = c.lay_out_part.auto.1.1.1.1.1.1.1 in
+    let stored = rw (whole (goal.at.loop-i-preserved c).In-loop-i) at c.lay_out_part.ensures in (
       record {
         lengths-kept = simp length-set kept.lengths-kept;
         kinds_kept = size.0 ∙ kept.kinds_kept;
@@ -161,10 +130,10 @@ loop-i-preserved c =
         flags-kept = size.1.1.0 ∙ kept.flags-kept;
       },
       laying-next _ _ _ _ _ _ _ _ _ _ _ _ at.inv.1
-          (pre.cut.matching.flagged ∙ sym (edges-length a.kinds.now a.points.now)) turn.loop-i-test.taken
+          (pre.cut.matching.flagged ∙ sym (edges-length a.kinds.now a.points.now)) c.loop-i-test.true
           (omega (arith, kept.lengths-kept, pre.result_room.lengths_fit)) (omega (arith, kept.kinds_kept, pre.result_room.kinds_fit))
           (omega (arith, kept.points_kept, pre.result_room.points_fit))
-          (omega (arith, kept.flags-kept, pre.result_room.flags_fit)) (counted (counting laid_out)) stored,
+          (omega (arith, kept.flags-kept, pre.result_room.flags_fit)) (counted (goal.at.loop-i-preserved c).After-part_edges-edges) stored,
     )
 
 pub shape_of-out_lengths : goal.shape_of-out_lengths

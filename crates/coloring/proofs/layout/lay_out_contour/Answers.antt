@@ -11,89 +11,61 @@ use Rattle.coloring.specs.Sizes.{edges-split, edges_same, layout-split, layout_s
 use Rattle.coloring.proofs.corners.FlagLaws.{first-within}
 use Rattle.coloring.proofs.outline.EdgeLaws.{edges-length}
 use Rattle.coloring.proofs.layout.lay_out_contour.Goals as goal
-use Rattle.coloring.proofs.layout.lay_out_contour.Goals.{After-slice_known-1, After-splits, Else-splits, Start, Then-splits}
+use Rattle.coloring.proofs.layout.lay_out_contour.Goals.{Else-splits, Start, Then-splits}
 
 abbrev contour : Start → Cornered
 contour c = whole c.args.kinds.now c.args.points.now c.args.flags.now
 
-module _ (c : After-splits) where
-  abbrev known : After-slice_known-1
-  known = c.before.before.before
-
-  abbrev start : Start
-  start = known.before.before.before.before
-
 -- it is split
 module _ (c : Then-splits) where
-  abbrev s : Start
-  s = start c.before
-
-  split : splits s.args.flags.now ≡ true
+  split : splits c.args.flags.now ≡ true
   split = sym c.splits.ensures ∙ c.if-splits.true
 
   -- into so many edges
   abbrev n : ℕ
-  n = 3 * length s.args.kinds.now
+  n = 3 * length c.args.kinds.now
 
-  long : length s.args.out_kinds.now ≡ n
-  long = s.requires.out_kinds_len.0 ∙ edges-split _ split ∙ omega (arith, s.requires.cases.0.flagged)
+  long : length c.args.out_kinds.now ≡ n
+  long = c.requires.out_kinds_len.0 ∙ edges-split _ split ∙ omega (arith, c.requires.cases.0.flagged)
 
-  flags_long : length s.args.out_flags.now ≡ length (split_contour (contour s)).edges
+  flags_long : length c.args.out_flags.now ≡ length (split_contour (contour (goal.at.Then-splits c).Start)).edges
   flags_long =
-      s.requires.cases.1 ∙ edges-split _ split
-      ∙ omega (arith, s.requires.cases.0.flagged, split-length (contour s), edges-length s.args.kinds.now s.args.points.now)
+      c.requires.cases.1 ∙ edges-split _ split
+      ∙ omega (arith, c.requires.cases.0.flagged, split-length (contour (goal.at.Then-splits c).Start), edges-length c.args.kinds.now c.args.points.now)
 
 -- it is not
 module _ (c : Else-splits) where
-  same : splits (start c.before).args.flags.now ≡ false
+  same : splits c.args.flags.now ≡ false
   same = sym c.splits.ensures ∙ c.if-splits.false
 
-  same_edges : length (start c.before).args.out_kinds.now ≡ length (start c.before).args.flags.now
-  same_edges = (start c.before).requires.out_kinds_len.0 ∙ edges_same _ same
+  same_edges : length c.args.out_kinds.now ≡ length c.args.flags.now
+  same_edges = c.requires.out_kinds_len.0 ∙ edges_same _ same
 
 pub split_edges-requires : goal.split_edges-requires
 split_edges-requires c =
-    let branch = c.before.before.before in
-    let s = s branch in
-    let m = s.requires.cases.0 in
-    let few = split-few s.args.flags.now (split branch) in
-    let inside = first-within s.args.flags.now (omega (arith, few.0)) in (
-      (m.places, omega (arith, few.1, m.flagged), rw c.first_corner.ensures (omega (arith, inside, m.flagged))),
-      (long branch, s.requires.out_kinds_len.1),
-    )
+    let m = c.requires.cases.0 in
+    let few = split-few c.args.flags.now (split (goal.at.split_edges-requires c).Then-splits) in
+    let inside = first-within c.args.flags.now (omega (arith, few.0)) in record { points_len = (m.places, omega (arith, few.1, m.flagged), rw c.first_corner.ensures (omega (arith, inside, m.flagged))); out_kinds_len = (long (goal.at.split_edges-requires c).Then-splits, c.requires.out_kinds_len.1) }
 
 pub returns-then-splits : goal.returns-then-splits
 unfolding split_contour
 returns-then-splits c =
-    let flags = c.before.before in
-    let points = flags.before.before.before in
-    let edges = points.before.before.before in
-    let corner = edges.before.before.before in
-    let branch = corner.before in
-    rw (layout-split (contour (s branch)) (split branch), ← corner.first_corner.ensures)
+    rw (layout-split (contour (goal.at.returns-then-splits c).Start) (split (goal.at.returns-then-splits c).Then-splits), ← c.first_corner.ensures)
     (record {
-      edges_are = edges.split_edges.ensures;
-      flags_are = flags.flag_first.ensures ∙ ap first_only (rw (← corner.first_corner.ensures) at (flags_long branch));
+      edges_are = c.split_edges.ensures;
+      flags_are = c.flag_first.ensures ∙ ap first_only (rw (← c.first_corner.ensures) at (flags_long (goal.at.returns-then-splits c).Then-splits));
     })
 
 pub copy_edges-requires : goal.copy_edges-requires
 copy_edges-requires c =
-    let branch = c.before.before in
-    let s = start branch.before in
-    let m = s.requires.cases.0 in
-    ((m.places, same_edges branch ∙ m.flagged), omega (arith, same_edges branch, m.flagged, s.requires.out_kinds_len.1))
+    let m = c.requires.cases.0 in
+    record { points_len = (m.places, same_edges (goal.at.copy_edges-requires c).Else-splits ∙ m.flagged); out_points_len = omega (arith, same_edges (goal.at.copy_edges-requires c).Else-splits, m.flagged, c.requires.out_kinds_len.1) }
 
 pub copy_flags-requires : goal.copy_flags-requires
 copy_flags-requires c =
-    let edges = c.before.before.before.before.before in
-    let branch = edges.before.before.before in
-    (start branch.before).requires.cases.1 ∙ edges_same _ (same branch)
+    c.requires.cases.1 ∙ edges_same _ (same (goal.at.copy_flags-requires c).Else-splits)
 
 pub returns : goal.returns
 returns c =
-    let flags = c.before.before in
-    let points = flags.before.before.before in
-    let edges = points.before.before.before in
-    let branch = edges.before.before.before in
-    rw (layout_same (contour (start branch.before)) (same branch))
-    (record { edges_are = edges.copy_edges.ensures; flags_are = flags.copy_flags.ensures })
+    rw (layout_same (contour (goal.at.returns c).Start) (same (goal.at.returns c).Else-splits))
+    (record { edges_are = c.copy_edges.ensures; flags_are = c.copy_flags.ensures })

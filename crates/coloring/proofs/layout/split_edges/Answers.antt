@@ -15,7 +15,6 @@ use Rattle.coloring.proofs.Places.{get_or-rotate}
 use Rattle.coloring.proofs.outline.EdgeLaws.{edges-length}
 use Rattle.coloring.proofs.outline.StoreLaws.{storing_all, storing_many, storing_ends}
 use Rattle.coloring.proofs.layout.split_edges.Goals as goal
-use Rattle.coloring.proofs.layout.split_edges.Goals.{At-loop-i, Start}
 
 -- the edge after i steps from the corner, in thirds, and those after it
 thirds-next : (edges : List EdgeSegment) (corner i m : ℕ) → length edges ≡ m → corner ≤ m → i < m
@@ -30,18 +29,13 @@ thirds-next edges corner i m l s h =
       l,
     )
 
--- where the function began, from the head of the loop
-abbrev begun : At-loop-i → Start
-begun at = at.before.before.before.before.before
-
 pub loop-i-init : goal.loop-i-init
 loop-i-init c =
-    let start = c.before.before.before.before in
-    let edges = edges_of start.args.kinds.now start.args.points.now in
-    let l : length (flatten (map thirds (rotate start.args.corner edges))) ≡ 3 * length start.args.kinds.now =
-    thirds-length (rotate start.args.corner edges)
-    ∙ ap (λ n. 3 * n) (length-rotate start.args.corner edges ∙ edges-length start.args.kinds.now start.args.points.now) in
-    (refl, omega arith, start.requires.out_kinds_len.0, storing_all _ _ _ (omega arith) (omega (arith, start.requires.out_kinds_len.1)))
+    let edges = edges_of c.args.kinds.now c.args.points.now in
+    let l : length (flatten (map thirds (rotate c.args.corner edges))) ≡ 3 * length c.args.kinds.now =
+    thirds-length (rotate c.args.corner edges)
+    ∙ ap (λ n. 3 * n) (length-rotate c.args.corner edges ∙ edges-length c.args.kinds.now c.args.points.now) in
+    (refl, omega arith, c.requires.out_kinds_len.0, storing_all _ _ _ (omega arith) (omega (arith, c.requires.out_kinds_len.1)))
 
 pub overflow_add-corner : goal.overflow_add-corner
 overflow_add-corner c = omega arith
@@ -51,8 +45,7 @@ nonzero_rem-corner c = omega arith
 
 pub edge_at-e-requires : goal.edge_at-e-requires
 edge_at-e-requires c =
-    let start = begun c.before in
-    (mod-lt _ (omega arith), start.requires.points_len.0)
+    (mod-lt _ (omega arith), c.requires.points_len.0)
 
 pub overflow_mul-i : goal.overflow_mul-i
 overflow_mul-i c = omega arith
@@ -71,20 +64,16 @@ loop-i-smaller c = omega arith
 pub loop-i-preserved : goal.loop-i-preserved
 unfolding thirds
 loop-i-preserved c =
-    let stored = c.before.before.before.before in
-    let read = stored.before.before.before in
-    let head = read.before.before in
-    let start = begun head in
-    let at = head.loop-i in
-    let m = length start.args.kinds.now in
-    let edges = edges_of start.args.kinds.now start.args.points.now in
-    let written = stored.write_thirds in
+    let at = c.loop-i in
+    let m = length c.args.kinds.now in
+    let edges = edges_of c.args.kinds.now c.args.points.now in
+    let written = c.write_thirds in
     let next =
-    thirds-next edges start.args.corner at.i m (edges-length start.args.kinds.now start.args.points.now) (omega arith) (omega arith) in (
+    thirds-next edges c.args.corner at.i m (edges-length c.args.kinds.now c.args.points.now) (omega arith) (omega arith) in (
       at.invariant.0,
       omega arith,
       written.auto.1.1.0 ∙ at.invariant.2,
-      rw (written.ensures.0, written.ensures.1, read.edge_at-e.ensures)
+      rw (written.ensures.0, written.ensures.1, c.edge_at-e.ensures)
           (storing_many (thirds _) _ 3 (3 * (at.i + 1)) refl (omega arith) (rw next at at.invariant.3)),
     )
 
@@ -97,10 +86,9 @@ shape_of-out_points c = omega arith
 pub returns : goal.returns
 unfolding flatten
 returns c =
-    let start = begun c.before in
     let at = c.loop-i in
-    let edges = edges_of start.args.kinds.now start.args.points.now in
-    let none = drop_of_length-le (rotate start.args.corner edges) {i = at.i}
-    (rw length-rotate (omega (arith, edges-length start.args.kinds.now start.args.points.now))) in
+    let edges = edges_of c.args.kinds.now c.args.points.now in
+    let none = drop_of_length-le (rotate c.args.corner edges) {i = at.i}
+    (rw length-rotate (omega (arith, edges-length c.args.kinds.now c.args.points.now))) in
     let ends = storing_ends (rw none at at.invariant.3) in
     record { kinds_are = ends.0; points_are = ends.1 }

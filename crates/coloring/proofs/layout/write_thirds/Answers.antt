@@ -1,7 +1,7 @@
 -- `write_thirds` meets its contract: three edges are stored.
 use native.Mathlib.Omega.{arith}
 use mathlib.Core.Path.{refl}
-use mathlib.Core.List.{◌∷◌}
+use mathlib.Core.List.{[], ◌∷◌}
 use Prim.Native.Nat.{◌+◌}
 use Rattle.geometry.specs.EdgeSegment.{split_in_thirds}
 use Rattle.coloring.specs.Layout.{thirds}
@@ -11,27 +11,20 @@ use Rattle.coloring.proofs.layout.write_thirds.Goals as goal
 pub returns : goal.returns
 unfolding thirds
 returns c =
-    let third = c.before.before.before.before in
-    let to-second = third.before.before.before in
-    let second = to-second.before.before.before.before in
-    let to-first = second.before.before.before in
-    let first = to-first.before.before.before.before in
-    let split = first.before.before.before in
-    let start = split.before.before.before in
-    let e = start.args.e in
-    let i = start.args.i in
+    let e = c.args.e in
+    let i = c.args.i in
     let parts = split_in_thirds e in
-    let none = storing_part (thirds e) i start.args.out_kinds.now start.args.out_points.now start.requires.0 start.requires.1 in
+    let none = storing_part (thirds e) i c.args.out_kinds.now c.args.out_points.now c.requires.0 c.requires.1 in
     let one = storing_one parts.first (parts.second ∷ parts.third ∷ []) (i + 1) refl none in
     let two = storing_one parts.second (parts.third ∷ []) (i + 2) (omega arith) one in
     let three = storing_one parts.third [] (i + 3) (omega arith) two in
     rw (
-      third.write_edge-3.ensures.out_kinds_after,
-      third.write_edge-3.ensures.out_points_after,
-      second.write_edge-2.ensures.out_kinds_after,
-      second.write_edge-2.ensures.out_points_after,
-      first.write_edge.ensures.out_kinds_after,
-      first.write_edge.ensures.out_points_after,
-      split.split_in_thirds-parts.ensures,
+      c.write_edge-3.ensures.out_kinds_after,
+      c.write_edge-3.ensures.out_points_after,
+      c.write_edge-2.ensures.out_kinds_after,
+      c.write_edge-2.ensures.out_points_after,
+      c.write_edge.ensures.out_kinds_after,
+      c.write_edge.ensures.out_points_after,
+      c.split_in_thirds-parts.ensures,
     )
     (storing_ends three)

@@ -7,7 +7,7 @@ use Rattle.coloring.specs.Lists.{all}
 use Rattle.coloring.specs.Outline.{in_range, used_places}
 use Rattle.coloring.proofs.outline.CheckLaws.{kind_at, fit_fail, fit_more, fit_end}
 use Rattle.coloring.proofs.outline.coordinates_fit.Goals as goal
-use Rattle.coloring.proofs.outline.coordinates_fit.Goals.{After-places_fit, After-used_places, In-loop-i, Start}
+use Rattle.coloring.proofs.outline.coordinates_fit.Goals.{After-places_fit, After-used_places}
 
 pub loop-i-init : goal.loop-i-init
 loop-i-init c = (omega arith, refl)
@@ -24,9 +24,7 @@ used_places-requires c = kind_at _ _ c.requires.1 c.loop-i-test.true
 -- an edge uses at most its eight places
 used : (c : After-used_places) → c.used_places.result ≤ 8
 used c =
-    let turn = c.before.before in
-    let start = turn.before.before.before.before in
-    omega (arith, kind_at start.args.kinds.now turn.loop-i.i start.requires.1 turn.loop-i-test.true)
+    omega (arith, kind_at c.args.kinds.now c.loop-i.i c.requires.1 c.loop-i-test.true)
 
 pub overflow_add-end : goal.overflow_add-end
 overflow_add-end c = omega (arith, used c)
@@ -45,24 +43,17 @@ slice_bounds-places_fit-end c = omega (arith, used c)
 
 -- the part that was tested holds the used places of the edge
 module _ (c : After-places_fit) where
-  abbrev turn : In-loop-i
-  turn = c.before.before.before.before
-
-  abbrev start : Start
-  start = turn.before.before.before.before
-
   abbrev i : ℕ
-  i = turn.loop-i.i
+  i = c.loop-i.i
 
-  tested : c.places_fit.result ≡ all in_range (take (used_places (get_or start.args.kinds.now i 0)) (drop (8 * i) start.args.points.now))
+  tested : c.places_fit.result ≡ all in_range (take (used_places (get_or c.args.kinds.now i 0)) (drop (8 * i) c.args.points.now))
   tested =
-      let e : 8 * i + c.used_places.result - 8 * i ≡ used_places (get_or start.args.kinds.now i 0) = omega arith in
+      let e : 8 * i + c.used_places.result - 8 * i ≡ used_places (get_or c.args.kinds.now i 0) = omega arith in
       c.places_fit.ensures ∙ rw e
 
 pub returns-then-not-places_fit : goal.returns-then-not-places_fit
 returns-then-not-places_fit c =
-    let turn = turn c.before in
-    fit_fail _ _ _ turn.loop-i.invariant.1 turn.loop-i-test.taken (sym (tested c.before) ∙ not-true _ c.if-not-places_fit.true-raw)
+    fit_fail _ _ _ c.loop-i.invariant.1 c.loop-i-test.true (sym (tested (goal.at.returns-then-not-places_fit c).After-places_fit) ∙ not-true _ c.if-not-places_fit.true-raw)
 
 pub overflow_add-i : goal.overflow_add-i
 overflow_add-i c = omega arith
@@ -72,8 +63,7 @@ loop-i-smaller c = omega arith
 
 pub loop-i-preserved : goal.loop-i-preserved
 loop-i-preserved c =
-    let turn = turn c.before in
-    (omega arith, fit_more _ _ _ turn.loop-i.invariant.1 turn.loop-i-test.taken (sym (tested c.before) ∙ not-false _ c.if-not-places_fit.false-raw))
+    (omega arith, fit_more _ _ _ c.loop-i.invariant.1 c.loop-i-test.true (sym (tested (goal.at.loop-i-preserved c).After-places_fit) ∙ not-false _ c.if-not-places_fit.false-raw))
 
 pub returns : goal.returns
 returns c = fit_end _ _ _ c.loop-i.invariant.1 c.loop-i-test.false

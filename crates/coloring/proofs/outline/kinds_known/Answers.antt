@@ -13,8 +13,7 @@ bounds-kinds-i c = omega arith
 
 pub returns-then-not-known_kind : goal.returns-then-not-known_kind
 returns-then-not-known_kind c =
-    let turn = c.before.before.before in
-    scan_fail known_kind 0 _ _ turn.loop-i.invariant.1 turn.loop-i-test.true (sym c.known_kind.ensures ∙ not-true _ c.if-not-known_kind.true-raw)
+    scan_fail known_kind 0 _ _ c.loop-i.invariant.1 c.loop-i-test.true (sym c.known_kind.ensures ∙ not-true _ c.if-not-known_kind.true-raw)
 
 pub overflow_add-i : goal.overflow_add-i
 overflow_add-i c = omega arith
@@ -24,9 +23,9 @@ loop-i-smaller c = omega arith
 
 pub loop-i-preserved : goal.loop-i-preserved
 loop-i-preserved c =
-    let turn = c.before.before.before in (
+    (
       omega arith,
-      scan_more known_kind 0 _ _ turn.loop-i.invariant.1 turn.loop-i-test.true (sym c.known_kind.ensures ∙ not-false _ c.if-not-known_kind.false-raw),
+      scan_more known_kind 0 _ _ c.loop-i.invariant.1 c.loop-i-test.true (sym c.known_kind.ensures ∙ not-false _ c.if-not-known_kind.false-raw),
     )
 
 pub returns : goal.returns

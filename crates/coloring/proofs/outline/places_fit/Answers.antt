@@ -17,8 +17,7 @@ bounds-points-i c = omega arith
 
 pub returns-then-not-in_range : goal.returns-then-not-in_range
 returns-then-not-in_range c =
-    let turn = c.before.before.before in
-    scan_fail in_range nan _ _ turn.loop-i.invariant.1 turn.loop-i-test.true (sym c.in_range.ensures ∙ not-true _ c.if-not-in_range.true-raw)
+    scan_fail in_range nan _ _ c.loop-i.invariant.1 c.loop-i-test.true (sym c.in_range.ensures ∙ not-true _ c.if-not-in_range.true-raw)
 
 pub overflow_add-i : goal.overflow_add-i
 overflow_add-i c = omega arith
@@ -28,9 +27,9 @@ loop-i-smaller c = omega arith
 
 pub loop-i-preserved : goal.loop-i-preserved
 loop-i-preserved c =
-    let turn = c.before.before.before in (
+    (
       omega arith,
-      scan_more in_range nan _ _ turn.loop-i.invariant.1 turn.loop-i-test.true (sym c.in_range.ensures ∙ not-false _ c.if-not-in_range.false-raw),
+      scan_more in_range nan _ _ c.loop-i.invariant.1 c.loop-i-test.true (sym c.in_range.ensures ∙ not-false _ c.if-not-in_range.false-raw),
     )
 
 pub returns : goal.returns

@@ -12,13 +12,10 @@ stored : (c : After-to_stored-stored) → length c.to_stored-stored.result.point
 stored c = rw c.to_stored-stored.ensures (places-length c.args.e)
 
 pub copy-requires : goal.copy-requires
-copy-requires c = simp (length-take, length-drop) (omega (arith, stored c.before.before.before))
+copy-requires c = simp (length-take, length-drop) (omega (arith, stored (goal.at.copy-requires c).After-to_stored-stored))
 
 pub returns : goal.returns
 returns c =
-    let copied = c.before.before in
-    let encoded = copied.before.before.before.before in
-    let start = encoded.before.before.before in
-    let i = start.args.i in
+    let i = c.args.i in
     let eight : 8 * i + 8 - 8 * i ≡ 8 = omega arith in
-    (rw encoded.to_stored-stored.ensures, rw (eight, copied.copy.ensures, encoded.to_stored-stored.ensures) (over-part (8 * i) 8 _ _ (places-length _)))
+    record { out_kinds_after = rw c.to_stored-stored.ensures; out_points_after = rw (eight, c.copy.ensures, c.to_stored-stored.ensures) (over-part (8 * i) 8 _ _ (places-length _)) }

@@ -15,10 +15,10 @@ pub overflow_cast-result : goal.overflow_cast-result
 overflow_cast-result c = omega (arith, c.shared_slice_known-1.given c.args.i)
 
 pub offset_bounds-distances-order : goal.offset_bounds-distances-order
-offset_bounds-distances-order c = omega (arith, number c.before)
+offset_bounds-distances-order c = omega (arith, number (goal.at.offset_bounds-distances-order c).Start)
 
 pub bounds-distances-order : goal.bounds-distances-order
-bounds-distances-order c = number c.before.before
+bounds-distances-order c = number (goal.at.bounds-distances-order c).Start
 
 pub returns : goal.returns
-returns c = get_d_any c.args.distances.now _ nan _ (number c.before.before)
+returns c = get_d_any c.args.distances.now _ nan _ (number (goal.at.returns c).Start)

@@ -20,8 +20,7 @@ valid_distance-requires c = tt
 
 pub returns-then-not-valid_distance : goal.returns-then-not-valid_distance
 returns-then-not-valid_distance c =
-    let at = c.before.before.before.before in
-    scan_fail valid_distance nan _ at.loop-i.i at.loop-i.invariant.1 (omega arith) (sym c.valid_distance.ensures ∙ not-true _ c.if-not-valid_distance.true-raw)
+    scan_fail valid_distance nan _ c.loop-i.i c.loop-i.invariant.1 (omega arith) (sym c.valid_distance.ensures ∙ not-true _ c.if-not-valid_distance.true-raw)
 
 pub overflow_add-i : goal.overflow_add-i
 overflow_add-i c = omega arith
@@ -31,9 +30,8 @@ loop-i-smaller c = omega arith
 
 pub loop-i-preserved : goal.loop-i-preserved
 loop-i-preserved c =
-    let at = c.before.before.before.before in
     let passes = sym c.valid_distance.ensures ∙ not-false _ c.if-not-valid_distance.false-raw in
-    (omega arith, scan_more valid_distance nan _ at.loop-i.i at.loop-i.invariant.1 (omega arith) passes)
+    (omega arith, scan_more valid_distance nan _ c.loop-i.i c.loop-i.invariant.1 (omega arith) passes)
 
 pub returns : goal.returns
 returns c = scan_end valid_distance nan _ c.loop-i.i c.loop-i.invariant.1 c.loop-i-test.false

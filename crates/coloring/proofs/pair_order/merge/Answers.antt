@@ -4,15 +4,12 @@ use native.Mathlib.Omega.{arith}
 use Rattle.coloring.specs.PairNumbers.{distance_of}
 use Rattle.coloring.proofs.pair_order.MergeLaws.{next, second-left, first-left, merged-none, merged-second, merged-first, merged-all}
 use Rattle.coloring.proofs.pair_order.merge.Goals as goal
-use Rattle.coloring.proofs.pair_order.merge.Goals.{After-takes_right, At-loop-i, Start}
-
-abbrev start : At-loop-i → Start
-start c = c.before.before.before.before.before
+use Rattle.coloring.proofs.pair_order.merge.Goals.{After-takes_right}
 
 -- what the test decides
 took : (c : After-takes_right) {b : Bool} → c.takes_right.result ≡ b
-    → let at = c.before.before in let args = (start at).args in
-    next (distance_of args.distances.now) args.left.now args.right.now at.loop-i.i at.loop-i.j ≡ b
+    → let args = c.args in
+    next (distance_of args.distances.now) args.left.now args.right.now c.loop-i.i c.loop-i.j ≡ b
 took c e = sym c.takes_right.ensures ∙ e
 
 pub loop-i-init : goal.loop-i-init
@@ -22,15 +19,14 @@ pub overflow_add-i : goal.overflow_add-i
 overflow_add-i c = omega arith
 
 pub takes_right-requires : goal.takes_right-requires
-takes_right-requires c = ((start c.before).requires.numbers, c.loop-i.invariant.first, c.loop-i.invariant.second)
+takes_right-requires c = (c.requires.numbers, c.loop-i.invariant.first, c.loop-i.invariant.second)
 
 pub offset_bounds-right-j : goal.offset_bounds-right-j
 offset_bounds-right-j c = omega arith
 
 pub bounds-right-j : goal.bounds-right-j
 bounds-right-j c =
-    let turn = c.before.before.before in
-    second-left _ _ _ _ _ _ turn.loop-i.invariant turn.loop-i-test.true (took c.before.before c.if-takes_right.true)
+    second-left _ _ _ _ _ _ c.loop-i.invariant c.loop-i-test.true (took (goal.at.bounds-right-j c).After-takes_right c.if-takes_right.true)
 
 pub overflow_add-to : goal.overflow_add-to
 overflow_add-to c = omega arith
@@ -49,16 +45,14 @@ loop-i-smaller-then-takes_right c = omega arith
 
 pub loop-i-preserved-then-takes_right : goal.loop-i-preserved-then-takes_right
 loop-i-preserved-then-takes_right c =
-    let turn = c.before.before.before in
-    merged-second _ _ _ _ _ _ turn.loop-i.invariant turn.loop-i-test.true (took c.before.before c.if-takes_right.true)
+    merged-second _ _ _ _ _ _ c.loop-i.invariant c.loop-i-test.true (took (goal.at.loop-i-preserved-then-takes_right c).After-takes_right c.if-takes_right.true)
 
 pub offset_bounds-left-i : goal.offset_bounds-left-i
 offset_bounds-left-i c = omega arith
 
 pub bounds-left-i : goal.bounds-left-i
 bounds-left-i c =
-    let turn = c.before.before.before in
-    first-left _ _ _ _ _ _ turn.loop-i.invariant turn.loop-i-test.true (took c.before.before c.if-takes_right.false)
+    first-left _ _ _ _ _ _ c.loop-i.invariant c.loop-i-test.true (took (goal.at.bounds-left-i c).After-takes_right c.if-takes_right.false)
 
 pub overflow_add-to-else-takes_right : goal.overflow_add-to-else-takes_right
 overflow_add-to-else-takes_right c = omega arith
@@ -77,11 +71,10 @@ loop-i-smaller c = omega arith
 
 pub loop-i-preserved : goal.loop-i-preserved
 loop-i-preserved c =
-    let turn = c.before.before.before in
-    merged-first _ _ _ _ _ _ turn.loop-i.invariant turn.loop-i-test.true (took c.before.before c.if-takes_right.false)
+    merged-first _ _ _ _ _ _ c.loop-i.invariant c.loop-i-test.true (took (goal.at.loop-i-preserved c).After-takes_right c.if-takes_right.false)
 
 pub shape_of-to : goal.shape_of-to
-shape_of-to c = c.loop-i.invariant.room ∙ sym (start c.before).requires.room
+shape_of-to c = c.loop-i.invariant.room ∙ sym c.requires.room
 
 pub returns : goal.returns
 returns c = merged-all _ _ _ _ c.loop-i.i c.loop-i.j c.loop-i.invariant c.loop-i-test.false

@@ -3,10 +3,6 @@ use native.Mathlib.Omega.{arith}
 use Rattle.coloring.specs.PairNumbers.{distance_of}
 use Rattle.coloring.proofs.pair_order.MergeLaws.{next-ends, next-left, next-compare}
 use Rattle.coloring.proofs.pair_order.takes_right.Goals as goal
-use Rattle.coloring.proofs.pair_order.takes_right.Goals.{Else-i-left, Start}
-
-abbrev start : Else-i-left → Start
-start c = c.before.before.before.before
 
 pub returns-then-i-left : goal.returns-then-i-left
 returns-then-i-left c =
@@ -15,11 +11,11 @@ returns-then-i-left c =
 
 pub returns-then-j-right : goal.returns-then-j-right
 returns-then-j-right c =
-    let args = (start c.before).args in
+    let args = c.args in
     rw c.if-j-right.true (next-left (distance_of args.distances.now) args.left.now args.right.now args.i (omega arith))
 
 pub returns : goal.returns
 returns c =
-    let args = (start c.before.before.before).args in
+    let args = c.args in
     rw (c.distance_at.ensures, c.distance_at-2.ensures)
     (next-compare (distance_of args.distances.now) args.left.now args.right.now args.i args.j (omega arith) (omega arith))

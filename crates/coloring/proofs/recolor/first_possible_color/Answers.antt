@@ -1,5 +1,5 @@
 -- `first_possible_color` meets its contract: the definition's list, read inside.
-use mathlib.Core.List.{◌∷◌}
+use mathlib.Core.List.{[], ◌∷◌}
 use native.Mathlib.Omega.{arith}
 use Rattle.coloring.specs.Recolor.{first_possible_color}
 use Rattle.coloring.proofs.Lists.{get_d_any}

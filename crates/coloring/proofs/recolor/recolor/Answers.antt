@@ -1,7 +1,7 @@
 -- `recolor` meets its contract: the copy equals the colours, the first splines that wait are the definition's, and so
 -- is the walk.
 use mathlib.Core.Path.{◌≡◌, refl, sym, ap, ◌∙◌}
-use mathlib.Core.List.{List}
+use mathlib.Core.List.{List, []}
 use Prim.Native.Nat.{ℕ, ◌-◌, ◌^◌, ◌<◌}
 use native.Mathlib.Omega.{arith}
 use lib.ListN.{length, get_or, set, replicate, length-set}
@@ -12,7 +12,7 @@ use Rattle.coloring.proofs.recolor.RowLaws.{row-length}
 use Rattle.coloring.proofs.recolor.FreeColorLaws.{others}
 use Rattle.coloring.proofs.recolor.UncolorLaws.{same_uncolors, ring-kept}
 use Rattle.coloring.proofs.recolor.recolor.Goals as goal
-use Rattle.coloring.proofs.recolor.recolor.Goals.{After-first_possible_color-d, After-queue-3-1, After-row-entries, After-uncolor_same_neighbors-waiting, Start}
+use Rattle.coloring.proofs.recolor.recolor.Goals.{After-first_possible_color-d, After-row-entries, After-uncolor_same_neighbors-waiting}
 
 abbrev zeros : List ℕ
 zeros = replicate 64 0
@@ -25,22 +25,19 @@ start_same coloring edge_matrix buffer entries a b d copy cut color = rw (copy, 
 
 module _ (c : After-first_possible_color-d) where
   abbrev copies : tie.After-copy
-  copies = c.before.before.before.before.before
-
-  abbrev start : Start
-  start = copies.before.before.before.before.before
+  copies = c
 
   abbrev coloring : List ℕ
-  coloring = start.args.coloring.now
+  coloring = c.args.coloring.now
 
   abbrev edge_matrix : List ℕ
-  edge_matrix = start.args.edge_matrix.now
+  edge_matrix = c.args.edge_matrix.now
 
   abbrev a : ℕ
-  a = start.args.a
+  a = c.args.a
 
   abbrev b : ℕ
-  b = start.args.b
+  b = c.args.b
 
   abbrev buffer : List ℕ
   buffer = copies.copy.last.1.0
@@ -49,92 +46,74 @@ module _ (c : After-first_possible_color-d) where
   d = c.first_possible_color-d.result
 
   copy_same : buffer ≡ coloring
-  copy_same = copies.copy.ensures.1 ∙ copied coloring start.args.buffer.now start.requires.1
+  copy_same = copies.copy.ensures.1 ∙ copied coloring c.args.buffer.now c.requires.1
 
   color : d ≡ first_possible_color (7 - 2 ^ get_or coloring a 0)
   color = c.first_possible_color-d.ensures ∙ ap first_possible_color c.other_colors.ensures
 
   small : d < 3
-  small = rw color (others (get_or coloring a 0) start.requires.0.color).2
+  small = rw color (others (get_or coloring a 0) c.requires.0.color).2
 
   size : length (set buffer b d) ≡ length coloring
   size = length-set buffer b d ∙ ap length copy_same
 
 module _ (c : After-row-entries) where
-  abbrev colored : After-first_possible_color-d
-  colored = c.before
-
   abbrev entries : List ℕ
   entries = c.row-entries.result.now
 
-  ready : Uncoloring (set (buffer colored) (b colored) (d colored)) zeros entries 0 0 (d colored)
+  ready : Uncoloring (set (buffer (goal.at.After-row-entries c).After-first_possible_color-d) (b (goal.at.After-row-entries c).After-first_possible_color-d) (d (goal.at.After-row-entries c).After-first_possible_color-d)) zeros entries 0 0 (d (goal.at.After-row-entries c).After-first_possible_color-d)
   unfolding ring Waiting
   ready =
-      let o = (start colored).requires.0 in
+      let o = c.requires.0 in
       record {
-        queued = record { few = omega (arith, o.few, size colored); size = refl; start = omega arith; waits = tt };
+        queued = record { few = omega (arith, o.few, size (goal.at.After-row-entries c).After-first_possible_color-d); size = refl; start = omega arith; waits = tt };
         row =
             ap length c.row-entries.ensures
-            ∙ row-length (length (coloring colored)) (b colored) (edge_matrix colored) o.entries o.second
-            ∙ sym (size colored);
-        color = small colored;
+            ∙ row-length (length (coloring (goal.at.After-row-entries c).After-first_possible_color-d)) (b (goal.at.After-row-entries c).After-first_possible_color-d) (edge_matrix (goal.at.After-row-entries c).After-first_possible_color-d) o.entries o.second
+            ∙ sym (size (goal.at.After-row-entries c).After-first_possible_color-d);
+        color = small (goal.at.After-row-entries c).After-first_possible_color-d;
       }
 
 module _ (c : After-uncolor_same_neighbors-waiting) where
-  abbrev cut_out : After-row-entries
-  cut_out = c.before.before.before
-
-  abbrev given : After-first_possible_color-d
-  given = cut_out.before
-
   abbrev begun : Recoloring
   begun = recoloring c.uncolor_same_neighbors-waiting.new.coloring c.uncolor_same_neighbors-waiting.new.queue 0 c.uncolor_same_neighbors-waiting.result
 
-  started : begun ≡ walk_start (coloring given) (edge_matrix given) (a given) (b given)
+  started : begun ≡ walk_start (coloring (goal.at.After-uncolor_same_neighbors-waiting c).After-first_possible_color-d) (edge_matrix (goal.at.After-uncolor_same_neighbors-waiting c).After-first_possible_color-d) (a (goal.at.After-uncolor_same_neighbors-waiting c).After-first_possible_color-d) (b (goal.at.After-uncolor_same_neighbors-waiting c).After-first_possible_color-d)
   unfolding force ring
   started =
       c.uncolor_same_neighbors-waiting.ensures
-      ∙ start_same (coloring given) (edge_matrix given) (buffer given) (entries cut_out) (a given) (b given) (d given) (copy_same given)
-      cut_out.row-entries.ensures (color given)
+      ∙ start_same (coloring (goal.at.After-uncolor_same_neighbors-waiting c).After-first_possible_color-d) (edge_matrix (goal.at.After-uncolor_same_neighbors-waiting c).After-first_possible_color-d) (buffer (goal.at.After-uncolor_same_neighbors-waiting c).After-first_possible_color-d) (entries (goal.at.After-uncolor_same_neighbors-waiting c).After-row-entries) (a (goal.at.After-uncolor_same_neighbors-waiting c).After-first_possible_color-d) (b (goal.at.After-uncolor_same_neighbors-waiting c).After-first_possible_color-d) (d (goal.at.After-uncolor_same_neighbors-waiting c).After-first_possible_color-d) (copy_same (goal.at.After-uncolor_same_neighbors-waiting c).After-first_possible_color-d)
+      c.row-entries.ensures (color (goal.at.After-uncolor_same_neighbors-waiting c).After-first_possible_color-d)
 
-  walking_size : length c.uncolor_same_neighbors-waiting.new.coloring ≡ length (coloring given)
-  walking_size = c.uncolor_same_neighbors-waiting.auto.coloring ∙ size given
+  walking_size : length c.uncolor_same_neighbors-waiting.new.coloring ≡ length (coloring (goal.at.After-uncolor_same_neighbors-waiting c).After-first_possible_color-d)
+  walking_size = c.uncolor_same_neighbors-waiting.auto.coloring ∙ size (goal.at.After-uncolor_same_neighbors-waiting c).After-first_possible_color-d
 
-  walking : Walking c.uncolor_same_neighbors-waiting.new.coloring c.uncolor_same_neighbors-waiting.new.queue (edge_matrix given) (a given)
+  walking : Walking c.uncolor_same_neighbors-waiting.new.coloring c.uncolor_same_neighbors-waiting.new.queue (edge_matrix (goal.at.After-uncolor_same_neighbors-waiting c).After-first_possible_color-d) (a (goal.at.After-uncolor_same_neighbors-waiting c).After-first_possible_color-d)
       c.uncolor_same_neighbors-waiting.result
   walking =
-      let o = (start given).requires.0 in
-      let lost = same_uncolors (entries cut_out) (d given) (small given) (b given) (recoloring (set (buffer given) (b given) (d given)) zeros 0 0) in
+      let o = c.requires.0 in
+      let lost = same_uncolors (entries (goal.at.After-uncolor_same_neighbors-waiting c).After-row-entries) (d (goal.at.After-uncolor_same_neighbors-waiting c).After-first_possible_color-d) (small (goal.at.After-uncolor_same_neighbors-waiting c).After-first_possible_color-d) (b (goal.at.After-uncolor_same_neighbors-waiting c).After-first_possible_color-d) (recoloring (set (buffer (goal.at.After-uncolor_same_neighbors-waiting c).After-first_possible_color-d) (b (goal.at.After-uncolor_same_neighbors-waiting c).After-first_possible_color-d) (d (goal.at.After-uncolor_same_neighbors-waiting c).After-first_possible_color-d)) zeros 0 0) in
       record {
-        queued = (ring-kept (ready cut_out) lost _ _ _ c.uncolor_same_neighbors-waiting.ensures c.uncolor_same_neighbors-waiting.auto.queue).queued;
+        queued = (ring-kept (ready (goal.at.After-uncolor_same_neighbors-waiting c).After-row-entries) lost _ _ _ c.uncolor_same_neighbors-waiting.ensures c.uncolor_same_neighbors-waiting.auto.queue).queued;
         entries = rw walking_size o.entries;
         inside = omega (arith, walking_size, o.first);
       }
 
-abbrev uncolored-before : After-queue-3-1 → After-uncolor_same_neighbors-waiting
-uncolored-before c = c.before.before.before.before.before
-
 pub row-entries-requires : goal.row-entries-requires
-row-entries-requires c = let o = (start c).requires.0 in (o.entries, o.second, o.few)
+row-entries-requires c = let o = c.requires.0 in (o.entries, o.second, o.few)
 
 pub uncolor_same_neighbors-waiting-requires : goal.uncolor_same_neighbors-waiting-requires
 uncolor_same_neighbors-waiting-requires c =
-    let r = c.before.before in
-    (ready r, omega (arith, size r.before, (start r.before).requires.0.second))
+    (ready (goal.at.uncolor_same_neighbors-waiting-requires c).After-row-entries, omega (arith, size (goal.at.uncolor_same_neighbors-waiting-requires c).After-first_possible_color-d, c.requires.0.second))
 
 pub walk-requires : goal.walk-requires
-walk-requires c = walking (uncolored-before c)
+walk-requires c = walking (goal.at.walk-requires c).After-uncolor_same_neighbors-waiting
 
 pub shape_of-buffer : goal.shape_of-buffer
 shape_of-buffer c =
-    let walks = c.before.before.before in
-    let u = uncolored-before walks.before in
-    walks.walk.auto.coloring ∙ walking_size u ∙ sym (start (given u)).requires.1
+    c.walk.auto.coloring ∙ walking_size (goal.at.shape_of-buffer c).After-uncolor_same_neighbors-waiting ∙ sym c.requires.1
 
 pub returns : goal.returns
 unfolding defined.recolor
 returns c =
-    let walks = c.before.before.before in
-    let u = uncolored-before walks.before in
-    let g = given u in
-    walks.walk.ensures ∙ ap (walk_from (edge_matrix g) (a g) (get_or (coloring g) (a g) 0)) (started u)
+    c.walk.ensures ∙ ap (walk_from (edge_matrix (goal.at.returns c).After-first_possible_color-d) (a (goal.at.returns c).After-first_possible_color-d) (get_or (coloring (goal.at.returns c).After-first_possible_color-d) (a (goal.at.returns c).After-first_possible_color-d) 0)) (started (goal.at.returns c).After-uncolor_same_neighbors-waiting)

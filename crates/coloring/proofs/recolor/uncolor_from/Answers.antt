@@ -3,7 +3,7 @@ use native.Mathlib.Omega.{arith}
 use Rattle.coloring.specs.Recolor.{Recoloring, recoloring}
 use Rattle.coloring.proofs.recolor.UncolorLaws.{uncolor_step, uncolor_end, one_uncolors, ring-kept}
 use Rattle.coloring.proofs.recolor.uncolor_from.Goals as goal
-use Rattle.coloring.proofs.recolor.uncolor_from.Goals.{After-uncolor_one-count, At-loop-i, Start}
+use Rattle.coloring.proofs.recolor.uncolor_from.Goals.{After-uncolor_one-count}
 
 pub loop-i-init : goal.loop-i-init
 loop-i-init c = (c.requires.0, refl, refl, refl)
@@ -18,28 +18,21 @@ pub loop-i-smaller : goal.loop-i-smaller
 loop-i-smaller c = omega arith
 
 module _ (c : After-uncolor_one-count) where
-  abbrev at : At-loop-i
-  at = c.before.before.before.before
-
-  abbrev start : Start
-  start = at.before.before.before.before
-
   abbrev so_far : Recoloring
-  so_far = recoloring at.loop-i.coloring at.loop-i.queue start.args.head at.loop-i.count
+  so_far = recoloring c.loop-i.coloring c.loop-i.queue c.args.head c.loop-i.count
 
 pub loop-i-preserved : goal.loop-i-preserved
 loop-i-preserved c =
-    let u = c.before.before.before.before in
-    let one = u.uncolor_one-count in
-    let inv = (at u).loop-i.invariant in
+    let one = c.uncolor_one-count in
+    let inv = c.loop-i.invariant in
     let small = inv.0.color in
-    let args = (start u).args in
+    let args = c.args in
     let entries = args.entries.now in (
-      ring-kept inv.0 (one_uncolors entries args.c small (at u).loop-i.i (so_far u)) one.new.0 one.new.1.0 one.result one.ensures
+      ring-kept inv.0 (one_uncolors entries args.c small c.loop-i.i (so_far (goal.at.loop-i-preserved c).After-uncolor_one-count)) one.new.0 one.new.1.0 one.result one.ensures
           one.auto.1.0,
       one.auto.0 ∙ inv.1,
       one.auto.1.0 ∙ inv.2,
-      rw one.ensures (sym (uncolor_step entries args.c small (at u).loop-i.i args.to (so_far u) (omega arith)) ∙ inv.3),
+      rw one.ensures (sym (uncolor_step entries args.c small c.loop-i.i args.to (so_far (goal.at.loop-i-preserved c).After-uncolor_one-count) (omega arith)) ∙ inv.3),
     )
 
 pub shape_of-coloring : goal.shape_of-coloring

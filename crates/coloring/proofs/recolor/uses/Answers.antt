@@ -22,13 +22,11 @@ loop-i-smaller c = omega arith
 
 pub loop-i-preserved : goal.loop-i-preserved
 loop-i-preserved c =
-    let own = c.before.before.before in
-    let args = own.args in
-    let step = uses-step args.c args.coloring.now args.entries.now own.loop-i.i (omega arith) (omega arith) in
-    (omega arith, or_assoc own.loop-i.found _ _ ∙ ap (λ b. own.loop-i.found || b) (sym step) ∙ own.loop-i.invariant.1)
+    let args = c.args in
+    let step = uses-step args.c args.coloring.now args.entries.now c.loop-i.i (omega arith) (omega arith) in
+    (omega arith, or_assoc c.loop-i.found _ _ ∙ ap (λ b. c.loop-i.found || b) (sym step) ∙ c.loop-i.invariant.1)
 
 pub returns : goal.returns
 returns c =
-    let own = c.before in
-    let end = uses_end own.args.c own.args.coloring.now _ own.loop-i.i (omega arith) in
-    sym (or-false own.loop-i.found) ∙ ap (λ b. own.loop-i.found || b) (sym end) ∙ own.loop-i.invariant.1
+    let end = uses_end c.args.c c.args.coloring.now _ c.loop-i.i (omega arith) in
+    sym (or-false c.loop-i.found) ∙ ap (λ b. c.loop-i.found || b) (sym end) ∙ c.loop-i.invariant.1

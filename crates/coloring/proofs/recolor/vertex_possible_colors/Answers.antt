@@ -7,16 +7,13 @@ use Rattle.coloring.proofs.recolor.vertex_possible_colors.Goals as goal
 pub returns : goal.returns
 unfolding vertex_possible_colors
 returns c =
-    let second = c.before.before in
-    let first = second.before.before in
-    rw (first.unless_used-first.ensures, second.unless_used-second.ensures, c.unless_used-third.ensures)
-    (rw (first.uses.ensures, second.uses-2.ensures, c.uses-3.ensures))
+    rw (c.unless_used-first.ensures, c.unless_used-second.ensures, c.unless_used-third.ensures)
+    (rw (c.uses.ensures, c.uses-2.ensures, c.uses-3.ensures))
 
 pub overflow_add-result-2 : goal.overflow_add-result-2
 overflow_add-result-2 c =
-    let first = c.before.before.before.before in
-    let args = first.args in
+    let args = c.args in
     omega (arith, returns c, possible-below args.coloring.now args.entries.now)
 
 pub overflow_add-result : goal.overflow_add-result
-overflow_add-result c = omega (arith, add-result-2 c)
+overflow_add-result c = omega (arith, overflow_add-result-2 c)

@@ -10,17 +10,14 @@ use Rattle.coloring.proofs.recolor.RowLaws.{row_inside, square_below}
 use Rattle.coloring.proofs.recolor.FreeColorLaws.{possible-below}
 use Rattle.coloring.proofs.second_degree.StartingLaws.{starting_below, free_before, next, color-start, color-more, color_end}
 use Rattle.coloring.proofs.second_degree.color_second_degree_graph.Goals as goal
-use Rattle.coloring.proofs.second_degree.color_second_degree_graph.Goals.{After-starting_color-draw, After-vertex_possible_colors-possible, In-loop-i, Start}
+use Rattle.coloring.proofs.second_degree.color_second_degree_graph.Goals.{After-starting_color-draw, After-vertex_possible_colors-possible, In-loop-i}
 
 module _ (c : In-loop-i) where
-  abbrev start : Start
-  start = c.before.before.before.before
-
   abbrev n : ℕ
-  n = length start.args.coloring.now
+  n = length c.args.coloring.now
 
   abbrev edge_matrix : List ℕ
-  edge_matrix = start.args.edge_matrix.now
+  edge_matrix = c.args.edge_matrix.now
 
   abbrev i : ℕ
   i = c.loop-i.i
@@ -36,7 +33,7 @@ module _ (c : In-loop-i) where
   inside : (i * n + i ≤ length edge_matrix) × (length edge_matrix ≤ 4096)
   inside =
       let below : i < n = c.loop-i-test.true in
-      (omega (arith, start.requires.0, row_inside n i below), omega (arith, start.requires.0, square_below start.requires.1))
+      (omega (arith, c.requires.0, row_inside n i below), omega (arith, c.requires.0, square_below c.requires.1))
 
   done-size : length done ≡ i
   done-size = length-take-le i c.loop-i.coloring (omega arith)
@@ -45,18 +42,12 @@ module _ (c : In-loop-i) where
   entries-size = length-take-le (i * n + i - i * n) (drop (i * n) edge_matrix) (rw length-drop (omega (arith, inside))) ∙ omega arith
 
 module _ (c : After-vertex_possible_colors-possible) where
-  abbrev turn : In-loop-i
-  turn = c.before.before.before
-
-  free : c.vertex_possible_colors-possible.result ≡ vertex_possible_colors (done turn) (row (n turn) (edge_matrix turn) (i turn))
-  free = c.vertex_possible_colors-possible.ensures ∙ free_before (n turn) (i turn) (done turn) (edge_matrix turn) (done-size turn) (omega arith)
+  free : c.vertex_possible_colors-possible.result ≡ vertex_possible_colors (done (goal.at.After-vertex_possible_colors-possible c).In-loop-i) (row (n (goal.at.After-vertex_possible_colors-possible c).In-loop-i) (edge_matrix (goal.at.After-vertex_possible_colors-possible c).In-loop-i) (i (goal.at.After-vertex_possible_colors-possible c).In-loop-i))
+  free = c.vertex_possible_colors-possible.ensures ∙ free_before (n (goal.at.After-vertex_possible_colors-possible c).In-loop-i) (i (goal.at.After-vertex_possible_colors-possible c).In-loop-i) (done (goal.at.After-vertex_possible_colors-possible c).In-loop-i) (edge_matrix (goal.at.After-vertex_possible_colors-possible c).In-loop-i) (done-size (goal.at.After-vertex_possible_colors-possible c).In-loop-i) (omega arith)
 
 module _ (c : After-starting_color-draw) where
-  abbrev at : In-loop-i
-  at = turn c.before
-
-  draw : c.starting_color-draw.result ≡ next (n at) (edge_matrix at) (i at) (done at) at.loop-i.rest
-  draw = c.starting_color-draw.ensures ∙ ap (λ p. starting_color p (i at) at.loop-i.rest) (free c.before)
+  draw : c.starting_color-draw.result ≡ next (n (goal.at.After-starting_color-draw c).In-loop-i) (edge_matrix (goal.at.After-starting_color-draw c).In-loop-i) (i (goal.at.After-starting_color-draw c).In-loop-i) (done (goal.at.After-starting_color-draw c).In-loop-i) c.loop-i.rest
+  draw = c.starting_color-draw.ensures ∙ ap (λ p. starting_color p (i (goal.at.After-starting_color-draw c).In-loop-i) c.loop-i.rest) (free (goal.at.After-starting_color-draw c).After-vertex_possible_colors-possible)
 
 pub loop-i-init : goal.loop-i-init
 loop-i-init c = (omega arith, refl, color-start _ _ _)
@@ -67,13 +58,13 @@ overflow_mul-start c = omega (arith, inside c)
 pub overflow_add-end : goal.overflow_add-end
 overflow_add-end c = omega (arith, inside c)
 
-slice_reshare_prefix_vertex_possible_colors :
+slice_bounds-vertex_possible_colors-end :
     tie.Need-slice-reshare-prefix-vertex-possible-colors invariant-loop decreases-loop
-slice_reshare_prefix_vertex_possible_colors c = omega arith
+slice_bounds-vertex_possible_colors-end c = omega arith
 
-slice_aggregate_vertex_possible_colors :
+slice_bounds-vertex_possible_colors-end-in-loop-i :
     tie.Need-slice-aggregate-vertex-possible-colors invariant-loop decreases-loop
-slice_aggregate_vertex_possible_colors c = sym (done-size c.before)
+slice_bounds-vertex_possible_colors-end-in-loop-i c = sym (done-size c)
 
 pub slice_bounds-vertex_possible_colors-count : goal.slice_bounds-vertex_possible_colors-count
 slice_bounds-vertex_possible_colors-count c = omega arith
@@ -82,20 +73,18 @@ pub slice_bounds-vertex_possible_colors-start : goal.slice_bounds-vertex_possibl
 slice_bounds-vertex_possible_colors-start c = omega arith
 
 pub slice_bounds-vertex_possible_colors-end-in-loop-i-2 : goal.slice_bounds-vertex_possible_colors-end-in-loop-i-2
-slice_bounds-vertex_possible_colors-end-in-loop-i-2 c = omega (arith, inside c.before)
+slice_bounds-vertex_possible_colors-end-in-loop-i-2 c = omega (arith, inside c)
 
 pub vertex_possible_colors-possible-requires : goal.vertex_possible_colors-possible-requires
-vertex_possible_colors-possible-requires c = done-size c.before.before ∙ sym (entries-size c.before.before)
+vertex_possible_colors-possible-requires c = done-size (goal.at.vertex_possible_colors-possible-requires c).In-loop-i ∙ sym (entries-size (goal.at.vertex_possible_colors-possible-requires c).In-loop-i)
 
 pub starting_color-draw-requires : goal.starting_color-draw-requires
 starting_color-draw-requires c =
-    let turn = c.before.before.before in
-    (rw (free c) (possible-below (done turn) (row (n turn) (edge_matrix turn) turn.before.loop.i)), omega arith)
+    (rw (free c) (possible-below (done (goal.at.starting_color-draw-requires c).In-loop-i) (row (n (goal.at.starting_color-draw-requires c).In-loop-i) (edge_matrix (goal.at.starting_color-draw-requires c).In-loop-i) c.loop-i.i)), omega arith)
 
 pub overflow_cast-coloring : goal.overflow_cast-coloring
 overflow_cast-coloring c =
-    let t = at c.before in
-    rw (draw c.before) (omega (arith, starting_below (vertex_possible_colors (done t) (row (n t) (edge_matrix t) (i t))) (i t) t.loop-i.rest))
+    rw (draw (goal.at.overflow_cast-coloring c).After-starting_color-draw) (omega (arith, starting_below (vertex_possible_colors (done (goal.at.overflow_cast-coloring c).In-loop-i) (row (n (goal.at.overflow_cast-coloring c).In-loop-i) (edge_matrix (goal.at.overflow_cast-coloring c).In-loop-i) (i (goal.at.overflow_cast-coloring c).In-loop-i))) (i (goal.at.overflow_cast-coloring c).In-loop-i) c.loop-i.rest))
 
 pub bounds-coloring-i : goal.bounds-coloring-i
 bounds-coloring-i c = omega arith
@@ -108,10 +97,9 @@ loop-i-smaller c = omega arith
 
 pub loop-i-preserved : goal.loop-i-preserved
 loop-i-preserved c =
-    let t = at c.before in
-    let old = t.loop-i in
-    let more = color-more (n t) (edge_matrix t) (i t) old.rest old.coloring t.loop-i-test.taken old.inv.1 in
-    (omega arith, rw length-set old.inv.1, rw (draw c.before) (more ∙ old.inv.2))
+    let old = c.loop-i in
+    let more = color-more (n (goal.at.loop-i-preserved c).In-loop-i) (edge_matrix (goal.at.loop-i-preserved c).In-loop-i) (i (goal.at.loop-i-preserved c).In-loop-i) old.rest old.coloring c.loop-i-test.true old.inv.1 in
+    (omega arith, rw length-set old.inv.1, rw (draw (goal.at.loop-i-preserved c).After-starting_color-draw) (more ∙ old.inv.2))
 
 pub shape_of-coloring : goal.shape_of-coloring
 shape_of-coloring c = c.loop-i.invariant.1

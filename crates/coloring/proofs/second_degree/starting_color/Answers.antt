@@ -49,16 +49,14 @@ returns-in-4 c = rw c.in-4.is
 pub returns-then-draw-eq0 : goal.returns-then-draw-eq0
 unfolding starting_color
 returns-then-draw-eq0 c =
-    let draw = c.before.before in
-    let zero = sym (ap (λ (d : Draw). d.value) draw.seed_extract2-draw.ensures) ∙ c.if-draw-eq0.true in
-    two_drawn _ _ _ true _ draw.in-5.is draw.seed_extract2-draw.ensures (eq-eqb _ 0 zero)
+    let zero = sym (ap (λ (d : Draw). d.value) c.seed_extract2-draw.ensures) ∙ c.if-draw-eq0.true in
+    two_drawn _ _ _ true _ c.in-5.is c.seed_extract2-draw.ensures (eq-eqb _ 0 zero)
 
 pub returns-else-draw-eq0 : goal.returns-else-draw-eq0
 unfolding starting_color
 returns-else-draw-eq0 c =
-    let draw = c.before.before in
-    let value = ap (λ (d : Draw). d.value) draw.seed_extract2-draw.ensures in
-    two_drawn _ _ _ false _ draw.in-5.is draw.seed_extract2-draw.ensures (ne_eqb _ 0 (λ e. c.if-draw-eq0.false (value ∙ e)))
+    let value = ap (λ (d : Draw). d.value) c.seed_extract2-draw.ensures in
+    two_drawn _ _ _ false _ c.in-5.is c.seed_extract2-draw.ensures (ne_eqb _ 0 (λ e. c.if-draw-eq0.false (value ∙ e)))
 
 pub returns-in-6 : goal.returns-in-6
 unfolding starting_color

@@ -20,7 +20,7 @@ use Rattle.coloring.proofs.layout.SplitLaws.{values-laid}
 use Rattle.coloring.specs.DeliverLaws.{values-passed, values_failed}
 use Rattle.coloring.proofs.shape.DeliverLaws.{cut-flagged, splines-counted}
 use Rattle.coloring.proofs.shape.color_shape.Goals as goal
-use Rattle.coloring.proofs.shape.color_shape.Goals.{After-count_shape-counts, After-slice_known-4-1, After-spline_values-checked, Start}
+use Rattle.coloring.proofs.shape.color_shape.Goals.{After-count_shape-counts, After-spline_values-checked, Start}
 
 abbrev zeros : List ℕ
 zeros = replicate max_shape_splines 0
@@ -42,17 +42,8 @@ old c = result c.args.out_lengths.now c.args.out_kinds.now c.args.out_points.now
 flagged : (c : Start) → length c.args.flags.now ≡ length (edges c)
 flagged c = c.requires.matching.flagged ∙ sym (edges-length c.args.kinds.now c.args.points.now)
 
-abbrev begun : After-slice_known-4-1 → Start
-begun c =
-    let known = c.before.before.before in
-    let shared = known.before.before.before.before.before in
-    shared.before
-
 -- the splines are counted
 module _ (c : After-count_shape-counts) where
-  abbrev start : Start
-  start = begun c.before
-
   abbrev count : ℕ
   count = c.count_shape-counts.result.splines
 
@@ -64,79 +55,62 @@ module _ (c : After-count_shape-counts) where
 
 -- they have their values, or there is a refusal
 module _ (c : After-spline_values-checked) where
-  abbrev counted : After-count_shape-counts
-  counted = c.before.before
-
-  abbrev s : Start
-  s = start counted
-
   abbrev marking : Marking
-  marking = s.args.settings.marking
+  marking = c.args.settings.marking
 
-  answer : checked_answer c.spline_values-checked.result ≡ first_refusal (check_marking marking (spline_total (map layout (found s))) s.args.distances.now)
+  answer : checked_answer c.spline_values-checked.result ≡ first_refusal (check_marking marking (spline_total (map layout (found (goal.at.After-spline_values-checked c).Start))) c.args.distances.now)
   answer =
       let total =
-      splines-counted s.args.lengths.now (edges s) s.args.flags.now counted.count_shape-counts.result (flagged s) counted.count_shape-counts.ensures.0 in
-      c.spline_values-checked.ensures.answer ∙ ap (λ (n : ℕ). first_refusal (check_marking marking n s.args.distances.now)) (long counted ∙ sym total)
+      splines-counted c.args.lengths.now (edges (goal.at.After-spline_values-checked c).Start) c.args.flags.now c.count_shape-counts.result (flagged (goal.at.After-spline_values-checked c).Start) c.count_shape-counts.ensures.0 in
+      c.spline_values-checked.ensures.answer ∙ ap (λ (n : ℕ). first_refusal (check_marking marking n c.args.distances.now)) (long (goal.at.After-spline_values-checked c).After-count_shape-counts ∙ sym total)
 
   abbrev values : List ℕ
   values = c.spline_values-checked.new.values
 
-  size : length values ≡ count counted
-  size = c.spline_values-checked.auto.values ∙ long counted
+  size : length values ≡ count (goal.at.After-spline_values-checked c).After-count_shape-counts
+  size = c.spline_values-checked.auto.values ∙ long (goal.at.After-spline_values-checked c).After-count_shape-counts
 
   -- the array with them, and its first part
-  within : count counted ≤ length (values ++ drop (count counted) zeros)
+  within : count (goal.at.After-spline_values-checked c).After-count_shape-counts ≤ length (values ++ drop (count (goal.at.After-spline_values-checked c).After-count_shape-counts) zeros)
   within = rw (length-append, size) (omega arith)
 
-  front : take (count counted) (values ++ drop (count counted) zeros) ≡ values
-  front = take_at values (drop (count counted) zeros) (count counted) size
+  front : take (count (goal.at.After-spline_values-checked c).After-count_shape-counts) (values ++ drop (count (goal.at.After-spline_values-checked c).After-count_shape-counts) zeros) ≡ values
+  front = take_at values (drop (count (goal.at.After-spline_values-checked c).After-count_shape-counts) zeros) (count (goal.at.After-spline_values-checked c).After-count_shape-counts) size
 
 pub count_shape-counts-requires : goal.count_shape-counts-requires
 count_shape-counts-requires c =
-    let pre = (begun c).requires in
+    let pre = c.requires in
     (pre.whole ∙ sym pre.matching.flagged, omega (arith, pre.matching.flagged, pre.matching.few), pre.contours-few)
 
 pub slice_bounds-values-end : goal.slice_bounds-values-end
 slice_bounds-values-end c = few c
 
 pub slice_bounds-spline_values-end : goal.slice_bounds-spline_values-end
-slice_bounds-spline_values-end c = sym (long c.before)
+slice_bounds-spline_values-end c = sym (long (goal.at.slice_bounds-spline_values-end c).After-count_shape-counts)
 
 pub spline_values-checked-requires : goal.spline_values-checked-requires
-spline_values-checked-requires c = ((start c.before).requires, long c.before ∙ c.count_shape-counts.ensures.0.splines_are)
+spline_values-checked-requires c = record { cut = c.requires; values_len = long (goal.at.spline_values-checked-requires c).After-count_shape-counts ∙ c.count_shape-counts.ensures.0.splines_are }
 
 pub returns-in-Failed : goal.returns-in-Failed
 returns-in-Failed c =
-    let valued = c.before.before.before.before in
-    let s = s valued in
-    values_failed s.args.settings s.args.distances.now (given s) (old s) (sym (answer valued) ∙ ap checked_answer c.in-Failed.is)
+    values_failed c.args.settings c.args.distances.now (given (goal.at.returns-in-Failed c).Start) (old (goal.at.returns-in-Failed c).Start) (sym (answer (goal.at.returns-in-Failed c).After-spline_values-checked) ∙ ap checked_answer c.in-Failed.is)
 
 pub slice_bounds-values-end-2 : goal.slice_bounds-values-end-2
-slice_bounds-values-end-2 c = within c.before.before.before
+slice_bounds-values-end-2 c = within (goal.at.slice_bounds-values-end-2 c).After-spline_values-checked
 
 pub slice_bounds-paint_shape-end : goal.slice_bounds-paint_shape-end
 slice_bounds-paint_shape-end c =
-    let valued = c.before.before.before.before in
-    sym (ap length (front valued) ∙ size valued)
+    sym (ap length (front (goal.at.slice_bounds-paint_shape-end c).After-spline_values-checked) ∙ size (goal.at.slice_bounds-paint_shape-end c).After-spline_values-checked)
 
 pub paint_shape-requires : goal.paint_shape-requires
 paint_shape-requires c =
-    let handed = c.before.before.before.before in
-    let valued = handed.before.before.before.before in
-    ((s valued).requires, ((counted valued).count_shape-counts.ensures.0, ap length (front valued) ∙ size valued))
+    record { cut = c.requires; counted = (c.count_shape-counts.ensures.0, ap length (front (goal.at.paint_shape-requires c).After-spline_values-checked) ∙ size (goal.at.paint_shape-requires c).After-spline_values-checked) }
 
 pub returns : goal.returns
 returns c =
-    let points = c.before.before.before.before in
-    let painted = points.before.before.before.before in
-    let handed = painted.before.before.before.before.before in
-    let told = handed.before in
-    let valued = told.before.before.before in
-    let s = s valued in
-    let passed = told.in_default.is in
+    let passed = c.in_default.is in
     let split =
-    values-laid (marking valued) s.args.distances.now (found s) (cut-flagged s.args.lengths.now (edges s) s.args.flags.now (flagged s)) in
-    (rw (counted valued).count_shape-counts.ensures.1 at painted.paint_shape.ensures)
-    ∙ values-passed s.args.settings s.args.distances.now (given s) (old s) (sym (answer valued) ∙ ap checked_answer passed)
-    (front valued ∙ valued.spline_values-checked.ensures.bytes passed ∙ sym split)
+    values-laid (marking (goal.at.returns c).After-spline_values-checked) c.args.distances.now (found (goal.at.returns c).Start) (cut-flagged c.args.lengths.now (edges (goal.at.returns c).Start) c.args.flags.now (flagged (goal.at.returns c).Start)) in
+    (rw c.count_shape-counts.ensures.1 at c.paint_shape.ensures)
+    ∙ values-passed c.args.settings c.args.distances.now (given (goal.at.returns c).Start) (old (goal.at.returns c).Start) (sym (answer (goal.at.returns c).After-spline_values-checked) ∙ ap checked_answer passed)
+    (front (goal.at.returns c).After-spline_values-checked ∙ c.spline_values-checked.ensures.bytes passed ∙ sym split)

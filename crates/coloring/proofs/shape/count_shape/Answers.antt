@@ -17,25 +17,22 @@ use Rattle.coloring.proofs.shape.count_shape.Goals.{In-loop-i, Start}
 
 -- the next contour
 module _ (c : In-loop-i) where
-  abbrev start : Start
-  start = c.before.before.before.before
-
   abbrev n : ℕ
-  n = get_or start.args.lengths.now c.loop-i.i 0
+  n = get_or c.args.lengths.now c.loop-i.i 0
 
-  room : c.loop-i.at + n ≤ length start.args.flags.now
+  room : c.loop-i.at + n ≤ length c.args.flags.now
   room = next_fits _ _ _ _ c.loop-i.invariant.0 c.loop-i-test.true
 
   -- it is counted
   step : (count : List Bool → ℕ)
       → let s = c.loop-i in
-      left count start.args.lengths.now start.args.flags.now s.i s.at
-      ≡ count (take (s.at + n - s.at) (drop s.at start.args.flags.now))
-      + left count start.args.lengths.now start.args.flags.now (s.i + 1) (s.at + n)
+      left count c.args.lengths.now c.args.flags.now s.i s.at
+      ≡ count (take (s.at + n - s.at) (drop s.at c.args.flags.now))
+      + left count c.args.lengths.now c.args.flags.now (s.i + 1) (s.at + n)
   step count =
       let s = c.loop-i in
       let whole : s.at + n - s.at ≡ n = omega arith in
-      rw whole (left_step count start.args.lengths.now start.args.flags.now s.i s.at c.loop-i-test.true)
+      rw whole (left_step count c.args.lengths.now c.args.flags.now s.i s.at c.loop-i-test.true)
 
 -- all contours have few
 few-edges : (c : Start) → total (map result_edges (cut c.args.lengths.now c.args.flags.now)) ≤ max_result_edges
@@ -59,26 +56,24 @@ pub bounds-lengths-i : goal.bounds-lengths-i
 bounds-lengths-i c = omega arith
 
 pub overflow_cast-end : goal.overflow_cast-end
-overflow_cast-end c = omega (arith, room c.before, (start c.before).requires.1)
+overflow_cast-end c = omega (arith, room (goal.at.overflow_cast-end c).In-loop-i, c.requires.1)
 
 pub overflow_add-end : goal.overflow_add-end
-overflow_add-end c = omega (arith, room c.before, (start c.before).requires.1)
+overflow_add-end c = omega (arith, room (goal.at.overflow_add-end c).In-loop-i, c.requires.1)
 
 pub part_edges-edges-requires : goal.part_edges-edges-requires
-part_edges-edges-requires c = (omega arith, room c.before, (start c.before).requires.1)
+part_edges-edges-requires c = (omega arith, room (goal.at.part_edges-edges-requires c).In-loop-i, c.requires.1)
 
 pub overflow_add-edges : goal.overflow_add-edges
 overflow_add-edges c =
-    let turn = c.before.before in
-    omega (arith, c.part_edges-edges.ensures, step turn result_edges, turn.loop-i.invariant.1, few-edges (start turn))
+    omega (arith, c.part_edges-edges.ensures, step (goal.at.overflow_add-edges c).In-loop-i result_edges, c.loop-i.invariant.1, few-edges (goal.at.overflow_add-edges c).Start)
 
 pub part_splines-splines-requires : goal.part_splines-splines-requires
-part_splines-splines-requires c = (omega arith, room c.before.before)
+part_splines-splines-requires c = (omega arith, room (goal.at.part_splines-splines-requires c).In-loop-i)
 
 pub overflow_add-splines : goal.overflow_add-splines
 overflow_add-splines c =
-    let turn = c.before.before.before in
-    omega (arith, c.part_splines-splines.ensures, step turn spline_count, turn.loop-i.invariant.2, few-splines (start turn))
+    omega (arith, c.part_splines-splines.ensures, step (goal.at.overflow_add-splines c).In-loop-i spline_count, c.loop-i.invariant.2, few-splines (goal.at.overflow_add-splines c).Start)
 
 pub overflow_add-i : goal.overflow_add-i
 overflow_add-i c = omega arith
@@ -88,26 +83,24 @@ loop-i-smaller c = omega arith
 
 pub loop-i-preserved : goal.loop-i-preserved
 loop-i-preserved c =
-    let turn = c.before.before.before in
-    let s = turn.loop-i in (
-      next-passed _ _ _ _ s.invariant.0 turn.loop-i-test.true,
-      omega (arith, c.part_edges-edges.ensures, step turn result_edges, s.invariant.1),
-      omega (arith, c.part_splines-splines.ensures, step turn spline_count, s.invariant.2),
+    let s = c.loop-i in (
+      next-passed _ _ _ _ s.invariant.0 c.loop-i-test.true,
+      omega (arith, c.part_edges-edges.ensures, step (goal.at.loop-i-preserved c).In-loop-i result_edges, s.invariant.1),
+      omega (arith, c.part_splines-splines.ensures, step (goal.at.loop-i-preserved c).In-loop-i spline_count, s.invariant.2),
     )
 
 pub returns : goal.returns
 returns c =
     let s = c.loop-i in
-    let start = c.before.before.before.before in
-    let a = start.args in
+    let a = c.args in
     let edges = left_end result_edges a.lengths.now a.flags.now s.i s.at c.loop-i-test.false in
     let splines = left_end spline_count a.lengths.now a.flags.now s.i s.at c.loop-i-test.false in (
       record {
         contours_are = refl;
         edges_are = omega (arith, s.invariant.1);
         splines_are = omega (arith, s.invariant.2);
-        edges_few = omega (arith, s.invariant.1, few-edges start);
-        splines-few = omega (arith, s.invariant.2, few-splines start);
+        edges_few = omega (arith, s.invariant.1, few-edges (goal.at.returns c).Start);
+        splines-few = omega (arith, s.invariant.2, few-splines (goal.at.returns c).Start);
       },
       refl,
     )

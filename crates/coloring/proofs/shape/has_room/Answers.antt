@@ -10,29 +10,23 @@ returns-then-counts-lengths c =
 
 pub returns-then-counts-kinds : goal.returns-then-counts-kinds
 returns-then-counts-kinds c =
-    let first = c.before.before in
-    let a = first.args in
-    rw (le-leb a.counts.contours a.lengths first.if-counts-lengths.false, lt-leb a.counts.edges a.kinds c.if-counts-kinds.true)
+    let a = c.args in
+    rw (le-leb a.counts.contours a.lengths c.if-counts-lengths.false, lt-leb a.counts.edges a.kinds c.if-counts-kinds.true)
 
 pub returns-then-counts-points : goal.returns-then-counts-points
 returns-then-counts-points c =
-    let second = c.before.before in
-    let first = second.before.before in
-    let a = first.args in
+    let a = c.args in
     rw (
-      le-leb a.counts.contours a.lengths first.if-counts-lengths.false,
-      le-leb a.counts.edges a.kinds second.if-counts-kinds.false,
+      le-leb a.counts.contours a.lengths c.if-counts-lengths.false,
+      le-leb a.counts.edges a.kinds c.if-counts-kinds.false,
       lt-leb (8 * a.counts.edges) a.points c.if-counts-points.true,
     )
 
 pub returns : goal.returns
 returns c =
-    let third = c.before in
-    let second = third.before.before in
-    let first = second.before.before in
-    let a = first.args in
+    let a = c.args in
     rw (
-      le-leb a.counts.contours a.lengths first.if-counts-lengths.false,
-      le-leb a.counts.edges a.kinds second.if-counts-kinds.false,
-      le-leb (8 * a.counts.edges) a.points third.if-counts-points.false,
+      le-leb a.counts.contours a.lengths c.if-counts-lengths.false,
+      le-leb a.counts.edges a.kinds c.if-counts-kinds.false,
+      le-leb (8 * a.counts.edges) a.points c.if-counts-points.false,
     )

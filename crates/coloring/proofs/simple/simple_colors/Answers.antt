@@ -38,10 +38,8 @@ loop-i-smaller c = omega arith
 pub loop-i-preserved : goal.loop-i-preserved
 unfolding simple_from
 loop-i-preserved c =
-    let head = c.before.before.before.before in
-    let start = head.before.before.before.before in
-    let at = head.loop-i in
-    let n = length start.args.colors.now in
+    let at = c.loop-i in
+    let n = length c.args.colors.now in
     let h : at.i < n = omega (arith, at.invariant.2.long) in
     let e : n - at.i ≡ suc (n - (at.i + 1)) = omega arith in
     let left : n - 1 - at.i ≡ n - (at.i + 1) = omega arith in (

@@ -7,7 +7,7 @@ use lib.ListN.{length}
 use borrow.Author.Tests.{le-leb, lt-leb, eq-eqb, ne_eqb, not-true, not-false}
 use Rattle.coloring.specs.Answers.{first_refusal}
 use Rattle.coloring.proofs.spline_colors.check_splines.Goals as goal
-use Rattle.coloring.proofs.spline_colors.check_splines.Goals.{Else-distances-gt-MAX_DISTANCES, Else-distances-pair_count, Start}
+use Rattle.coloring.proofs.spline_colors.check_splines.Goals.{Else-distances-gt-MAX_DISTANCES, Else-distances-pair_count}
 
 pub returns-then-splines-gt-MAX_SPLINES : goal.returns-then-splines-gt-MAX_SPLINES
 unfolding first_refusal
@@ -21,35 +21,26 @@ returns-then-distances-gt-MAX_DISTANCES c =
 
 -- there are not too many
 module _ (c : Else-distances-gt-MAX_DISTANCES) where
-  abbrev start : Start
-  start = c.before.before.before
-
-  few : (leb start.args.splines 64 && leb (length start.args.distances.now) 2016) ≡ true
-  few = rw (le-leb start.args.splines 64 c.if-splines-gt-MAX_SPLINES.false, le-leb (length start.args.distances.now) 2016 c.if-distances-gt-MAX_DISTANCES.false)
+  few : (leb c.args.splines 64 && leb (length c.args.distances.now) 2016) ≡ true
+  few = rw (le-leb c.args.splines 64 c.if-splines-gt-MAX_SPLINES.false, le-leb (length c.args.distances.now) 2016 c.if-distances-gt-MAX_DISTANCES.false)
 
 pub returns-then-distances-pair_count : goal.returns-then-distances-pair_count
 unfolding first_refusal
 returns-then-distances-pair_count c =
-    let within = c.before.before in
-    let a = (start within).args in
-    rw (few within, ← c.pair_count.ensures, ne_eqb (length a.distances.now) c.pair_count.result c.if-distances-pair_count.true)
+    let a = c.args in
+    rw (few (goal.at.returns-then-distances-pair_count c).Else-distances-gt-MAX_DISTANCES, ← c.pair_count.ensures, ne_eqb (length a.distances.now) c.pair_count.result c.if-distances-pair_count.true)
 
 -- the distances are as many as the pairs
 module _ (c : Else-distances-pair_count) where
-  abbrev within : Else-distances-gt-MAX_DISTANCES
-  within = c.before.before
-
-  count : let a = (start within).args in eqb (length a.distances.now) (a.splines * (a.splines - 1) / 2) ≡ true
+  count : let a = c.args in eqb (length a.distances.now) (a.splines * (a.splines - 1) / 2) ≡ true
   count = eq-eqb _ _ (c.if-distances-pair_count.false ∙ c.pair_count.ensures)
 
 pub returns-then-not-distances_valid : goal.returns-then-not-distances_valid
 unfolding first_refusal
 returns-then-not-distances_valid c =
-    let counted = c.before.before in
-    rw (few (within counted), count counted, ← c.distances_valid.ensures, not-true c.distances_valid.result c.if-not-distances_valid.true-raw)
+    rw (few (goal.at.returns-then-not-distances_valid c).Else-distances-gt-MAX_DISTANCES, count (goal.at.returns-then-not-distances_valid c).Else-distances-pair_count, ← c.distances_valid.ensures, not-true c.distances_valid.result c.if-not-distances_valid.true-raw)
 
 pub returns : goal.returns
 unfolding first_refusal
 returns c =
-    let counted = c.before.before in
-    rw (few (within counted), count counted, ← c.distances_valid.ensures, not-false c.distances_valid.result c.if-not-distances_valid.false-raw)
+    rw (few (goal.at.returns c).Else-distances-gt-MAX_DISTANCES, count (goal.at.returns c).Else-distances-pair_count, ← c.distances_valid.ensures, not-false c.distances_valid.result c.if-not-distances_valid.false-raw)

@@ -13,7 +13,7 @@ pub overflow_cast-result : goal.overflow_cast-result
 overflow_cast-result c = omega (arith, c.shared_slice_known-1.given c.args.k)
 
 pub offset_bounds-codes-order : goal.offset_bounds-codes-order
-offset_bounds-codes-order c = omega (arith, number c.before)
+offset_bounds-codes-order c = omega (arith, number (goal.at.offset_bounds-codes-order c).Start)
 
 pub bounds-codes-order : goal.bounds-codes-order
-bounds-codes-order c = number c.before.before
+bounds-codes-order c = number (goal.at.bounds-codes-order c).Start

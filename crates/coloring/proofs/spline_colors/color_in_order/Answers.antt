@@ -4,39 +4,23 @@ use Prim.Native.Nat.{◌*◌}
 use lib.ListN.{length, length-replicate}
 use Rattle.coloring.proofs.spline_colors.OrderLaws.{offerable, ends}
 use Rattle.coloring.proofs.spline_colors.color_in_order.Goals as goal
-use Rattle.coloring.proofs.spline_colors.color_in_order.Goals.{After-color_second_degree_graph, After-enter_zero_pairs-zeros, After-shared_slice_known-3-1, Start}
-
-abbrev started : After-shared_slice_known-3-1 → Start
-started c = c.before.before.before.before.before
+use Rattle.coloring.proofs.spline_colors.color_in_order.Goals.{After-enter_zero_pairs-zeros}
 
 -- after the zero pairs
 module _ (c : After-enter_zero_pairs-zeros) where
-  abbrev start : Start
-  start = started c.before.before
-
-  entries-size : length c.enter_zero_pairs-zeros.new.edge_matrix ≡ length start.args.coloring.now * length start.args.coloring.now
-  entries-size = c.enter_zero_pairs-zeros.auto.edge_matrix ∙ ap length start.requires.none ∙ length-replicate _ 0
-
--- after the starting colours
-abbrev zeros : After-color_second_degree_graph → After-enter_zero_pairs-zeros
-zeros c = c.before.before.before.before.before
+  entries-size : length c.enter_zero_pairs-zeros.new.edge_matrix ≡ length c.args.coloring.now * length c.args.coloring.now
+  entries-size = c.enter_zero_pairs-zeros.auto.edge_matrix ∙ ap length c.requires.none ∙ length-replicate _ 0
 
 pub color_second_degree_graph-requires : goal.color_second_degree_graph-requires
 color_second_degree_graph-requires c =
-    let entered = c.before.before.before.before in
-    (entries-size entered, (start entered).requires.given.few)
+    (entries-size (goal.at.color_second_degree_graph-requires c).After-enter_zero_pairs-zeros, c.requires.given.few)
 
 pub offer_pairs-requires : goal.offer_pairs-requires
 offer_pairs-requires c =
-    let colored = c.before.before.before.before in
-    let entered = zeros colored in
-    offerable _ _ _ _ _ _ _ entered.enter_zero_pairs-zeros.result (start entered).args.seed (start entered).requires entered.enter_zero_pairs-zeros.ensures
-    colored.color_second_degree_graph.ensures
+    offerable _ _ _ _ _ _ _ c.enter_zero_pairs-zeros.result c.args.seed c.requires c.enter_zero_pairs-zeros.ensures
+    c.color_second_degree_graph.ensures
 
 pub returns : goal.returns
 returns c =
-    let offered = c.before.before.before.before in
-    let colored = offered.before.before.before.before.before in
-    let entered = zeros colored in
-    ends _ _ _ _ _ _ _ entered.enter_zero_pairs-zeros.result (start entered).args.seed (start entered).requires entered.enter_zero_pairs-zeros.ensures
-    colored.color_second_degree_graph.ensures _ offered.offer_pairs.ensures
+    ends _ _ _ _ _ _ _ c.enter_zero_pairs-zeros.result c.args.seed c.requires c.enter_zero_pairs-zeros.ensures
+    c.color_second_degree_graph.ensures _ c.offer_pairs.ensures

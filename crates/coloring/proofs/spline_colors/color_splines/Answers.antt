@@ -7,22 +7,17 @@ use Rattle.coloring.proofs.spline_colors.color_splines.Goals as goal
 
 pub returns-in-Failed : goal.returns-in-Failed
 returns-in-Failed c =
-    let checked = c.before.before in
-    let a = checked.args in
-    splines-refused a.distances.now a.seed a.coloring.now (ap checked_answer c.in-Failed.is) checked.check_splines-checked.ensures
+    let a = c.args in
+    splines-refused a.distances.now a.seed a.coloring.now (ap checked_answer c.in-Failed.is) c.check_splines-checked.ensures
 
 pub color_valid-requires : goal.color_valid-requires
 color_valid-requires c =
-    let checked = c.before.before.before in
-    let a = checked.args in
+    let a = c.args in
     check-passed (length a.coloring.now) a.distances.now
-    (sym checked.check_splines-checked.ensures ∙ ap checked_answer c.in_default.is)
+    (sym c.check_splines-checked.ensures ∙ ap checked_answer c.in_default.is)
 
 pub returns : goal.returns
 returns c =
-    let called = c.before.before in
-    let passed = called.before.before in
-    let checked = passed.before.before in
-    let a = checked.args in
-    splines-passed a.distances.now a.seed a.coloring.now (ap checked_answer passed.in_default.is)
-    checked.check_splines-checked.ensures called.color_valid.ensures
+    let a = c.args in
+    splines-passed a.distances.now a.seed a.coloring.now (ap checked_answer c.in_default.is)
+    c.check_splines-checked.ensures c.color_valid.ensures

@@ -9,7 +9,7 @@ use Rattle.coloring.specs.SplineColors.{Ordered}
 use Rattle.coloring.proofs.recolor.RowLaws.{square_below}
 use Rattle.coloring.proofs.pair_order.PairLaws.{pairs_most}
 use Rattle.coloring.proofs.spline_colors.color_valid.Goals as goal
-use Rattle.coloring.proofs.spline_colors.color_valid.Goals.{After-color_in_order-arg-1, After-order_pairs, Start}
+use Rattle.coloring.proofs.spline_colors.color_valid.Goals.{After-order_pairs, Start}
 
 abbrev zeros : List ℕ
 zeros = replicate 2016 0
@@ -37,90 +37,78 @@ module _ (s : Start) where
 
 -- the places of the pairs, and of their order
 module _ (c : After-order_pairs) where
-  abbrev start : Start
-  start = c.before.before.before.before.before
-
   abbrev codes : List ℕ
   codes = c.order_pairs.new.codes
 
   abbrev order : List ℕ
   order = c.order_pairs.new.order
 
-  codes-size : length codes ≡ m start
-  codes-size = c.order_pairs.auto.codes ∙ part-size start
+  codes-size : length codes ≡ m (goal.at.After-order_pairs c).Start
+  codes-size = c.order_pairs.auto.codes ∙ part-size (goal.at.After-order_pairs c).Start
 
-  order-size : length order ≡ m start
-  order-size = c.order_pairs.auto.order ∙ part-size start
+  order-size : length order ≡ m (goal.at.After-order_pairs c).Start
+  order-size = c.order_pairs.auto.order ∙ part-size (goal.at.After-order_pairs c).Start
 
   -- a list of m places, and the rest of the array
-  within : (l : List ℕ) → length l ≡ m start → m start ≤ length (l ++ drop (m start) zeros)
+  within : (l : List ℕ) → length l ≡ m (goal.at.After-order_pairs c).Start → m (goal.at.After-order_pairs c).Start ≤ length (l ++ drop (m (goal.at.After-order_pairs c).Start) zeros)
   within l e = rw (length-append, e) (omega arith)
 
-  front : (l : List ℕ) → length l ≡ m start → take (m start) (l ++ drop (m start) zeros) ≡ l
-  front l e = take_at l (drop (m start) zeros) (m start) e
+  front : (l : List ℕ) → length l ≡ m (goal.at.After-order_pairs c).Start → take (m (goal.at.After-order_pairs c).Start) (l ++ drop (m (goal.at.After-order_pairs c).Start) zeros) ≡ l
+  front l e = take_at l (drop (m (goal.at.After-order_pairs c).Start) zeros) (m (goal.at.After-order_pairs c).Start) e
 
   ordered :
-      Ordered (n start) (take (n start * n start) (replicate 4096 0))
-      (take (m start) (codes ++ drop (m start) zeros)) (take (m start) (order ++ drop (m start) zeros))
-      start.args.distances.now
+      Ordered (n (goal.at.After-order_pairs c).Start) (take (n (goal.at.After-order_pairs c).Start * n (goal.at.After-order_pairs c).Start) (replicate 4096 0))
+      (take (m (goal.at.After-order_pairs c).Start) (codes ++ drop (m (goal.at.After-order_pairs c).Start) zeros)) (take (m (goal.at.After-order_pairs c).Start) (order ++ drop (m (goal.at.After-order_pairs c).Start) zeros))
+      c.args.distances.now
   ordered =
       record {
-        given = start.requires;
+        given = c.requires;
         in_order = rw (front codes codes-size, front order order-size) c.order_pairs.ensures;
         same_count = ap length (front codes codes-size) ∙ codes-size;
-        none = take-replicate (n start * n start) 4096 (square start);
+        none = take-replicate (n (goal.at.After-order_pairs c).Start * n (goal.at.After-order_pairs c).Start) 4096 (square (goal.at.After-order_pairs c).Start);
       }
 
-abbrev made : After-color_in_order-arg-1 → After-order_pairs
-made c = c.before.before.before
-
 pub overflow_mul-size : goal.overflow_mul-size
-overflow_mul-size c = omega (arith, square c.before.before)
+overflow_mul-size c = omega (arith, square (goal.at.overflow_mul-size c).Start)
 
 pub slice_bounds-codes-end : goal.slice_bounds-codes-end
-slice_bounds-codes-end c = most c.before.before
+slice_bounds-codes-end c = most (goal.at.slice_bounds-codes-end c).Start
 
 pub slice_bounds-order_pairs-end : goal.slice_bounds-order_pairs-end
-slice_bounds-order_pairs-end c = sym (part-size c.before.before.before)
+slice_bounds-order_pairs-end c = sym (part-size (goal.at.slice_bounds-order_pairs-end c).Start)
 
 pub slice_bounds-order-end : goal.slice_bounds-order-end
-slice_bounds-order-end c = most c.before.before.before
+slice_bounds-order-end c = most (goal.at.slice_bounds-order-end c).Start
 
 pub slice_bounds-order_pairs-end-2 : goal.slice_bounds-order_pairs-end-2
-slice_bounds-order_pairs-end-2 c = sym (part-size c.before.before.before.before)
+slice_bounds-order_pairs-end-2 c = sym (part-size (goal.at.slice_bounds-order_pairs-end-2 c).Start)
 
 pub order_pairs-requires : goal.order_pairs-requires
 order_pairs-requires c =
-    let s = c.before.before.before.before in
-    (s.requires, part-size s, part-size s)
+    (c.requires, part-size (goal.at.order_pairs-requires c).Start, part-size (goal.at.order_pairs-requires c).Start)
 
 pub slice_bounds-edge_matrix-end : goal.slice_bounds-edge_matrix-end
-slice_bounds-edge_matrix-end c = square (start (made c))
+slice_bounds-edge_matrix-end c = square (goal.at.slice_bounds-edge_matrix-end c).Start
 
 pub slice_bounds-color_in_order-end : goal.slice_bounds-color_in_order-end
 slice_bounds-color_in_order-end c =
-    let s = start (made c.before) in
-    sym (length-take-le (n s * n s) (replicate 4096 0) (square s))
+    sym (length-take-le (n (goal.at.slice_bounds-color_in_order-end c).Start * n (goal.at.slice_bounds-color_in_order-end c).Start) (replicate 4096 0) (square (goal.at.slice_bounds-color_in_order-end c).Start))
 
 pub slice_bounds-codes-end-2 : goal.slice_bounds-codes-end-2
 slice_bounds-codes-end-2 c =
-    let o = made c.before in
-    within o (codes o) (codes-size o)
+    within (goal.at.slice_bounds-codes-end-2 c).After-order_pairs (codes (goal.at.slice_bounds-codes-end-2 c).After-order_pairs) (codes-size (goal.at.slice_bounds-codes-end-2 c).After-order_pairs)
 
 pub slice_bounds-color_in_order-end-2 : goal.slice_bounds-color_in_order-end-2
 slice_bounds-color_in_order-end-2 c =
-    let o = made c.before.before in
-    sym (ap length (front o (codes o) (codes-size o)) ∙ codes-size o)
+    sym (ap length (front (goal.at.slice_bounds-color_in_order-end-2 c).After-order_pairs (codes (goal.at.slice_bounds-color_in_order-end-2 c).After-order_pairs) (codes-size (goal.at.slice_bounds-color_in_order-end-2 c).After-order_pairs)) ∙ codes-size (goal.at.slice_bounds-color_in_order-end-2 c).After-order_pairs)
 
 pub slice_bounds-order-end-2 : goal.slice_bounds-order-end-2
 slice_bounds-order-end-2 c =
-    let o = made c.before.before in
-    within o (order o) (order-size o)
+    within (goal.at.slice_bounds-order-end-2 c).After-order_pairs (order (goal.at.slice_bounds-order-end-2 c).After-order_pairs) (order-size (goal.at.slice_bounds-order-end-2 c).After-order_pairs)
 
 pub slice_bounds-color_in_order-end-3 : goal.slice_bounds-color_in_order-end-3
 slice_bounds-color_in_order-end-3 c =
-    let o = made c.before.before.before in
-    sym (ap length (front o (order o) (order-size o)) ∙ order-size o)
+    sym (ap length (front (goal.at.slice_bounds-color_in_order-end-3 c).After-order_pairs (order (goal.at.slice_bounds-color_in_order-end-3 c).After-order_pairs) (order-size (goal.at.slice_bounds-color_in_order-end-3 c).After-order_pairs)) ∙ order-size (goal.at.slice_bounds-color_in_order-end-3 c).After-order_pairs)
 
 pub color_in_order-requires : goal.color_in_order-requires
-color_in_order-requires c = ordered (made c.before.before.before)
+color_in_order-requires c = ordered (goal.at.color_in_order-requires c).After-order_pairs

@@ -12,7 +12,7 @@ use Rattle.coloring.specs.declared.recolor.Walked.{Walked}
 use Rattle.coloring.proofs.Lists.{copied}
 use Rattle.coloring.proofs.recolor.RowLaws.{pair_inside}
 use Rattle.coloring.proofs.spline_table.add_edge_by_walk.Goals as goal
-use Rattle.coloring.proofs.spline_table.add_edge_by_walk.Goals.{After-buffer-1, After-recolor, Start}
+use Rattle.coloring.proofs.spline_table.add_edge_by_walk.Goals.{After-recolor, Start}
 
 abbrev zeros : List ℕ
 zeros = replicate 64 0
@@ -25,45 +25,38 @@ module _ (start : Start) where
   copy_size = length-take-le n zeros start.requires.few
 
 module _ (c : After-recolor) where
-  abbrev passed : After-buffer-1
-  passed = c.before.before.before
-
-  abbrev start : Start
-  start = passed.before.before.before
-
   abbrev after : List ℕ
   after = c.recolor.new.buffer
 
   -- what is left of the offer goes by the end of the walk
   abbrev left : Walked → Offered
-  left w = settled (ended w after) start.args.coloring.now start.args.edge_matrix.now start.args.a start.args.b
+  left w = settled (ended w after) c.args.coloring.now c.args.edge_matrix.now c.args.a c.args.b
 
   by_end : (w : Walked) → c.recolor.result ≡ w
-      → left w ≡ walked_on start.args.coloring.now start.args.edge_matrix.now start.args.a start.args.b
+      → left w ≡ walked_on c.args.coloring.now c.args.edge_matrix.now c.args.a c.args.b
   unfolding walked_on
   by_end w e =
       ap left (sym e)
-      ∙ ap (λ (v : Walk). settled v start.args.coloring.now start.args.edge_matrix.now start.args.a start.args.b) c.recolor.ensures
+      ∙ ap (λ (v : Walk). settled v c.args.coloring.now c.args.edge_matrix.now c.args.a c.args.b) c.recolor.ensures
 
-  after-size : length after ≡ n start
-  after-size = c.recolor.auto.buffer ∙ copy_size start
+  after-size : length after ≡ n (goal.at.After-recolor c).Start
+  after-size = c.recolor.auto.buffer ∙ copy_size (goal.at.After-recolor c).Start
 
-  front : take (n start) (after ++ drop (n start) zeros) ≡ after
-  front = take_at after (drop (n start) zeros) (n start) after-size
+  front : take (n (goal.at.After-recolor c).Start) (after ++ drop (n (goal.at.After-recolor c).Start) zeros) ≡ after
+  front = take_at after (drop (n (goal.at.After-recolor c).Start) zeros) (n (goal.at.After-recolor c).Start) after-size
 
-  front_size : length (take (n start) (after ++ drop (n start) zeros)) ≡ n start
+  front_size : length (take (n (goal.at.After-recolor c).Start) (after ++ drop (n (goal.at.After-recolor c).Start) zeros)) ≡ n (goal.at.After-recolor c).Start
   front_size = ap length front ∙ after-size
 
 pub slice_bounds-recolor-end : goal.slice_bounds-recolor-end
-slice_bounds-recolor-end c = sym (copy_size c.before.before.before)
+slice_bounds-recolor-end c = sym (copy_size (goal.at.slice_bounds-recolor-end c).Start)
 
 pub recolor-requires : goal.recolor-requires
-recolor-requires c = let s = c.before.before.before.before.before in (s.requires, copy_size s)
+recolor-requires c = (c.requires, copy_size (goal.at.recolor-requires c).Start)
 
 pub slice_bounds-buffer-end-in-Recolored : goal.slice_bounds-buffer-end-in-Recolored
 slice_bounds-buffer-end-in-Recolored c =
-    let r = c.before.before.before.before in
-    omega (arith, length-append (after r) (drop (n (start r)) zeros), after-size r)
+    omega (arith, length-append (after (goal.at.slice_bounds-buffer-end-in-Recolored c).After-recolor) (drop (n (goal.at.slice_bounds-buffer-end-in-Recolored c).Start) zeros), after-size (goal.at.slice_bounds-buffer-end-in-Recolored c).After-recolor)
 
 -- NEED slice-aggregate-copy
 slice-aggregate-copy : tie.Need-slice-aggregate-copy
@@ -74,19 +67,13 @@ copy-requires : tie.Need-copy-requires
 copy-requires c κs = let told = c.before.before in omega (arith, front_size told.before.before.before.before)
 
 pub enter_pair-requires : goal.enter_pair-requires
-enter_pair-requires c = let told = c.before in pair_inside (start told.before.before.before.before).requires
+enter_pair-requires c = pair_inside c.requires
 
 pub returns-in-Recolored : goal.returns-in-Recolored
 returns-in-Recolored c =
-    let copies = c.before.before in
-    let recolored = copies.before.before.before.before in
-    let r = recolored.before.before.before in
-    let taken = copies.copy.ensures.1 ∙ copied _ (start r).args.coloring.now (sym (front_size r)) ∙ front r in
-    ap (λ (l : List ℕ). outcome (kept recolored.in-Recolored.step) l (start r).args.edge_matrix.now) taken ∙ by_end r _ recolored.in-Recolored.is
+    let taken = c.copy.ensures.1 ∙ copied _ c.args.coloring.now (sym (front_size (goal.at.returns-in-Recolored c).After-recolor)) ∙ front (goal.at.returns-in-Recolored c).After-recolor in
+    ap (λ (l : List ℕ). outcome (kept c.in-Recolored.step) l c.args.edge_matrix.now) taken ∙ by_end (goal.at.returns-in-Recolored c).After-recolor _ c.in-Recolored.is
 
 pub returns-in-Stopped : goal.returns-in-Stopped
 returns-in-Stopped c =
-    let enters = c.before.before in
-    let stopped = enters.before.before.before in
-    let r = stopped.before.before.before in
-    ap (outcome (declined stopped.in-Stopped.step) (start r).args.coloring.now) enters.enter_pair.ensures ∙ by_end r _ stopped.in-Stopped.is
+    ap (outcome (declined c.in-Stopped.step) c.args.coloring.now) c.enter_pair.ensures ∙ by_end (goal.at.returns-in-Stopped c).After-recolor _ c.in-Stopped.is

@@ -20,12 +20,10 @@ loop-i-smaller c = omega arith
 
 pub loop-i-preserved : goal.loop-i-preserved
 loop-i-preserved c =
-    let at = c.before.before in
-    let args = at.args in
-    (omega arith, ap (λ b. b && leb (get_or args.values.now at.loop-i.i 0) args.most) at.loop-i.invariant.1 ∙ sym (all_more at.loop-i.i _))
+    let args = c.args in
+    (omega arith, ap (λ b. b && leb (get_or args.values.now c.loop-i.i 0) args.most) c.loop-i.invariant.1 ∙ sym (all_more c.loop-i.i _))
 
 pub returns : goal.returns
 returns c =
-    let at = c.before in
-    let e : at.loop-i.i ≡ length at.args.values.now = omega arith in
-    rw e at at.loop-i.invariant.1
+    let e : c.loop-i.i ≡ length c.args.values.now = omega arith in
+    rw e c c.loop-i.invariant.1

@@ -10,10 +10,10 @@ pub loop-j-init : goal.loop-j-init
 loop-j-init c = (omega arith, sym (all_none _))
 
 pub entry-requires : goal.entry-requires
-entry-requires c = let s = c.before.before.before in rw s.requires.0 (digits_lt s.requires.1 (omega arith))
+entry-requires c = rw c.requires.0 (digits_lt c.requires.1 (omega arith))
 
 pub entry-requires-in-loop-j : goal.entry-requires-in-loop-j
-entry-requires-in-loop-j c = let s = c.before.before.before.before in rw s.requires.0 (digits_lt (omega arith) s.requires.1)
+entry-requires-in-loop-j c = rw c.requires.0 (digits_lt (omega arith) c.requires.1)
 
 pub overflow_add-j : goal.overflow_add-j
 overflow_add-j c = omega arith
@@ -23,14 +23,12 @@ loop-j-smaller c = omega arith
 
 pub loop-j-preserved : goal.loop-j-preserved
 loop-j-preserved c =
-    let at = c.before.before.before in
-    let args = at.args in
+    let args = c.args in
     let entries = entry args.n args.edge_matrix.now in
-    let more = all_more at.loop-j.j (λ k. eqb (entries args.i k) (entries k args.i)) in
-    (omega arith, rw (at.loop-j.invariant.1, c.entry.ensures, c.entry-in-loop-j.ensures, more))
+    let more = all_more c.loop-j.j (λ k. eqb (entries args.i k) (entries k args.i)) in
+    (omega arith, rw (c.loop-j.invariant.1, c.entry.ensures, c.entry-in-loop-j.ensures, more))
 
 pub returns : goal.returns
 returns c =
-    let at = c.before in
-    let e : at.loop-j.j ≡ at.args.i = omega arith in
-    rw e at at.loop-j.invariant.1
+    let e : c.loop-j.j ≡ c.args.i = omega arith in
+    rw e c c.loop-j.invariant.1

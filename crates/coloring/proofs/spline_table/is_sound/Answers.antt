@@ -4,6 +4,5 @@ use Rattle.coloring.proofs.spline_table.is_sound.Goals as goal
 
 pub returns : goal.returns
 returns c =
-    let start = c.before.before.before.before.before in
     rw (c.at_most-colors.ensures, c.at_most-entries.ensures, c.is_symmetric.ensures)
-    (sound-looked start.args.coloring.now start.args.edge_matrix.now start.requires)
+    (sound-looked c.args.coloring.now c.args.edge_matrix.now c.requires)

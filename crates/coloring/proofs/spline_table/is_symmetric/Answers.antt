@@ -24,14 +24,12 @@ loop-i-smaller c = omega arith
 
 pub loop-i-preserved : goal.loop-i-preserved
 loop-i-preserved c =
-    let at = c.before.before.before in
-    let args = at.args in
+    let args = c.args in
     let entries = entry args.n args.edge_matrix.now in
-    let more = all_more at.loop-i.i (λ k. mirrored args.n args.edge_matrix.now k && eqb (entries k k) 0) in
-    (omega arith, rw (at.loop-i.invariant.1, c.is_mirrored.ensures, c.entry.ensures, more))
+    let more = all_more c.loop-i.i (λ k. mirrored args.n args.edge_matrix.now k && eqb (entries k k) 0) in
+    (omega arith, rw (c.loop-i.invariant.1, c.is_mirrored.ensures, c.entry.ensures, more))
 
 pub returns : goal.returns
 returns c =
-    let at = c.before in
-    let e : at.loop-i.i ≡ at.args.n = omega arith in
-    rw e at at.loop-i.invariant.1
+    let e : c.loop-i.i ≡ c.args.n = omega arith in
+    rw e c c.loop-i.invariant.1

@@ -10,101 +10,80 @@ use Rattle.coloring.proofs.recolor.RowLaws.{row-length, pair_inside}
 use Rattle.coloring.proofs.recolor.FreeColorLaws.{possible-below}
 use Rattle.coloring.proofs.spline_table.OfferLaws.{entered, free_of_b, SameColor, rule_differ, rule_free, rule_walk}
 use Rattle.coloring.proofs.spline_table.try_add_edge_unchecked.Goals as goal
-use Rattle.coloring.proofs.spline_table.try_add_edge_unchecked.Goals.{After-enter_pair, After-row, After-slice_known-5-1, After-vertex_possible_colors-possible, Start}
+use Rattle.coloring.proofs.spline_table.try_add_edge_unchecked.Goals.{After-row, After-slice_known-5-1, After-vertex_possible_colors-possible}
 
 module _ (c : After-slice_known-5-1) where
-  abbrev enters : After-enter_pair
-  enters = c.before.before.before.before
-
-  abbrev start : Start
-  start = enters.before.before.before.before
-
   abbrev coloring : List ℕ
-  coloring = start.args.coloring.now
+  coloring = c.args.coloring.now
 
   abbrev table : Table
-  table = table_of coloring start.args.edge_matrix.now
+  table = table_of coloring c.args.edge_matrix.now
 
   abbrev n : ℕ
   n = length coloring
 
   abbrev a : ℕ
-  a = start.args.a
+  a = c.args.a
 
   abbrev b : ℕ
-  b = start.args.b
+  b = c.args.b
 
   abbrev after : List ℕ
-  after = enters.enter_pair.last.0
+  after = c.enter_pair.new.edge_matrix
 
   after_same : after ≡ entered table a b
-  after_same = enters.enter_pair.ensures
+  after_same = c.enter_pair.ensures
 
   after-size : length after ≡ n * n
-  after-size = enters.enter_pair.kept.0 ∙ start.requires.entries
+  after-size = c.enter_pair.auto.edge_matrix ∙ c.requires.entries
 
   offerable : Offerable coloring after a b
-  offerable = record { few = start.requires.few; entries = after-size; first = start.requires.first; second = start.requires.second; color = start.requires.color }
+  offerable = record { few = c.requires.few; entries = after-size; first = c.requires.first; second = c.requires.second; color = c.requires.color }
 
 module _ (c : After-row) where
-  abbrev pair : After-slice_known-5-1
-  pair = c.before.before.before.before
-
-  cut : c.row.result.now ≡ row (n pair) (entered (table pair) (a pair) (b pair)) (b pair)
-  cut = c.row.ensures ∙ ap (λ (l : List ℕ). row (n pair) l (b pair)) (after_same pair)
+  cut : c.row.result.now ≡ row (n (goal.at.After-row c).After-slice_known-5-1) (entered (table (goal.at.After-row c).After-slice_known-5-1) (a (goal.at.After-row c).After-slice_known-5-1) (b (goal.at.After-row c).After-slice_known-5-1)) (b (goal.at.After-row c).After-slice_known-5-1)
+  cut = c.row.ensures ∙ ap (λ (l : List ℕ). row (n (goal.at.After-row c).After-slice_known-5-1) l (b (goal.at.After-row c).After-slice_known-5-1)) (after_same (goal.at.After-row c).After-slice_known-5-1)
 
 module _ (c : After-vertex_possible_colors-possible) where
-  abbrev of_pair : After-slice_known-5-1
-  of_pair = pair c.before
-
   abbrev possible : ℕ
-  possible = free_of_b (table of_pair) (a of_pair) (b of_pair)
+  possible = free_of_b (table (goal.at.After-vertex_possible_colors-possible c).After-slice_known-5-1) (a (goal.at.After-vertex_possible_colors-possible c).After-slice_known-5-1) (b (goal.at.After-vertex_possible_colors-possible c).After-slice_known-5-1)
 
-  same : SameColor (table of_pair) (a of_pair) (b of_pair)
-  same = c.before.before.before.before.if1.false
+  same : SameColor (table (goal.at.After-vertex_possible_colors-possible c).After-slice_known-5-1) (a (goal.at.After-vertex_possible_colors-possible c).After-slice_known-5-1) (b (goal.at.After-vertex_possible_colors-possible c).After-slice_known-5-1)
+  same = c.if-coloring-a.false
 
   free : c.vertex_possible_colors-possible.result ≡ possible
-  free = c.vertex_possible_colors-possible.ensures ∙ ap (vertex_possible_colors (coloring of_pair)) (cut c.before)
+  free = c.vertex_possible_colors-possible.ensures ∙ ap (vertex_possible_colors (coloring (goal.at.After-vertex_possible_colors-possible c).After-slice_known-5-1)) (cut (goal.at.After-vertex_possible_colors-possible c).After-row)
 
 pub enter_pair-requires : goal.enter_pair-requires
 enter_pair-requires c = pair_inside c.requires
 
 pub returns-then-coloring-a : goal.returns-then-coloring-a
 returns-then-coloring-a c =
-    let p = c.before in
-    ap (outcome (kept 0) (coloring p)) (after_same p) ∙ sym (rule_differ (table p) (a p) (b p) c.if-coloring-a.true)
+    ap (outcome (kept 0) (coloring (goal.at.returns-then-coloring-a c).After-slice_known-5-1)) (after_same (goal.at.returns-then-coloring-a c).After-slice_known-5-1) ∙ sym (rule_differ (table (goal.at.returns-then-coloring-a c).After-slice_known-5-1) (a (goal.at.returns-then-coloring-a c).After-slice_known-5-1) (b (goal.at.returns-then-coloring-a c).After-slice_known-5-1) c.if-coloring-a.true)
 
 pub row-requires : goal.row-requires
-row-requires c = let p = c.before.before.before in (after-size p, (start p).requires.second, (start p).requires.few)
+row-requires c = (after-size (goal.at.row-requires c).After-slice_known-5-1, c.requires.second, c.requires.few)
 
 pub vertex_possible_colors-possible-requires : goal.vertex_possible_colors-possible-requires
 vertex_possible_colors-possible-requires c =
-    let p = pair c in
-    sym (ap length c.row.ensures ∙ row-length (n p) (b p) (after p) (after-size p) (start p).requires.second)
+    sym (ap length c.row.ensures ∙ row-length (n (goal.at.vertex_possible_colors-possible-requires c).After-slice_known-5-1) (b (goal.at.vertex_possible_colors-possible-requires c).After-slice_known-5-1) (after (goal.at.vertex_possible_colors-possible-requires c).After-slice_known-5-1) (after-size (goal.at.vertex_possible_colors-possible-requires c).After-slice_known-5-1) c.requires.second)
 
 pub first_possible_color-requires : goal.first_possible_color-requires
 first_possible_color-requires c =
-    let p = of_pair c.before in
-    omega (arith, free c.before, possible-below (coloring p) (row (n p) (entered (table p) (a p) (b p)) (b p)))
+    omega (arith, free (goal.at.first_possible_color-requires c).After-vertex_possible_colors-possible, possible-below (coloring (goal.at.first_possible_color-requires c).After-slice_known-5-1) (row (n (goal.at.first_possible_color-requires c).After-slice_known-5-1) (entered (table (goal.at.first_possible_color-requires c).After-slice_known-5-1) (a (goal.at.first_possible_color-requires c).After-slice_known-5-1) (b (goal.at.first_possible_color-requires c).After-slice_known-5-1)) (b (goal.at.first_possible_color-requires c).After-slice_known-5-1)))
 
 pub returns-then-possible-ne0 : goal.returns-then-possible-ne0
 returns-then-possible-ne0 c =
-    let v = c.before.before in
-    let p = of_pair v in
-    let color = c.first_possible_color.ensures ∙ ap first_possible_color (free v) in
-    ap (λ (x : ℕ). outcome (kept 0) (set (coloring p) (b p) x) (after p)) color
-    ∙ ap (outcome (kept 0) (set (coloring p) (b p) (first_possible_color (possible v)))) (after_same p)
-    ∙ sym (rule_free (table p) (a p) (b p) (same v) (λ e. c.if-possible-ne0.true (free v ∙ e)))
+    let color = c.first_possible_color.ensures ∙ ap first_possible_color (free (goal.at.returns-then-possible-ne0 c).After-vertex_possible_colors-possible) in
+    ap (λ (x : ℕ). outcome (kept 0) (set (coloring (goal.at.returns-then-possible-ne0 c).After-slice_known-5-1) (b (goal.at.returns-then-possible-ne0 c).After-slice_known-5-1) x) (after (goal.at.returns-then-possible-ne0 c).After-slice_known-5-1)) color
+    ∙ ap (outcome (kept 0) (set (coloring (goal.at.returns-then-possible-ne0 c).After-slice_known-5-1) (b (goal.at.returns-then-possible-ne0 c).After-slice_known-5-1) (first_possible_color (possible (goal.at.returns-then-possible-ne0 c).After-vertex_possible_colors-possible)))) (after_same (goal.at.returns-then-possible-ne0 c).After-slice_known-5-1)
+    ∙ sym (rule_free (table (goal.at.returns-then-possible-ne0 c).After-slice_known-5-1) (a (goal.at.returns-then-possible-ne0 c).After-slice_known-5-1) (b (goal.at.returns-then-possible-ne0 c).After-slice_known-5-1) (same (goal.at.returns-then-possible-ne0 c).After-vertex_possible_colors-possible) (λ e. c.if-possible-ne0.true (free (goal.at.returns-then-possible-ne0 c).After-vertex_possible_colors-possible ∙ e)))
 
 pub add_edge_by_walk-requires : goal.add_edge_by_walk-requires
-add_edge_by_walk-requires c = offerable (of_pair c.before.before.before)
+add_edge_by_walk-requires c = offerable (goal.at.add_edge_by_walk-requires c).After-slice_known-5-1
 
 pub returns : goal.returns
 returns c =
-    let walks = c.before.before.before.before in
-    let none = walks.before.before.before in
-    let v = none.before in
-    let p = of_pair v in
-    walks.add_edge_by_walk.ensures
-    ∙ ap (λ (l : List ℕ). walked_on (coloring p) l (a p) (b p)) (after_same p)
-    ∙ sym (rule_walk (table p) (a p) (b p) (same v) (sym (free v) ∙ none.if-possible-ne0.false))
+    c.add_edge_by_walk.ensures
+    ∙ ap (λ (l : List ℕ). walked_on (coloring (goal.at.returns c).After-slice_known-5-1) l (a (goal.at.returns c).After-slice_known-5-1) (b (goal.at.returns c).After-slice_known-5-1)) (after_same (goal.at.returns c).After-slice_known-5-1)
+    ∙ sym (rule_walk (table (goal.at.returns c).After-slice_known-5-1) (a (goal.at.returns c).After-slice_known-5-1) (b (goal.at.returns c).After-slice_known-5-1) (same (goal.at.returns c).After-vertex_possible_colors-possible) (sym (free (goal.at.returns c).After-vertex_possible_colors-possible) ∙ c.if-possible-ne0.false))

@@ -13,69 +13,57 @@ use Rattle.coloring.proofs.Lists.{length-zero}
 use Rattle.coloring.proofs.corners.FlagLaws.{first-within}
 use Rattle.coloring.proofs.splines.PaintLaws.{splines-few, splines_positive}
 use Rattle.coloring.proofs.splines.paint.Goals as goal
-use Rattle.coloring.proofs.splines.paint.Goals.{After-count_corners, Else-count_corners-eq1, Start, Then-count_corners-eq1}
+use Rattle.coloring.proofs.splines.paint.Goals.{After-count_corners, Else-count_corners-eq1, Then-count_corners-eq1}
 
 -- there are edges, and their corners are counted
 module _ (c : After-count_corners) where
-  abbrev start : Start
-  start = c.before.before.before.before.before
-
-  some : 0 < length start.args.flags.now
+  some : 0 < length c.args.flags.now
   some = omega (arith, c.if-flags-eq0.false)
 
-one : (c : Then-count_corners-eq1) → corner_count (start c.before).args.flags.now ≡ 1
+one : (c : Then-count_corners-eq1) → corner_count c.args.flags.now ≡ 1
 one c = sym c.count_corners.ensures ∙ c.if-count_corners-eq1.true
 
-two : (c : Then-count_corners-eq1) → length (start c.before).args.values.now ≡ 2
-two c = (start c.before).requires.valued ∙ splines-few _ (some c.before) (omega (arith, one c)) ∙ ap (λ n. suc n) (one c)
+two : (c : Then-count_corners-eq1) → length c.args.values.now ≡ 2
+two c = c.requires.valued ∙ splines-few _ (some (goal.at.Then-count_corners-eq1 c).After-count_corners) (omega (arith, one c)) ∙ ap (λ n. suc n) (one c)
 
-not_one : (c : Else-count_corners-eq1) → eqb (corner_count (start c.before).args.flags.now) 1 ≡ false
+not_one : (c : Else-count_corners-eq1) → eqb (corner_count c.args.flags.now) 1 ≡ false
 not_one c = rw (← c.count_corners.ensures) (ne_eqb _ _ c.if-count_corners-eq1.false)
 
-values_some : (c : Else-count_corners-eq1) → 0 < length (start c.before).args.values.now
-values_some c = rw (start c.before).requires.valued (splines_positive _ (some c.before))
+values_some : (c : Else-count_corners-eq1) → 0 < length c.args.values.now
+values_some c = rw c.requires.valued (splines_positive _ (some (goal.at.Else-count_corners-eq1 c).After-count_corners))
 
 pub returns-then-flags-eq0 : goal.returns-then-flags-eq0
 returns-then-flags-eq0 c =
-    let start = c.before.before.before.before in
     let none = c.if-flags-eq0.true in
-    length-zero start.args.out.now (start.requires.room ∙ none) ∙ sym (length-zero _ (paint-length _ _ _ start.args.flags.now ∙ none))
+    length-zero c.args.out.now (c.requires.room ∙ none) ∙ sym (length-zero _ (paint-length _ _ _ c.args.flags.now ∙ none))
 
 pub bounds-values-0 : goal.bounds-values-0
-bounds-values-0 c = omega (arith, two c.before.before)
+bounds-values-0 c = omega (arith, two (goal.at.bounds-values-0 c).Then-count_corners-eq1)
 
 pub bounds-values-1 : goal.bounds-values-1
-bounds-values-1 c = omega (arith, two c.before.before.before)
+bounds-values-1 c = omega (arith, two (goal.at.bounds-values-1 c).Then-count_corners-eq1)
 
 pub paint_runs-requires : goal.paint_runs-requires
 paint_runs-requires c =
-    let corner = c.before.before.before in
-    let branch = corner.before in
-    let pre = (start branch.before).requires in
-    (rw (corner.first_corner.ensures, pre.room) (first-within _ (omega (arith, one branch))), rw pre.room pre.few)
+    let pre = c.requires in
+    (rw (c.first_corner.ensures, pre.room) (first-within _ (omega (arith, one (goal.at.paint_runs-requires c).Then-count_corners-eq1))), rw pre.room pre.few)
 
 pub returns-then-count_corners-eq1 : goal.returns-then-count_corners-eq1
 returns-then-count_corners-eq1 c =
-    let runs = c.before.before in
-    let corner = runs.before.before.before.before in
-    let branch = corner.before in
-    let start = start branch.before in
-    let values = start.args.values.now in
-    let h = two branch in
+    let values = c.args.values.now in
+    let h = two (goal.at.returns-then-count_corners-eq1 c).Then-count_corners-eq1 in
     rw (
-      paint-one _ _ _ _ (eq-eqb _ _ (one branch)),
-      get_d_any values 0 start.args.middle 0 (omega arith),
-      get_d_any values 1 start.args.middle 0 (omega arith),
+      paint-one _ _ _ _ (eq-eqb _ _ (one (goal.at.returns-then-count_corners-eq1 c).Then-count_corners-eq1)),
+      get_d_any values 0 c.args.middle 0 (omega arith),
+      get_d_any values 1 c.args.middle 0 (omega arith),
     )
-    (runs.paint_runs.ensures ∙ rw (corner.first_corner.ensures, start.requires.room))
+    (c.paint_runs.ensures ∙ rw (c.first_corner.ensures, c.requires.room))
 
 pub spread-requires : goal.spread-requires
-spread-requires c = (values_some c.before, (start c.before.before).requires.room)
+spread-requires c = (values_some (goal.at.spread-requires c).Else-count_corners-eq1, c.requires.room)
 
 pub returns : goal.returns
 returns c =
-    let branch = c.before.before.before.before in
-    let start = start branch.before in
-    let values = start.args.values.now in
-    rw (paint-spread _ _ _ _ (not_one branch), get_d_any values (length values - 1) start.args.middle 0 (omega (arith, values_some branch)))
+    let values = c.args.values.now in
+    rw (paint-spread _ _ _ _ (not_one (goal.at.returns c).Else-count_corners-eq1), get_d_any values (length values - 1) c.args.middle 0 (omega (arith, values_some (goal.at.returns c).Else-count_corners-eq1)))
     c.spread.ensures

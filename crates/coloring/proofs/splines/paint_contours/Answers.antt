@@ -11,7 +11,7 @@ use Rattle.coloring.proofs.outline.CheckLaws.{total_end}
 use Rattle.coloring.proofs.outline.CutLaws.{none_passed, next_fits, next-passed, cut_step, cut_end, left, left_step}
 use Rattle.coloring.proofs.splines.paint_contours.Invariants.{Painting}
 use Rattle.coloring.proofs.splines.paint_contours.Goals as goal
-use Rattle.coloring.proofs.splines.paint_contours.Goals.{After-part_splines, At-loop-i, In-loop-i, Start}
+use Rattle.coloring.proofs.splines.paint_contours.Goals.{After-part_splines, In-loop-i}
 
 module _ (division : Division) (lengths : List ℕ) (flags : List Bool) (middle : ℕ) (values out : List ℕ) (at from i : ℕ)
     (s : Painting division lengths flags middle values out at from i) (h : i < length lengths) where
@@ -32,41 +32,32 @@ module _ (division : Division) (lengths : List ℕ) (flags : List Bool) (middle 
         bytes = s.bytes ∙ rw (cut_step lengths flags i at h, painted, own, counted, ← drop-drop (spline_count next-part) from values, append_assoc);
       }
 
-abbrev begun : At-loop-i → Start
-begun c = c.before.before.before.before.before
-
 -- the next contour lies within the edges
 module _ (c : In-loop-i) where
-  abbrev start : Start
-  start = begun c.before
-
   abbrev n : ℕ
-  n = get_or start.args.lengths.now c.loop-i.i 0
+  n = get_or c.args.lengths.now c.loop-i.i 0
 
-  room : c.loop-i.at + n ≤ length start.args.flags.now
+  room : c.loop-i.at + n ≤ length c.args.flags.now
   room = next_fits _ _ _ _ c.loop-i.invariant.passed c.loop-i-test.true
 
   -- its flags
   abbrev part : List Bool
-  part = take n (drop c.loop-i.at start.args.flags.now)
+  part = take n (drop c.loop-i.at c.args.flags.now)
 
   whole : c.loop-i.at + n - c.loop-i.at ≡ n
   whole = omega arith
 
-  next : left spline_count start.args.lengths.now start.args.flags.now c.loop-i.i c.loop-i.at
-      ≡ spline_count part + left spline_count start.args.lengths.now start.args.flags.now (c.loop-i.i + 1) (c.loop-i.at + n)
-  next = left_step spline_count start.args.lengths.now start.args.flags.now c.loop-i.i c.loop-i.at c.loop-i-test.true
+  next : left spline_count c.args.lengths.now c.args.flags.now c.loop-i.i c.loop-i.at
+      ≡ spline_count part + left spline_count c.args.lengths.now c.args.flags.now (c.loop-i.i + 1) (c.loop-i.at + n)
+  next = left_step spline_count c.args.lengths.now c.args.flags.now c.loop-i.i c.loop-i.at c.loop-i-test.true
 
 module _ (c : After-part_splines) where
-  abbrev turn : In-loop-i
-  turn = c.before.before
-
   -- its splines, and their values
-  counted : c.part_splines.result ≡ spline_count (part turn)
-  counted = rw (whole turn) at c.part_splines.ensures
+  counted : c.part_splines.result ≡ spline_count (part (goal.at.After-part_splines c).In-loop-i)
+  counted = rw (whole (goal.at.After-part_splines c).In-loop-i) at c.part_splines.ensures
 
-  fit : turn.loop-i.from + c.part_splines.result ≤ length (start turn).args.values.now
-  fit = omega (arith, counted, turn.loop-i.invariant.splines, next turn)
+  fit : c.loop-i.from + c.part_splines.result ≤ length c.args.values.now
+  fit = omega (arith, counted, c.loop-i.invariant.splines, next (goal.at.After-part_splines c).In-loop-i)
 
 pub loop-i-init : goal.loop-i-init
 loop-i-init c =
@@ -80,53 +71,42 @@ pub bounds-lengths-i : goal.bounds-lengths-i
 bounds-lengths-i c = omega arith
 
 pub overflow_cast-end : goal.overflow_cast-end
-overflow_cast-end c = omega (arith, room c.before, (start c.before).requires.lengths_value.1)
+overflow_cast-end c = omega (arith, room (goal.at.overflow_cast-end c).In-loop-i, c.requires.lengths_value.1)
 
 pub overflow_add-end : goal.overflow_add-end
-overflow_add-end c = omega (arith, room c.before, (start c.before).requires.lengths_value.1)
+overflow_add-end c = omega (arith, room (goal.at.overflow_add-end c).In-loop-i, c.requires.lengths_value.1)
 
 pub part_splines-requires : goal.part_splines-requires
-part_splines-requires c = (omega arith, room c.before)
+part_splines-requires c = (omega arith, room (goal.at.part_splines-requires c).In-loop-i)
 
 pub overflow_add-to : goal.overflow_add-to
-overflow_add-to c = omega (arith, fit c, (start (turn c)).good)
+overflow_add-to c = omega (arith, fit c, c.well_formed)
 
 pub paint_part-requires : goal.paint_part-requires
 paint_part-requires c =
-    let counted = c.before in
-    let turn = turn counted in
-    let pre = (start turn).requires in (
-      (omega arith, room turn, pre.lengths_value.1, turn.loop-i.invariant.long),
-      (ap (λ k. turn.loop-i.from + k) counted.part_splines.ensures, fit counted),
-    )
+    let pre = c.requires in record { at_le_end = (omega arith, room (goal.at.paint_part-requires c).In-loop-i, pre.lengths_value.1, c.loop-i.invariant.long); to_value = (ap (λ k. c.loop-i.from + k) c.part_splines.ensures, fit (goal.at.paint_part-requires c).After-part_splines) }
 
 pub overflow_add-i : goal.overflow_add-i
 overflow_add-i c =
-    let turn = turn c.before.before.before.before in
-    omega (arith, turn.loop-i-test.taken, (start turn).good)
+    omega (arith, c.loop-i-test.true, c.well_formed)
 
 pub loop-i-smaller : goal.loop-i-smaller
 loop-i-smaller c = omega arith
 
 pub loop-i-preserved : goal.loop-i-preserved
 loop-i-preserved c =
-    let done = c.before.before in
-    let splines = done.before.before in
-    let turn = turn splines in
-    let s = turn.loop-i in
-    painting_next _ _ _ _ _ _ _ _ _ s.inv turn.loop-i-test.taken (counted splines) done.paint_part.auto.out
-    (rw (whole turn) at done.paint_part.ensures)
+    let s = c.loop-i in
+    painting_next _ _ _ _ _ _ _ _ _ s.inv c.loop-i-test.true (counted (goal.at.loop-i-preserved c).After-part_splines) c.paint_part.auto.out
+    (rw (whole (goal.at.loop-i-preserved c).In-loop-i) at c.paint_part.ensures)
 
 pub shape_of-out : goal.shape_of-out
 shape_of-out c =
-    let start = begun c.before in
-    c.loop-i.invariant.long ∙ sym start.requires.lengths_value.2
+    c.loop-i.invariant.long ∙ sym c.requires.lengths_value.2
 
 pub returns : goal.returns
 unfolding paint_contours flatten
 returns c =
-    let start = begun c.before in
-    let a = start.args in
+    let a = c.args in
     let s = c.loop-i in
     let all : take s.at s.out ≡ s.out =
     take_all s.at s.out (omega (arith, s.invariant.long, s.invariant.passed.left, total_end a.lengths.now s.i c.loop-i-test.false)) in

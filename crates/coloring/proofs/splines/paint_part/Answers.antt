@@ -8,15 +8,10 @@ use Rattle.coloring.specs.Splines.{paint}
 use Rattle.coloring.specs.Sizes.{paint-length}
 use Rattle.coloring.proofs.Lists.{part_front}
 use Rattle.coloring.proofs.splines.paint_part.Goals as goal
-use Rattle.coloring.proofs.splines.paint_part.Goals.{After-slice_known-1, Start}
-
-module _ (c : After-slice_known-1) where
-  abbrev start : Start
-  start = c.before.before.before
 
 pub paint-requires : goal.paint-requires
 paint-requires c =
-    let pre = (start c.before.before.before).requires in
+    let pre = c.requires in
     record {
       few = simp (length-take, length-drop) (omega (arith, pre.at_le_end.2));
       valued = simp (length-take, length-drop) (omega (arith, pre.to_value));
@@ -25,10 +20,8 @@ paint-requires c =
 
 pub returns : goal.returns
 returns c =
-    let painted = c.before.before in
-    let start = start painted.before.before.before.before in
-    let a = start.args in
+    let a = c.args in
     let flags = take (a.end - a.at) (drop a.at a.flags.now) in
     let bytes = paint a.division a.middle (take (a.to - a.from) (drop a.from a.values.now)) flags in
     let long : length bytes ≡ a.end - a.at = paint-length _ _ _ flags ∙ simp (length-take, length-drop) (omega arith) in
-    rw painted.paint.ensures (part_front a.at (a.end - a.at) a.end bytes _ a.out.now long (omega (arith, start.requires.at_le_end.3)) (omega arith))
+    rw c.paint.ensures (part_front a.at (a.end - a.at) a.end bytes _ a.out.now long (omega (arith, c.requires.at_le_end.3)) (omega arith))

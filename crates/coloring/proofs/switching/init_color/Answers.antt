@@ -1,7 +1,7 @@
 -- `init_color`: each arm has the colour of its draw, which is below 3.
 use Prim.Native.Nat.{ℕ, ◌%◌}
 use mathlib.Core.Path.{◌≡◌, ap}
-use mathlib.Core.List.{◌∷◌}
+use mathlib.Core.List.{◌∷◌, []}
 use lib.ListN.{get_or}
 use native.Mathlib.Omega.{arith}
 use Rattle.geometry.specs.declared.edge_color.EdgeColor.{EdgeColor}

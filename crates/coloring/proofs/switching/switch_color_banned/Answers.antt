@@ -30,16 +30,12 @@ module _ (pen : Pen) (banned : EdgeColor) (bits banned-bits : ℕ) (b : bits ≡
 
 pub returns-then-one_channel : goal.returns-then-one_channel
 returns-then-one_channel c =
-    let start = c.before.before.before.before.before in
-    let one = c.before.before.before.before in
-    fires start.args.pen start.args.banned one.bits.result c.bits-2.result one.bits.ensures
+    fires c.args.pen c.args.banned c.bits.result c.bits-2.result c.bits.ensures
     c.bits-2.ensures c.one_channel.result c.one_channel.ensures c.if-one_channel.true
     c.from_bits.result c.from_bits.ensures
 
 pub returns-else-one_channel : goal.returns-else-one_channel
 returns-else-one_channel c =
-    let start = c.before.before.before.before.before in
-    let one = c.before.before.before.before in
     c.switch_color.ensures
-    ∙ draws start.args.pen start.args.banned one.bits.result c.bits-2.result one.bits.ensures
+    ∙ draws c.args.pen c.args.banned c.bits.result c.bits-2.result c.bits.ensures
     c.bits-2.ensures c.one_channel.result c.one_channel.ensures c.if-one_channel.false

@@ -29,8 +29,7 @@ loop-i-smaller c = omega arith
 
 pub loop-i-preserved : goal.loop-i-preserved
 loop-i-preserved c =
-    let turn = c.before.before.before in
-    let a = turn.args in
+    let a = c.args in
     let at = c.loop-i in
     let h : at.i < length a.colors.now = omega (arith, at.invariant.1) in
     let stored : get_or (map byte a.colors.now) at.i 0 ≡ c.bits.result =

@@ -12,58 +12,50 @@ use Rattle.coloring.specs.Values.{spline_colors}
 use Rattle.coloring.proofs.Lists.{part_front}
 use Rattle.coloring.proofs.outline.EdgeLaws.{edges-between, part-matching}
 use Rattle.coloring.proofs.values.part_colors.Goals as goal
-use Rattle.coloring.proofs.values.part_colors.Goals.{After-slice_known-1, Start}
 
 pub slice_bounds-spline_colors-count : goal.slice_bounds-spline_colors-count
 slice_bounds-spline_colors-count c = search rules
 
 pub slice_bounds-spline_colors-start : goal.slice_bounds-spline_colors-start
-slice_bounds-spline_colors-start c = sub-spline-colors c
+slice_bounds-spline_colors-start c = slice_bounds-spline_colors-count c
 
 pub slice_bounds-spline_colors-count-2 : goal.slice_bounds-spline_colors-count-2
 slice_bounds-spline_colors-count-2 c = search rules
 
 pub slice_bounds-spline_colors-start-2 : goal.slice_bounds-spline_colors-start-2
-slice_bounds-spline_colors-start-2 c = sub-spline-colors-2 c
+slice_bounds-spline_colors-start-2 c = slice_bounds-spline_colors-count-2 c
 
 pub slice_bounds-spline_colors-count-3 : goal.slice_bounds-spline_colors-count-3
-slice_bounds-spline_colors-count-3 c = sub-spline-colors c.before.before
+slice_bounds-spline_colors-count-3 c = slice_bounds-spline_colors-count (goal.at.slice_bounds-spline_colors-count-3 c).After-slice_known-1
 
 pub slice_bounds-spline_colors-start-3 : goal.slice_bounds-spline_colors-start-3
-slice_bounds-spline_colors-start-3 c = sub-spline-colors-3 c
+slice_bounds-spline_colors-start-3 c = slice_bounds-spline_colors-count-3 c
 
 pub slice_bounds-spline_colors-count-4 : goal.slice_bounds-spline_colors-count-4
 slice_bounds-spline_colors-count-4 c = search rules
 
 pub slice_bounds-spline_colors-start-4 : goal.slice_bounds-spline_colors-start-4
-slice_bounds-spline_colors-start-4 c = sub-spline-colors-4 c
-
-module _ (c : After-slice_known-1) where
-  abbrev start : Start
-  start = c.before.before.before.before
+slice_bounds-spline_colors-start-4 c = slice_bounds-spline_colors-count-4 c
 
 pub spline_colors-requires : goal.spline_colors-requires
 spline_colors-requires c =
-    let start = start c.before.before.before.before in
-    let a = start.args in
-    (part-matching start.requires.part, mid_len a.to a.next a.colors.now start.requires.next_value.1 ∙ omega (arith, start.requires.next_value.0))
+    let a = c.args in
+    (part-matching c.requires.part, mid_len a.to a.next a.colors.now c.requires.next_value.1 ∙ omega (arith, c.requires.next_value.0))
 
 pub shape_of-colors : goal.shape_of-colors
 shape_of-colors c = c.colors-1.given.1
 
 pub returns : goal.returns
 returns c =
-    let called = c.before.before in
-    let start = start called.before.before.before.before.before in
-    let a = start.args in
+    let a = c.args in
     let splines = spline_colors a.strategy a.pen (part a.kinds.now a.points.now a.flags.now a.at a.end) in
-    let held = rw (edges-between a.at a.end a.kinds.now a.points.now start.requires.part.start) at called.spline_colors.ensures in
-    let part-long = mid_len a.to a.next a.colors.now start.requires.next_value.1 in
+    let held = rw (edges-between a.at a.end a.kinds.now a.points.now c.requires.part.start) at c.spline_colors.ensures in
+    let part-long = mid_len a.to a.next a.colors.now c.requires.next_value.1 in
     let long : length (map bits_of splines.colors) ≡ a.next - a.to =
-    sym (ap length held.colors_are) ∙ called.spline_colors.auto.colors ∙ part-long in
+    sym (ap length held.colors_are) ∙ c.spline_colors.auto.colors ∙ part-long in
     record {
       colors_are = rw held.colors_are
           (part_front a.to (a.next - a.to) a.next (map bits_of splines.colors) _
-          a.colors.now long (omega (arith, start.requires.next_value.1)) (omega (arith, start.requires.next_value.0)));
+          a.colors.now long (omega (arith, c.requires.next_value.1)) (omega (arith, c.requires.next_value.0)));
       pen_is = held.pen_is;
     }

@@ -17,7 +17,7 @@ use Rattle.coloring.specs.Outline.{edges_of}
 use Rattle.coloring.proofs.outline.CutLaws.{none_passed, next_fits, next-passed, cornered-step, cornered_end, left_step, left_end}
 use Rattle.coloring.proofs.values.shape_colors.Invariants.{color_bytes, Coloring}
 use Rattle.coloring.proofs.values.shape_colors.Goals as goal
-use Rattle.coloring.proofs.values.shape_colors.Goals.{After-part_splines, At-loop-i, In-loop-i, Start}
+use Rattle.coloring.proofs.values.shape_colors.Goals.{After-part_splines, In-loop-i}
 
 module _ (strategy : Strategy) (lengths : List ℕ) (xs : List EdgeSegment) (flags : List Bool) (pen₀ : Pen) (n m : ℕ) (colors : List ℕ) (pen : Pen) (at to i : ℕ)
     (s : Coloring strategy lengths xs flags pen₀ n m colors pen at to i) (h : i < length lengths) where
@@ -39,54 +39,40 @@ module _ (strategy : Strategy) (lengths : List ℕ) (xs : List EdgeSegment) (fla
               cornered-step lengths xs flags i at h,
               held.colors_are,
               held.pen_is,
-              map-append bits_of (spline_colors strategy pen here).colors-1 _,
+              map-append bits_of (spline_colors strategy pen here).colors _,
               append_assoc,
             );
       }
 
--- the start, from the loop on
-abbrev begun : At-loop-i → Start
-begun c =
-    let known = c.before.before in
-    known.before.before.before.before.before
-
 -- the next contour lies within the edges
 module _ (c : In-loop-i) where
-  abbrev start : Start
-  start = begun c.before
-
   abbrev n : ℕ
-  n = get_or start.args.lengths.now c.loop-i.i 0
+  n = get_or c.args.lengths.now c.loop-i.i 0
 
-  room : c.loop-i.at + n ≤ length start.args.kinds.now
+  room : c.loop-i.at + n ≤ length c.args.kinds.now
   room = next_fits _ _ _ _ c.loop-i.invariant.passed c.loop-i-test.true
 
   -- its flags
   abbrev part : List Bool
-  part = take n (drop c.loop-i.at start.args.flags.now)
+  part = take n (drop c.loop-i.at c.args.flags.now)
 
   whole : c.loop-i.at + n - c.loop-i.at ≡ n
   whole = omega arith
 
 module _ (c : After-part_splines) where
-  abbrev turn : In-loop-i
-  turn = c.before.before
-
   -- its splines, and places for them
-  counted : c.part_splines.result ≡ spline_count (part turn)
-  counted = rw (whole turn) at c.part_splines.ensures
+  counted : c.part_splines.result ≡ spline_count (part (goal.at.After-part_splines c).In-loop-i)
+  counted = rw (whole (goal.at.After-part_splines c).In-loop-i) at c.part_splines.ensures
 
-  fit : turn.loop-i.to + c.part_splines.result ≤ length turn.loop-i.colors
+  fit : c.loop-i.to + c.part_splines.result ≤ length c.loop-i.colors
   fit =
-      let s = turn.loop-i in
-      let a = (start turn).args in
-      omega (arith, counted, s.inv.long, s.inv.splines, left_step spline_count a.lengths.now a.flags.now s.i s.at turn.loop-i-test.taken)
+      let s = c.loop-i in
+      let a = c.args in
+      omega (arith, counted, s.inv.long, s.inv.splines, left_step spline_count a.lengths.now a.flags.now s.i s.at c.loop-i-test.true)
 
 pub loop-i-init : goal.loop-i-init
 loop-i-init c =
-    let known = c.before in
-    let start = known.before.before.before.before.before in
-    record { passed = none_passed _ _ start.requires.cut.whole; long = refl; splines = omega (arith, start.requires.colors_len); bytes = refl }
+    record { passed = none_passed _ _ c.requires.cut.whole; long = refl; splines = omega (arith, c.requires.colors_len); bytes = refl }
 
 pub offset_bounds-lengths-i : goal.offset_bounds-lengths-i
 offset_bounds-lengths-i c = omega arith
@@ -95,41 +81,33 @@ pub bounds-lengths-i : goal.bounds-lengths-i
 bounds-lengths-i c = omega arith
 
 pub overflow_cast-end : goal.overflow_cast-end
-overflow_cast-end c = omega (arith, room c.before, (start c.before).requires.cut.matching.few)
+overflow_cast-end c = omega (arith, room (goal.at.overflow_cast-end c).In-loop-i, c.requires.cut.matching.few)
 
 pub overflow_add-end : goal.overflow_add-end
-overflow_add-end c = omega (arith, room c.before, (start c.before).requires.cut.matching.few)
+overflow_add-end c = omega (arith, room (goal.at.overflow_add-end c).In-loop-i, c.requires.cut.matching.few)
 
 pub part_splines-requires : goal.part_splines-requires
-part_splines-requires c = (omega arith, omega (arith, room c.before, (start c.before).requires.cut.matching.flagged))
+part_splines-requires c = (omega arith, omega (arith, room (goal.at.part_splines-requires c).In-loop-i, c.requires.cut.matching.flagged))
 
 pub overflow_add-next : goal.overflow_add-next
-overflow_add-next c = omega (arith, fit c, (turn c).loop-i.invariant.long, (start (turn c)).good)
+overflow_add-next c = omega (arith, fit c, c.loop-i.invariant.long, c.well_formed)
 
 pub part_colors-pen-requires : goal.part_colors-pen-requires
 part_colors-pen-requires c =
-    let splines = c.before in
-    let turn = turn splines in (
-      record { matching = (start turn).requires.cut.matching; start = omega arith; inside = room turn },
-      (ap (λ k. turn.loop-i.to + k) splines.part_splines.ensures, fit splines),
-    )
+    record { part = record { matching = c.requires.cut.matching; start = omega arith; inside = room (goal.at.part_colors-pen-requires c).In-loop-i }; next_value = (ap (λ k. c.loop-i.to + k) c.part_splines.ensures, fit (goal.at.part_colors-pen-requires c).After-part_splines) }
 
 pub overflow_add-i : goal.overflow_add-i
 overflow_add-i c =
-    let turn = turn c.before.before.before.before in
-    omega (arith, turn.loop-i-test.taken, (start turn).good)
+    omega (arith, c.loop-i-test.true, c.well_formed)
 
 pub loop-i-smaller : goal.loop-i-smaller
 loop-i-smaller c = omega arith
 
 pub loop-i-preserved : goal.loop-i-preserved
 loop-i-preserved c =
-    let done = c.before.before in
-    let splines = done.before.before in
-    let turn = turn splines in
-    let s = turn.loop-i in
-    coloring-next _ _ _ _ _ _ _ _ _ _ _ _ s.inv turn.loop-i-test.taken (counted splines) done.part_colors-pen.auto.colors
-    (rw (whole turn) at done.part_colors-pen.ensures)
+    let s = c.loop-i in
+    coloring-next _ _ _ _ _ _ _ _ _ _ _ _ s.inv c.loop-i-test.true (counted (goal.at.loop-i-preserved c).After-part_splines) c.part_colors-pen.auto.colors
+    (rw (whole (goal.at.loop-i-preserved c).In-loop-i) at c.part_colors-pen.ensures)
 
 pub shape_of-colors : goal.shape_of-colors
 shape_of-colors c = c.loop-i.invariant.long
@@ -137,8 +115,7 @@ shape_of-colors c = c.loop-i.invariant.long
 pub returns : goal.returns
 unfolding shape_colors
 returns c =
-    let start = begun c.before in
-    let a = start.args in
+    let a = c.args in
     let xs = edges_of a.kinds.now a.points.now in
     let s = c.loop-i in
     let end = c.loop-i-test.false in

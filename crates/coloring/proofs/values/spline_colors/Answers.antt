@@ -8,53 +8,39 @@ use Rattle.coloring.specs.Outline.{whole}
 use Rattle.coloring.proofs.splines.PaintLaws.{splines-many}
 use Rattle.coloring.proofs.values.ColorLaws.{colors-few, colors_simple, colors_ink_trap}
 use Rattle.coloring.proofs.values.spline_colors.Goals as goal
-use Rattle.coloring.proofs.values.spline_colors.Goals.{After-count_corners, Else-count_corners-lt2, Start, Then-count_corners-lt2}
+use Rattle.coloring.proofs.values.spline_colors.Goals.{Else-count_corners-lt2, Start, Then-count_corners-lt2}
 
 abbrev contour : Start → Cornered
 contour c = whole c.args.kinds.now c.args.points.now c.args.flags.now
 
-module _ (c : After-count_corners) where
-  abbrev start : Start
-  start = c.before.before.before.before.before
-
-few : (c : Then-count_corners-lt2) → corner_count (start c.before).args.flags.now < 2
+few : (c : Then-count_corners-lt2) → corner_count c.args.flags.now < 2
 few c = rw (← c.count_corners.ensures) c.if-count_corners-lt2.true
 
-many : (c : Else-count_corners-lt2) → 2 ≤ corner_count (start c.before).args.flags.now
+many : (c : Else-count_corners-lt2) → 2 ≤ corner_count c.args.flags.now
 many c = rw (← c.count_corners.ensures) c.if-count_corners-lt2.false
 
-size : (c : Else-count_corners-lt2) → length (start c.before).args.colors.now ≡ corner_count (start c.before).args.flags.now
+size : (c : Else-count_corners-lt2) → length c.args.colors.now ≡ corner_count c.args.flags.now
 size c =
-    let s = start c.before in
-    s.requires.1 ∙ splines-many s.args.flags.now (many c)
+    c.requires.1 ∙ splines-many c.args.flags.now (many c)
 
 pub returns-then-count_corners-lt2 : goal.returns-then-count_corners-lt2
 returns-then-count_corners-lt2 c =
-    let branch = c.before.before.before.before in
-    let s = start branch.before in
-    rw (colors-few s.args.strategy s.args.pen (contour s) (few branch), ← s.requires.1)
+    rw (colors-few c.args.strategy c.args.pen (contour (goal.at.returns-then-count_corners-lt2 c).Start) (few (goal.at.returns-then-count_corners-lt2 c).Then-count_corners-lt2), ← c.requires.1)
     c.switch_each.ensures
 
 pub simple_colors-requires : goal.simple_colors-requires
-simple_colors-requires c = omega (arith, size c.before.before.before, many c.before.before.before)
+simple_colors-requires c = omega (arith, size (goal.at.simple_colors-requires c).Else-count_corners-lt2, many (goal.at.simple_colors-requires c).Else-count_corners-lt2)
 
 pub ink_trap_colors-requires : goal.ink_trap_colors-requires
 ink_trap_colors-requires c =
-    let branch = c.before.before.before in
-    ((start branch.before).requires.0, many branch, size branch)
+    (c.requires.0, many (goal.at.ink_trap_colors-requires c).Else-count_corners-lt2, size (goal.at.ink_trap_colors-requires c).Else-count_corners-lt2)
 
 pub returns-in-Simple : goal.returns-in-Simple
 returns-in-Simple c =
-    let told = c.before.before.before.before in
-    let branch = told.before.before in
-    let start = start branch.before in
-    rw (colors_simple start.args.strategy start.args.pen (contour start) told.in-Simple.is (many branch), ← size branch)
+    rw (colors_simple c.args.strategy c.args.pen (contour (goal.at.returns-in-Simple c).Start) c.in-Simple.is (many (goal.at.returns-in-Simple c).Else-count_corners-lt2), ← size (goal.at.returns-in-Simple c).Else-count_corners-lt2)
     c.simple_colors.ensures
 
 pub returns-in-InkTrap : goal.returns-in-InkTrap
 returns-in-InkTrap c =
-    let told = c.before.before.before.before in
-    let branch = told.before.before in
-    let start = start branch.before in
-    rw (colors_ink_trap start.args.strategy start.args.pen (contour start) told.in-InkTrap.is (many branch))
+    rw (colors_ink_trap c.args.strategy c.args.pen (contour (goal.at.returns-in-InkTrap c).Start) c.in-InkTrap.is (many (goal.at.returns-in-InkTrap c).Else-count_corners-lt2))
     c.ink_trap_colors.ensures

@@ -23,7 +23,7 @@ use Rattle.coloring.specs.Outline.{edges_of}
 use Rattle.coloring.proofs.shape.DeliverLaws.{splines-cut}
 use Rattle.coloring.proofs.spline_colors.CheckLaws.{splines_answered}
 use Rattle.coloring.proofs.values.spline_values.Goals as goal
-use Rattle.coloring.proofs.values.spline_values.Goals.{After-slice_known-1, Start}
+use Rattle.coloring.proofs.values.spline_values.Goals.{After-slice_known-1}
 
 -- the answer and the bytes for n splines of the contours found
 module _ (distances : List Float) (found : List Cornered) (n : ℕ) (sized : n ≡ spline_total found) where
@@ -56,43 +56,25 @@ module _ (distances : List Float) (found : List Cornered) (n : ℕ) (sized : n �
         )
 
 module _ (c : After-slice_known-1) where
-  abbrev start : Start
-  start =
-      let first = c.before.before.before in
-      first.before.before.before
-
   abbrev found : List Cornered
-  found = cornered start.args.lengths.now (edges_of start.args.kinds.now start.args.points.now) start.args.flags.now
+  found = cornered c.args.lengths.now (edges_of c.args.kinds.now c.args.points.now) c.args.flags.now
 
-  size : length start.args.values.now ≡ spline_total found
-  size = start.requires.values_len ∙ sym (splines-cut start.args.lengths.now _ start.args.flags.now)
+  size : length c.args.values.now ≡ spline_total found
+  size = c.requires.values_len ∙ sym (splines-cut c.args.lengths.now _ c.args.flags.now)
 
 pub returns-then-values-gt-MAX_SPLINES : goal.returns-then-values-gt-MAX_SPLINES
 returns-then-values-gt-MAX_SPLINES c =
-    let told = c.before in
-    let known = told.before.before in
-    too_many (start known).args.distances.now (found known) _ (size known) told.in-Numbers.is c.if-values-gt-MAX_SPLINES.true
+    too_many c.args.distances.now (found (goal.at.returns-then-values-gt-MAX_SPLINES c).After-slice_known-1) _ (size (goal.at.returns-then-values-gt-MAX_SPLINES c).After-slice_known-1) c.in-Numbers.is c.if-values-gt-MAX_SPLINES.true
 
 pub returns-in-Colors : goal.returns-in-Colors
 returns-in-Colors c =
-    let colored = c.before.before in
-    let told = colored.before.before.before in
-    let known = told.before.before in
-    by_colors (start known).args.distances.now (found known) _ (size known) told.in-Colors.is colored.shape_colors.ensures
+    by_colors c.args.distances.now (found (goal.at.returns-in-Colors c).After-slice_known-1) _ (size (goal.at.returns-in-Colors c).After-slice_known-1) c.in-Colors.is c.shape_colors.ensures
 
 pub returns-else-values-gt-MAX_SPLINES : goal.returns-else-values-gt-MAX_SPLINES
 returns-else-values-gt-MAX_SPLINES c =
-    let counted = c.before.before in
-    let few = counted.before.before in
-    let told = few.before in
-    let known = told.before.before in
-    by_numbers (start known).args.distances.now (found known) _ (size known) told.in-Numbers.is few.if-values-gt-MAX_SPLINES.false counted.count_up.ensures
+    by_numbers c.args.distances.now (found (goal.at.returns-else-values-gt-MAX_SPLINES c).After-slice_known-1) _ (size (goal.at.returns-else-values-gt-MAX_SPLINES c).After-slice_known-1) c.in-Numbers.is c.if-values-gt-MAX_SPLINES.false c.count_up.ensures
 
 pub returns-in-Distances : goal.returns-in-Distances
 returns-in-Distances c =
-    let bytes = c.before.before in
-    let colored = bytes.before.before.before.before in
-    let told = colored.before.before.before in
-    let known = told.before.before in
-    by_distances (start known).args.distances.now (found known) _ (size known) _ told.in-Distances.is refl colored.color_splines-checked.ensures
-    bytes.color_numbers.ensures
+    by_distances c.args.distances.now (found (goal.at.returns-in-Distances c).After-slice_known-1) _ (size (goal.at.returns-in-Distances c).After-slice_known-1) _ c.in-Distances.is refl c.color_splines-checked.ensures
+    c.color_numbers.ensures

@@ -48,24 +48,21 @@ loop-i-smaller c = omega arith
 
 pub loop-i-preserved : goal.loop-i-preserved
 loop-i-preserved c =
-    let at = c.before.before.before.before in
-    let start = at.before.before.before in
-    let bytes = start.args.bytes.now in
-    let old = start.args.to.now in
-    let i = at.loop-i.i in
-    let n = start.args.n in
+    let bytes = c.args.bytes.now in
+    let old = c.args.to.now in
+    let i = c.loop-i.i in
+    let n = c.args.n in
     let e : 8 * i + 8 - 8 * i ≡ 8 = omega arith in
     let value : c.float.result ≡ get_or (floats (words n bytes)) i nan =
     c.float.ensures ∙ ap (of_bits binary64) (c.number.ensures ∙ rw e) ∙ sym (floats_at n i bytes nan (omega arith)) in
     let more = over-next (floats (words n bytes)) old i nan (omega (arith, floats-length n bytes)) (omega (arith, floats-length n bytes)) in
-    (omega arith, rw length-set at.loop-i.invariant.1, rw (value, at.loop-i.invariant.2, add-one) more)
+    (omega arith, rw length-set c.loop-i.invariant.1, rw (value, c.loop-i.invariant.2, add-one) more)
 
 pub shape_of-to : goal.shape_of-to
 shape_of-to c = c.loop-i.invariant.1
 
 pub returns : goal.returns
 returns c =
-    let start = c.before.before.before.before in
-    let all = floats (words start.args.n start.args.bytes.now) in
-    c.loop-i.invariant.2 ∙ ap (λ (x : List Float). over x start.args.to.now)
-    (take_all c.loop-i.i all (omega (arith, floats-length start.args.n start.args.bytes.now)))
+    let all = floats (words c.args.n c.args.bytes.now) in
+    c.loop-i.invariant.2 ∙ ap (λ (x : List Float). over x c.args.to.now)
+    (take_all c.loop-i.i all (omega (arith, floats-length c.args.n c.args.bytes.now)))

@@ -10,41 +10,32 @@ use Rattle.job.specs.Color.{check_file, accept_job}
 use Rattle.coloring.specs.Outline.{colored_answer}
 use Rattle.job.proofs.color.AcceptLaws.{accept_plain, accept_edges, accept_refused, accept_unread}
 use Rattle.job.proofs.color.accept.Goals as goal
-use Rattle.job.proofs.color.accept.Goals.{After-by_distance, After-scan, In-Job-2}
+use Rattle.job.proofs.color.accept.Goals.{After-scan, In-Job-2}
 
 -- a file that was read
 abbrev file : After-scan → List ℕ
 file c = c.args.file.now
 
-abbrev read_at : After-by_distance → In-Job-2
-read_at c = c.before.before.before
-
-abbrev scanned : After-by_distance → After-scan
-scanned c = (read_at c).before.before
-
-numbers_are : (c : In-Job-2) → gives c.in-Job.n ≡ answer_of (read_job (file c.before.before))
+numbers_are : (c : In-Job-2) → gives c.in-Job.n ≡ answer_of (read_job (file (goal.at.In-Job-2 c).After-scan))
 numbers_are c = sym (ap read_answer c.in-Job.is) ∙ c.scan.ensures
 
 pub returns-then-not-by_distance : goal.returns-then-not-by_distance
 unfolding accept_job
-returns-then-not-by_distance c = accept_plain (read_job (file (scanned c.before))) _ (numbers_are (read_at c.before))
+returns-then-not-by_distance c = accept_plain (read_job (file (goal.at.returns-then-not-by_distance c).After-scan)) _ (numbers_are (goal.at.returns-then-not-by_distance c).In-Job-2)
     (sym c.by_distance.ensures ∙ not-true c.by_distance.result c.if-not-by_distance.true-raw)
 
 pub returns-in-Edges : goal.returns-in-Edges
 unfolding accept_job check_file
 returns-in-Edges c =
-    let checked = c.before.before in
-    accept_edges (read_job (file (scanned checked.before.before))) _ _ (numbers_are (read_at checked.before.before))
-    (sym (ap colored_answer c.in-Edges.is) ∙ checked.check.ensures)
+    accept_edges (read_job (file (goal.at.returns-in-Edges c).After-scan)) _ _ (numbers_are (goal.at.returns-in-Edges c).In-Job-2)
+    (sym (ap colored_answer c.in-Edges.is) ∙ c.check.ensures)
 
 pub returns-in-Refused-check : goal.returns-in-Refused-check
 unfolding accept_job check_file
 returns-in-Refused-check c =
-    let checked = c.before.before.before in
-    accept_refused (read_job (file (scanned checked.before.before))) _ (sym (ap colored_answer c.in-Refused-check.is) ∙ checked.check.ensures)
+    accept_refused (read_job (file (goal.at.returns-in-Refused-check c).After-scan)) _ (sym (ap colored_answer c.in-Refused-check.is) ∙ c.check.ensures)
 
 pub returns-in-Refused : goal.returns-in-Refused
 unfolding accept_job
 returns-in-Refused c =
-    let scanned = c.before.before.before in
-    accept_unread (read_job (file scanned)) _ (sym (ap read_answer c.in-Refused.is) ∙ scanned.scan.ensures)
+    accept_unread (read_job (file (goal.at.returns-in-Refused c).After-scan)) _ (sym (ap read_answer c.in-Refused.is) ∙ c.scan.ensures)

@@ -18,13 +18,10 @@ only ByDistance h = refl
 
 pub check_by_distance-requires : goal.check_by_distance-requires
 check_by_distance-requires c =
-    let job-borrowed = c.before.before.before.before in
-    let asked = job-borrowed.before.before.before.before in
-    let tested = asked.before in
-    let at = tested.before.before.before in (
+    (
       record {
-        numbers_are = sym (ap read_answer at.in-Job.is) ∙ at.scan.ensures;
-        asks = only _ (sym tested.by_distance.ensures ∙ asked.if-by_distance.true);
+        numbers_are = sym (ap read_answer c.in-Job.is) ∙ c.scan.ensures;
+        asks = only _ (sym c.by_distance.ensures ∙ c.if-by_distance.true);
       },
       (
         record { lengths_fit = omega arith; kinds_fit = omega arith; points_fit = omega arith; distances_fit = omega arith },
@@ -34,12 +31,9 @@ check_by_distance-requires c =
 
 pub returns-then-by_distance : goal.returns-then-by_distance
 returns-then-by_distance c =
-    let job-back = c.before.before.before.before in
-    let counted = job-back.before.before.before.before in
-    counted.check_by_distance.ensures
+    c.check_by_distance.ensures
 
 pub returns : goal.returns
 returns c =
-    let colored = c.before.before.before.before in
-    ap (λ (o : Outcome). o.answer) colored.color.ensures
+    ap (λ (o : Outcome). o.answer) c.color.ensures
     ∙ color-answer _ _ (record { lengths_fit = omega arith; kinds_fit = omega arith; points_fit = omega arith; colors_fit = omega arith })

@@ -1,5 +1,5 @@
 use mathlib.Core.Path.{◌≡◌, refl, ◌∙◌}
-use mathlib.Core.List.{List, ◌++◌}
+use mathlib.Core.List.{List, [], ◌++◌}
 use Prim.Native.Nat.{ℕ, ◌+◌}
 use native.Mathlib.Omega.{arith}
 use lib.ListN.{drop, get_or, drop_of_length-le}
@@ -7,27 +7,21 @@ use Rattle.job.specs.Listing.{edge_line, contour_lines}
 use Rattle.job.proofs.listing.ListingLaws.{contour-step}
 use Rattle.job.proofs.listing.PasteLaws.{pasting_begin, pasting_room, pasting_next, pasting_end}
 use Rattle.job.proofs.listing.put_contour.Goals as goal
-use Rattle.job.proofs.listing.put_contour.Goals.{At-loop-i, In-loop-i, Start}
+use Rattle.job.proofs.listing.put_contour.Goals.{In-loop-i}
 
 -- the line at place i, and those after it
 module _ (c : In-loop-i) where
-  abbrev at : At-loop-i
-  at = c.before
-
-  abbrev start : Start
-  start = at.before.before.before.before
-
   abbrev i : ℕ
-  i = at.loop-i.i
+  i = c.loop-i.i
 
   abbrev here : List ℕ
-  here = edge_line start.args.contour i (get_or start.args.kinds.now i 0) (get_or start.args.colors.now i 0)
+  here = edge_line c.args.contour i (get_or c.args.kinds.now i 0) (get_or c.args.colors.now i 0)
 
   abbrev rest : List ℕ
-  rest = contour_lines start.args.contour (i + 1) (drop (i + 1) start.args.kinds.now) (drop (i + 1) start.args.colors.now)
+  rest = contour_lines c.args.contour (i + 1) (drop (i + 1) c.args.kinds.now) (drop (i + 1) c.args.colors.now)
 
-  step : contour_lines start.args.contour i (drop i start.args.kinds.now) (drop i start.args.colors.now) ≡ here ++ rest
-  step = contour-step start.args.contour i start.args.kinds.now start.args.colors.now c.loop-i-test.true start.requires.contour_bound.2
+  step : contour_lines c.args.contour i (drop i c.args.kinds.now) (drop i c.args.colors.now) ≡ here ++ rest
+  step = contour-step c.args.contour i c.args.kinds.now c.args.colors.now c.loop-i-test.true c.requires.contour_bound.2
 
 pub loop-i-init : goal.loop-i-init
 loop-i-init c = (omega arith, refl, pasting_begin _ _ _ c.requires.colors_in_bounds)
@@ -40,8 +34,7 @@ bounds-colors-i c = omega arith
 
 pub put_line-next-requires : goal.put_line-next-requires
 put_line-next-requires c =
-    let l = c.before.before.before in
-    ((start l).requires.contour_bound.0, omega (arith, (start l).requires.contour_bound.1), pasting_room (here l) (rest l) (step l) (at l).loop-i.invariant.2)
+    (c.requires.contour_bound.0, omega (arith, c.requires.contour_bound.1), pasting_room (here (goal.at.put_line-next-requires c).In-loop-i) (rest (goal.at.put_line-next-requires c).In-loop-i) (step (goal.at.put_line-next-requires c).In-loop-i) c.loop-i.invariant.2)
 
 pub overflow_add-i : goal.overflow_add-i
 overflow_add-i c = omega arith
@@ -51,11 +44,10 @@ loop-i-smaller c = omega arith
 
 pub loop-i-preserved : goal.loop-i-preserved
 loop-i-preserved c =
-    let line = c.before.before in
-    let l = line.before.before.before.before in (
+    (
       omega arith,
-      line.put_line-next.auto.out ∙ (at l).loop-i.invariant.1,
-      pasting_next (here l) (rest l) (step l) (at l).loop-i.invariant.2 line.put_line-next.ensures,
+      c.put_line-next.auto.out ∙ c.loop-i.invariant.1,
+      pasting_next (here (goal.at.loop-i-preserved c).In-loop-i) (rest (goal.at.loop-i-preserved c).In-loop-i) (step (goal.at.loop-i-preserved c).In-loop-i) c.loop-i.invariant.2 c.put_line-next.ensures,
     )
 
 pub shape_of-out : goal.shape_of-out
@@ -64,6 +56,5 @@ shape_of-out c = c.loop-i.invariant.1
 pub returns : goal.returns
 unfolding contour_lines
 returns c =
-    let start = c.before.before.before.before.before in
-    let none : drop c.loop-i.i start.args.kinds.now ≡ [] = drop_of_length-le start.args.kinds.now {i = c.loop-i.i} (omega arith) in
+    let none : drop c.loop-i.i c.args.kinds.now ≡ [] = drop_of_length-le c.args.kinds.now {i = c.loop-i.i} (omega arith) in
     pasting_end (rw none at c.loop-i.invariant.2)

@@ -1,6 +1,6 @@
 -- `job::listing::put_decimal` meets its contract, by the number of digits.
 use mathlib.Core.Path.{◌≡◌, ap, subst}
-use mathlib.Core.List.{List, ◌∷◌}
+use mathlib.Core.List.{List, [], ◌∷◌}
 use Prim.Native.Nat.{ℕ, ◌/◌, ◌%◌}
 use native.Mathlib.Omega.{arith}
 use lib.ListN.{length}
@@ -27,72 +27,48 @@ three : (c : Else-n-lt100) → decimal c.args.n
 three c = decimal_three c.args.n c.if-n-lt100.false c.requires.0
 
 pub put-requires : goal.put-requires
-put-requires c = omega (arith, ap length (one c.before.before), c.requires.1)
+put-requires c = omega (arith, ap length (one (goal.at.put-requires c).Then-n-lt10), c.requires.1)
 
 pub returns-then-n-lt10 : goal.returns-then-n-lt10
-returns-then-n-lt10 c = rw (one c.before.before.before.before.before) (written c.digit.ensures c.put.ensures)
+returns-then-n-lt10 c = rw (one (goal.at.returns-then-n-lt10 c).Then-n-lt10) (written c.digit.ensures c.put.ensures)
 
 pub put-second-requires : goal.put-second-requires
-put-second-requires c = omega (arith, ap length (two c.before.before), c.requires.1)
+put-second-requires c = omega (arith, ap length (two (goal.at.put-second-requires c).Then-n-lt100), c.requires.1)
 
 pub put-requires-then-n-lt100 : goal.put-requires-then-n-lt100
 put-requires-then-n-lt100 c =
-    let put = c.before.before.before.before in
-    let place = put.before.before.before in
-    let start = place.before.before.before in
-    omega (arith, ap length (two place), start.requires.1, put.put-second.ensures.place, put.put-second.auto.out)
+    omega (arith, ap length (two (goal.at.put-requires-then-n-lt100 c).Then-n-lt100), c.requires.1, c.put-second.ensures.place, c.put-second.auto.out)
 
 pub returns-then-n-lt100 : goal.returns-then-n-lt100
 returns-then-n-lt100 c =
-    let put2 = c.before.before in
-    let digit2 = put2.before in
-    let put = digit2.before.before.before.before in
-    let digit = put.before in
-    let place = digit.before.before in
-    let start = place.before.before.before in
-    rw (two place)
-    (pasted_then (written digit.digit-then-n-lt100.ensures put.put-second.ensures)
-    (written digit2.digit-then-n-lt100-2.ensures put2.put-then-n-lt100.ensures) (omega (arith, ap length (two place), start.requires.1)))
+    rw (two (goal.at.returns-then-n-lt100 c).Then-n-lt100)
+    (pasted_then (written c.digit-then-n-lt100.ensures c.put-second.ensures)
+    (written c.digit-then-n-lt100-2.ensures c.put-then-n-lt100.ensures) (omega (arith, ap length (two (goal.at.returns-then-n-lt100 c).Then-n-lt100), c.requires.1)))
 
 pub put-second-requires-2 : goal.put-second-requires-2
-put-second-requires-2 c = omega (arith, ap length (three c.before.before), c.requires.1)
+put-second-requires-2 c = omega (arith, ap length (three (goal.at.put-second-requires-2 c).Else-n-lt100), c.requires.1)
 
 pub put-third-requires : goal.put-third-requires
 put-third-requires c =
-    let put = c.before.before.before.before in
-    let place = put.before.before.before in
-    let start = place.before.before.before in
-    omega (arith, ap length (three place), start.requires.1, put.put-second-2.ensures.place, put.put-second-2.auto.out)
+    omega (arith, ap length (three (goal.at.put-third-requires c).Else-n-lt100), c.requires.1, c.put-second-2.ensures.place, c.put-second-2.auto.out)
 
 pub put-requires-2 : goal.put-requires-2
 put-requires-2 c =
-    let put2 = c.before.before.before.before in
-    let put = put2.before.before.before.before.before in
-    let place = put.before.before.before in
-    let start = place.before.before.before in
     omega (
       arith,
-      ap length (three place),
-      start.requires.1,
-      put.put-second-2.ensures.place,
-      put.put-second-2.auto.out,
-      put2.put-third.ensures.place,
-      put2.put-third.auto.out,
+      ap length (three (goal.at.put-requires-2 c).Else-n-lt100),
+      c.requires.1,
+      c.put-second-2.ensures.place,
+      c.put-second-2.auto.out,
+      c.put-third.ensures.place,
+      c.put-third.auto.out,
     )
 
 pub returns : goal.returns
 returns c =
-    let put3 = c.before.before in
-    let digit3 = put3.before in
-    let put2 = digit3.before.before.before.before in
-    let digit2 = put2.before in
-    let put = digit2.before.before.before.before in
-    let digit = put.before in
-    let place = digit.before.before in
-    let start = place.before.before.before in
-    let long = three place in
-    let room = start.requires.1 in
+    let long = three (goal.at.returns c).Else-n-lt100 in
+    let room = c.requires.1 in
     rw long
-    (pasted_then (pasted_then (written digit.digit-2.ensures put.put-second-2.ensures) (written digit2.digit-3.ensures put2.put-third.ensures)
+    (pasted_then (pasted_then (written c.digit-2.ensures c.put-second-2.ensures) (written c.digit-3.ensures c.put-third.ensures)
     (omega (arith, ap length long)))
-    (written digit3.digit-4.ensures put3.put-2.ensures) (omega (arith, ap length long)))
+    (written c.digit-4.ensures c.put-2.ensures) (omega (arith, ap length long)))

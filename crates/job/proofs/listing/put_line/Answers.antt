@@ -1,6 +1,6 @@
 -- `job::listing::put_line` meets its contract, field by field.
 use mathlib.Core.Path.{◌≡◌, ap, subst, ◌∙◌}
-use mathlib.Core.List.{List, ◌∷◌, ◌++◌}
+use mathlib.Core.List.{List, [], ◌∷◌, ◌++◌}
 use Prim.Native.Nat.{ℕ, ◌+◌, ◌≤◌}
 use native.Mathlib.Omega.{arith}
 use lib.ListN.{length, length-append}
@@ -8,7 +8,7 @@ use Rattle.job.specs.Listing.{decimal, letter, space, newline, field, Pasted}
 use Rattle.job.proofs.listing.ListingLaws.{line-length, line_fields, field-length}
 use Rattle.job.proofs.listing.PasteLaws.{pasted_then}
 use Rattle.job.proofs.listing.put_line.Goals as goal
-use Rattle.job.proofs.listing.put_line.Goals.{After-put_field-second, After-put_field-third, Start}
+use Rattle.job.proofs.listing.put_line.Goals.{After-put_field-third, Start}
 
 -- the whole line has room
 module _ (c : Start) where
@@ -26,101 +26,83 @@ module _ (c : Start) where
 
 -- two fields are written
 module _ (c : After-put_field-third) where
-  abbrev one : After-put_field-second
-  one = c.before.before.before.before
-
-  abbrev start : Start
-  start = one.before.before.before
-
-  fields : Pasted (field (contour start) space ++ field (place start) space) start.args.at start.args.out.now c.put_field-third.result
+  fields : Pasted (field (contour (goal.at.After-put_field-third c).Start) space ++ field (place (goal.at.After-put_field-third c).Start) space) c.args.at c.args.out.now c.put_field-third.result
       c.put_field-third.new.out
-  fields = pasted_then one.put_field-second.ensures c.put_field-third.ensures
-      (omega (arith, room start, field-length (contour start) space, field-length (place start) space))
+  fields = pasted_then c.put_field-second.ensures c.put_field-third.ensures
+      (omega (arith, room (goal.at.After-put_field-third c).Start, field-length (contour (goal.at.After-put_field-third c).Start) space, field-length (place (goal.at.After-put_field-third c).Start) space))
 
-  fields_length : length (field (contour start) space ++ field (place start) space) ≡ length (decimal (contour start)) + length (decimal (place start)) + 2
+  fields_length : length (field (contour (goal.at.After-put_field-third c).Start) space ++ field (place (goal.at.After-put_field-third c).Start) space) ≡ length (decimal (contour (goal.at.After-put_field-third c).Start)) + length (decimal (place (goal.at.After-put_field-third c).Start)) + 2
   fields_length = omega (
     arith,
-    length-append (field (contour start) space) (field (place start) space),
-    field-length (contour start) space,
-    field-length (place start) space,
+    length-append (field (contour (goal.at.After-put_field-third c).Start) space) (field (place (goal.at.After-put_field-third c).Start) space),
+    field-length (contour (goal.at.After-put_field-third c).Start) space,
+    field-length (place (goal.at.After-put_field-third c).Start) space,
   )
 
-  kept : length c.put_field-third.new.out ≡ length start.args.out.now
-  kept = omega (arith, c.put_field-third.auto.out, one.put_field-second.kept.0)
+  kept : length c.put_field-third.new.out ≡ length c.args.out.now
+  kept = omega (arith, c.put_field-third.auto.out, c.put_field-second.auto.out)
 
 pub put_field-second-requires : goal.put_field-second-requires
 put_field-second-requires c =
-    let s = c.before.before in
-    (s.requires.0, omega (arith, room s, field-length (contour s) space))
+    (c.requires.0, omega (arith, room (goal.at.put_field-second-requires c).Start, field-length (contour (goal.at.put_field-second-requires c).Start) space))
 
 pub put_field-third-requires : goal.put_field-third-requires
 put_field-third-requires c =
-    let one = c.before.before.before in
-    let s = one.before.before.before in (
-      s.requires.1,
+    (
+      c.requires.1,
       omega (
         arith,
-        room s,
-        field-length (contour s) space,
-        field-length (place s) space,
-        one.put_field-second.ensures.place,
-        one.put_field-second.auto.out,
+        room (goal.at.put_field-third-requires c).Start,
+        field-length (contour (goal.at.put_field-third-requires c).Start) space,
+        field-length (place (goal.at.put_field-third-requires c).Start) space,
+        c.put_field-second.ensures.place,
+        c.put_field-second.auto.out,
       ),
     )
 
 pub put-fourth-requires : goal.put-fourth-requires
 put-fourth-requires c =
-    let two = c.before.before.before.before in
-    omega (arith, room (start two), (fields two).place, fields_length two, kept two)
+    omega (arith, room (goal.at.put-fourth-requires c).Start, (fields (goal.at.put-fourth-requires c).After-put_field-third).place, fields_length (goal.at.put-fourth-requires c).After-put_field-third, kept (goal.at.put-fourth-requires c).After-put_field-third)
 
 pub put-fifth-requires : goal.put-fifth-requires
 put-fifth-requires c =
-    let three = c.before.before.before in
-    let two = three.before.before.before.before.before in
-    omega (arith, room (start two), (fields two).place, fields_length two, kept two, three.put-fourth.ensures.place, three.put-fourth.auto.out)
+    omega (arith, room (goal.at.put-fifth-requires c).Start, (fields (goal.at.put-fifth-requires c).After-put_field-third).place, fields_length (goal.at.put-fifth-requires c).After-put_field-third, kept (goal.at.put-fifth-requires c).After-put_field-third, c.put-fourth.ensures.place, c.put-fourth.auto.out)
 
 pub put_field-requires : goal.put_field-requires
 put_field-requires c =
-    let four = c.before.before.before in
-    let three = four.before.before.before.before in
-    let two = three.before.before.before.before.before in (
-      omega (arith, (start two).ranges.color),
+    (
+      omega (arith, c.ranges.color),
       omega (
         arith,
-        room (start two),
-        (fields two).place,
-        fields_length two,
-        kept two,
-        three.put-fourth.ensures.place,
-        three.put-fourth.auto.out,
-        four.put-fifth.ensures.place,
-        four.put-fifth.auto.out,
-        field-length (color (start two)) newline,
+        room (goal.at.put_field-requires c).Start,
+        (fields (goal.at.put_field-requires c).After-put_field-third).place,
+        fields_length (goal.at.put_field-requires c).After-put_field-third,
+        kept (goal.at.put_field-requires c).After-put_field-third,
+        c.put-fourth.ensures.place,
+        c.put-fourth.auto.out,
+        c.put-fifth.ensures.place,
+        c.put-fifth.auto.out,
+        field-length (color (goal.at.put_field-requires c).Start) newline,
       ),
     )
 
 pub returns : goal.returns
 returns c =
-    let five = c.before.before in
-    let four = five.before.before.before.before in
-    let three = four.before.before.before.before in
-    let two = three.before.before.before.before.before in
-    let s = start two in
-    let old = s.args.out.now in
-    let kind = three.letter.result in
-    let first = field (contour s) space ++ field (place s) space in
-    let lettered : Pasted (first ++ (kind ∷ [])) s.args.at old three.put-fourth.result three.put-fourth.new.out =
-    pasted_then (fields two) three.put-fourth.ensures (omega (arith, room s, fields_length two)) in
-    let spaced : Pasted ((first ++ (kind ∷ [])) ++ (space ∷ [])) s.args.at old four.put-fifth.result four.put-fifth.new.out =
-    pasted_then lettered four.put-fifth.ensures (omega (arith, room s, fields_length two, length-append first (kind ∷ []))) in
-    let all = pasted_then spaced five.put_field.ensures (omega (
+    let old = c.args.out.now in
+    let kind = c.letter.result in
+    let first = field (contour (goal.at.returns c).Start) space ++ field (place (goal.at.returns c).Start) space in
+    let lettered : Pasted (first ++ (kind ∷ [])) c.args.at old c.put-fourth.result c.put-fourth.new.out =
+    pasted_then (fields (goal.at.returns c).After-put_field-third) c.put-fourth.ensures (omega (arith, room (goal.at.returns c).Start, fields_length (goal.at.returns c).After-put_field-third)) in
+    let spaced : Pasted ((first ++ (kind ∷ [])) ++ (space ∷ [])) c.args.at old c.put-fifth.result c.put-fifth.new.out =
+    pasted_then lettered c.put-fifth.ensures (omega (arith, room (goal.at.returns c).Start, fields_length (goal.at.returns c).After-put_field-third, length-append first (kind ∷ []))) in
+    let all = pasted_then spaced c.put_field.ensures (omega (
       arith,
-      room s,
-      fields_length two,
+      room (goal.at.returns c).Start,
+      fields_length (goal.at.returns c).After-put_field-third,
       length-append first (kind ∷ []),
       length-append (first ++ (kind ∷ [])) (space ∷ []),
-      field-length (color s) newline,
+      field-length (color (goal.at.returns c).Start) newline,
     )) in
-    subst (λ (x : List ℕ). Pasted x s.args.at old five.put_field.result five.put_field.new.out)
-    (ap (λ (k : ℕ). ((first ++ (k ∷ [])) ++ (space ∷ [])) ++ field (color s) newline) three.letter.ensures
-    ∙ line_fields (contour s) (place s) s.args.kind (color s)) all
+    subst (λ (x : List ℕ). Pasted x c.args.at old c.put_field.result c.put_field.new.out)
+    (ap (λ (k : ℕ). ((first ++ (k ∷ [])) ++ (space ∷ [])) ++ field (color (goal.at.returns c).Start) newline) c.letter.ensures
+    ∙ line_fields (contour (goal.at.returns c).Start) (place (goal.at.returns c).Start) c.args.kind (color (goal.at.returns c).Start)) all

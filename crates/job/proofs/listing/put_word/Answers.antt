@@ -1,5 +1,5 @@
 use mathlib.Core.Path.{◌≡◌, refl, ◌∙◌}
-use mathlib.Core.List.{List, ◌∷◌, ◌++◌}
+use mathlib.Core.List.{List, [], ◌∷◌, ◌++◌}
 use Prim.Native.Nat.{ℕ, ◌+◌}
 use native.Mathlib.Omega.{arith}
 use native.Mathlib.Numerals.{add-one}
@@ -7,24 +7,21 @@ use lib.ListN.{drop, get_or, drop_of_length-le}
 use lib.Seq.{drop-cons}
 use Rattle.job.proofs.listing.PasteLaws.{pasting_begin, pasting_room, pasting_next, pasting_end}
 use Rattle.job.proofs.listing.put_word.Goals as goal
-use Rattle.job.proofs.listing.put_word.Goals.{At-loop-i, In-loop-i}
+use Rattle.job.proofs.listing.put_word.Goals.{In-loop-i}
 
 -- the byte at place i, and those after it
 module _ (c : In-loop-i) where
-  abbrev at : At-loop-i
-  at = c.before
-
   abbrev word : List ℕ
-  word = at.args.word.now
+  word = c.args.word.now
 
   abbrev here : List ℕ
-  here = get_or word at.loop-i.i 0 ∷ []
+  here = get_or word c.loop-i.i 0 ∷ []
 
   abbrev rest : List ℕ
-  rest = drop (at.loop-i.i + 1) word
+  rest = drop (c.loop-i.i + 1) word
 
-  step : drop at.loop-i.i word ≡ here ++ rest
-  step = rw add-one (drop-cons word at.loop-i.i 0 c.loop-i-test.true)
+  step : drop c.loop-i.i word ≡ here ++ rest
+  step = rw add-one (drop-cons word c.loop-i.i 0 c.loop-i-test.true)
 
 pub loop-i-init : goal.loop-i-init
 loop-i-init c = (omega arith, refl, pasting_begin _ _ _ c.requires)
@@ -34,8 +31,7 @@ bounds-word-i c = omega arith
 
 pub put-next-requires : goal.put-next-requires
 put-next-requires c =
-    let l = c.before.before in
-    let room = pasting_room (here l) (rest l) (step l) (at l).loop-i.invariant.2 in
+    let room = pasting_room (here (goal.at.put-next-requires c).In-loop-i) (rest (goal.at.put-next-requires c).In-loop-i) (step (goal.at.put-next-requires c).In-loop-i) c.loop-i.invariant.2 in
     omega arith
 
 pub overflow_add-i : goal.overflow_add-i
@@ -46,10 +42,10 @@ loop-i-smaller c = omega arith
 
 pub loop-i-preserved : goal.loop-i-preserved
 loop-i-preserved c =
-    let l = c.before.before.before.before.before in (
+    (
       omega arith,
-      c.put-next.auto.out ∙ (at l).loop-i.invariant.1,
-      pasting_next (here l) (rest l) (step l) (at l).loop-i.invariant.2 c.put-next.ensures,
+      c.put-next.auto.out ∙ c.loop-i.invariant.1,
+      pasting_next (here (goal.at.loop-i-preserved c).In-loop-i) (rest (goal.at.loop-i-preserved c).In-loop-i) (step (goal.at.loop-i-preserved c).In-loop-i) c.loop-i.invariant.2 c.put-next.ensures,
     )
 
 pub shape_of-out : goal.shape_of-out
@@ -57,6 +53,5 @@ shape_of-out c = c.loop-i.invariant.1
 
 pub returns : goal.returns
 returns c =
-    let start = c.before.before.before.before in
-    let none : drop c.loop-i.i start.args.word.now ≡ [] = drop_of_length-le start.args.word.now {i = c.loop-i.i} (omega arith) in
+    let none : drop c.loop-i.i c.args.word.now ≡ [] = drop_of_length-le c.args.word.now {i = c.loop-i.i} (omega arith) in
     pasting_end (rw none at c.loop-i.invariant.2)

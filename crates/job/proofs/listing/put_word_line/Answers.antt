@@ -7,22 +7,17 @@ use Rattle.job.proofs.listing.put_word_line.Goals as goal
 
 pub put_word-next-requires : goal.put_word-next-requires
 put_word-next-requires c =
-    let start = c.before.before.before in
-    omega (arith, start.requires.1, word_line_length start.args.word.now start.args.n)
+    omega (arith, c.requires.1, word_line_length c.args.word.now c.args.n)
 
 pub put_field-requires : goal.put_field-requires
 put_field-requires c =
-    let word = c.before.before.before in
-    let start = word.before.before.before.before in (
-      start.requires.0,
-      omega (arith, start.requires.1, word_line_length start.args.word.now start.args.n, word.put_word-next.ensures.place, word.put_word-next.auto.out),
+    (
+      c.requires.0,
+      omega (arith, c.requires.1, word_line_length c.args.word.now c.args.n, c.put_word-next.ensures.place, c.put_word-next.auto.out),
     )
 
 pub returns : goal.returns
 unfolding word_line
 returns c =
-    let field = c.before.before in
-    let word = field.before.before.before.before in
-    let start = word.before.before.before.before in
-    pasted_then word.put_word-next.ensures field.put_field.ensures
-    (omega (arith, start.requires.1, word_line_length start.args.word.now start.args.n))
+    pasted_then c.put_word-next.ensures c.put_field.ensures
+    (omega (arith, c.requires.1, word_line_length c.args.word.now c.args.n))

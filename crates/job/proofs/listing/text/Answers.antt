@@ -5,16 +5,13 @@ use Rattle.job.proofs.AnswerLaws.{text_few}
 use Rattle.job.proofs.listing.text.Goals as goal
 
 pub write_answer-requires : goal.write_answer-requires
-write_answer-requires c = (record { lengths_fit = omega arith; kinds_fit = omega arith; points_fit = omega arith; colors_fit = omega arith }, omega arith)
+write_answer-requires c = record { holds_results = record { lengths_fit = omega arith; kinds_fit = omega arith; points_fit = omega arith; colors_fit = omega arith }; max_text_in_bounds = omega arith }
 
 pub returns : goal.returns
 returns c =
-    let written = c.before.before.before.before in
-    let shape-borrowed = written.before.before in
-    let start = shape-borrowed.before.before.before.before.before in
-    let pasted = written.write_answer.ensures in
+    let pasted = c.write_answer.ensures in
     record {
       counts = omega (arith, pasted.place);
-      within = omega (arith, pasted.place, text_few start.args.file.now, written.write_answer.auto);
+      within = omega (arith, pasted.place, text_few c.args.file.now, c.write_answer.auto);
       holds = pasted_over pasted;
     }

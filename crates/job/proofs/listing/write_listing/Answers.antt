@@ -10,7 +10,7 @@ use Rattle.job.specs.Listing.{edges_word, stand_ins_word, shape_lines, word_line
 use Rattle.job.proofs.listing.ListingLaws.{listing_parts, listing-length}
 use Rattle.job.proofs.listing.PasteLaws.{pasted_then}
 use Rattle.job.proofs.listing.write_listing.Goals as goal
-use Rattle.job.proofs.listing.write_listing.Goals.{After-put_shape-arg-1, Start}
+use Rattle.job.proofs.listing.write_listing.Goals.{Start}
 
 -- the whole text has room
 module _ (c : Start) where
@@ -29,47 +29,34 @@ module _ (c : Start) where
   room : length lines + length edges + length last ≤ length c.args.out.now
   room = omega (arith, c.requires.stand_ins_in_bounds, listing-length c.args.lengths.now c.args.kinds.now c.args.colors.now c.args.stand_ins whole)
 
--- where the function began, from the call that writes the lines
-abbrev start : After-put_shape-arg-1 → Start
-start c = c.before.before.before.before.before
-
 pub put_shape-lines-requires : goal.put_shape-lines-requires
 put_shape-lines-requires c =
-    let s = start c in
-    let p = s.requires.lengths_len_bound in
-    ((p.0, p.1, p.3, p.4), omega (arith, room s))
+    let p = c.requires.lengths_len_bound in
+    record { lengths_len_bound = (p.0, p.1, p.3, p.4); colors_in_bounds = omega (arith, room (goal.at.put_shape-lines-requires c).Start) }
 
 pub put_word_line-counted-requires : goal.put_word_line-counted-requires
 put_word_line-counted-requires c =
-    let shape = c.before.before.before.before in
-    let s = start shape.before in
-    (s.requires.lengths_len_bound.1, omega (arith, room s, shape.put_shape-lines.ensures.place, shape.put_shape-lines.auto.out))
+    (c.requires.lengths_len_bound.1, omega (arith, room (goal.at.put_word_line-counted-requires c).Start, c.put_shape-lines.ensures.place, c.put_shape-lines.auto.out))
 
 pub put_word_line-requires : goal.put_word_line-requires
 put_word_line-requires c =
-    let counted = c.before.before.before.before in
-    let shape = counted.before.before.before.before.before in
-    let s = start shape.before in (
-      s.requires.lengths_len_bound.2,
+    (
+      c.requires.lengths_len_bound.2,
       omega (
         arith,
-        room s,
-        shape.put_shape-lines.ensures.place,
-        shape.put_shape-lines.auto.out,
-        counted.put_word_line-counted.ensures.place,
-        counted.put_word_line-counted.auto.out,
+        room (goal.at.put_word_line-requires c).Start,
+        c.put_shape-lines.ensures.place,
+        c.put_shape-lines.auto.out,
+        c.put_word_line-counted.ensures.place,
+        c.put_word_line-counted.auto.out,
       ),
     )
 
 pub returns : goal.returns
 returns c =
-    let written = c.before.before in
-    let counted = written.before.before.before.before.before in
-    let shape = counted.before.before.before.before.before in
-    let s = start shape.before in
-    let old = s.args.out.now in
-    let two : Pasted (lines s ++ edges s) 0 old counted.put_word_line-counted.result counted.put_word_line-counted.new.out = pasted_then shape.put_shape-lines.ensures
-    counted.put_word_line-counted.ensures (omega (arith, room s)) in
-    subst (λ (x : List ℕ). Pasted x 0 old written.put_word_line.result written.put_word_line.new.out)
-    (listing_parts s.args.lengths.now s.args.kinds.now s.args.colors.now s.args.stand_ins (whole s))
-    (pasted_then two written.put_word_line.ensures (omega (arith, room s, length-append (lines s) (edges s))))
+    let old = c.args.out.now in
+    let two : Pasted (lines (goal.at.returns c).Start ++ edges (goal.at.returns c).Start) 0 old c.put_word_line-counted.result c.put_word_line-counted.new.out = pasted_then c.put_shape-lines.ensures
+    c.put_word_line-counted.ensures (omega (arith, room (goal.at.returns c).Start)) in
+    subst (λ (x : List ℕ). Pasted x 0 old c.put_word_line.result c.put_word_line.new.out)
+    (listing_parts c.args.lengths.now c.args.kinds.now c.args.colors.now c.args.stand_ins (whole (goal.at.returns c).Start))
+    (pasted_then two c.put_word_line.ensures (omega (arith, room (goal.at.returns c).Start, length-append (lines (goal.at.returns c).Start) (edges (goal.at.returns c).Start))))

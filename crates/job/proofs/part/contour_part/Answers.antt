@@ -9,5 +9,4 @@ use Rattle.job.proofs.part.contour_part.Goals as goal
 pub returns : goal.returns
 unfolding contour_part
 returns c =
-    let placed = c.before in
-    ap (λ (span : Span). take (span.end - span.start) (drop span.start placed.args.file.now)) placed.contour_place-span.ensures.value
+    ap (λ (span : Span). take (span.end - span.start) (drop span.start c.args.file.now)) c.contour_place-span.ensures.value

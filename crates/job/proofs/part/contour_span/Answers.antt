@@ -10,32 +10,26 @@ use Rattle.job.proofs.records.ReadingLaws.{Read-as, found_item, found_end, found
 use Rattle.job.proofs.progress.ProgressLaws.{counts_on, less_on}
 use Rattle.job.proofs.part.PartLaws.{seeking_begin, seeking_next, seeking_end, seeking_fault, seeking_inside}
 use Rattle.job.proofs.part.contour_span.Goals as goal
-use Rattle.job.proofs.part.contour_span.Goals.{After-read_record, At-loop-item, In-Item-2}
+use Rattle.job.proofs.part.contour_span.Goals.{After-read_record, In-Item-2}
 
 -- what the code finds is the first record of the bytes ahead
 module _ (c : After-read_record) where
-  abbrev at : At-loop-item
-  at = c.before.before.before
-
   abbrev file : List ℕ
-  file = at.args.file.now
+  file = c.args.file.now
 
   abbrev number : ℕ
-  number = at.args.number
+  number = c.args.number
 
   abbrev p : Progress
-  p = at.loop-item.p
+  p = c.loop-item.p
 
   read : found_answer c.read_record.result ≡ found_of (read_record p.state (drop p.at file))
   read = c.read_record.ensures ∙ ap (λ (x : List ℕ). found_of (read_record p.state x)) (part-after p.at file)
 
 -- a record
 module _ (c : In-Item-2) where
-  abbrev found : After-read_record
-  found = c.before.before
-
-  as_read : Read-as (read_record (p found).state-1 (drop (p found).at (file found))) c.in-Item.item c.in-Item.size
-  as_read = found_item _ _ _ (sym (ap found_answer c.in-Item.is) ∙ read found)
+  as_read : Read-as (read_record (p (goal.at.In-Item-2 c).After-read_record).state (drop (p (goal.at.In-Item-2 c).After-read_record).at (file (goal.at.In-Item-2 c).After-read_record))) c.in-Item.item c.in-Item.size
+  as_read = found_item _ _ _ (sym (ap found_answer c.in-Item.is) ∙ read (goal.at.In-Item-2 c).After-read_record)
 
 pub loop-item-init : goal.loop-item-init
 loop-item-init c = rw c.begin-p.ensures (seeking_begin _ _)
@@ -50,27 +44,23 @@ pub slice_bounds-read_record-end : goal.slice_bounds-read_record-end
 slice_bounds-read_record-end c = omega arith
 
 pub advance-p-requires : goal.advance-p-requires
-advance-p-requires c = let i = c.before.before in counts_on _ _ (at (found i)).loop-item.invariant.at (as_read i) (omega arith)
+advance-p-requires c = counts_on _ _ c.loop-item.invariant.at (as_read (goal.at.advance-p-requires c).In-Item-2) (omega arith)
 
 pub loop-item-smaller : goal.loop-item-smaller
-loop-item-smaller c = let i = c.before.before.before in rw c.advance-p.ensures (less_on _ _ (at (found i)).loop-item.invariant.at (as_read i))
+loop-item-smaller c = rw c.advance-p.ensures (less_on _ _ c.loop-item.invariant.at (as_read (goal.at.loop-item-smaller c).In-Item-2))
 
 pub loop-item-preserved : goal.loop-item-preserved
 loop-item-preserved c =
-    let i = c.before.before.before in
-    let f = found i in
-    rw (c.advance-p.ensures, c.sought-q.ensures) (seeking_next (file f) (number f) (p f) (at f).loop-item.q (at f).loop-item.invariant _ _ (as_read i))
+    rw (c.advance-p.ensures, c.sought-q.ensures) (seeking_next (file (goal.at.loop-item-preserved c).After-read_record) (number (goal.at.loop-item-preserved c).After-read_record) (p (goal.at.loop-item-preserved c).After-read_record) c.loop-item.q c.loop-item.invariant _ _ (as_read (goal.at.loop-item-preserved c).In-Item-2))
 
 pub returns-in-End : goal.returns-in-End
 returns-in-End c =
-    let f = c.before.before.before in
     rw c.span_of.ensures (
-      seeking_end (file f) (number f) (p f) (at f).loop-item.q (at f).loop-item.invariant (found_end _ (sym (ap found_answer c.in-End.is) ∙ read f)),
-      seeking_inside (file f) (number f) (p f) (at f).loop-item.q (at f).loop-item.invariant,
+      seeking_end (file (goal.at.returns-in-End c).After-read_record) (number (goal.at.returns-in-End c).After-read_record) (p (goal.at.returns-in-End c).After-read_record) c.loop-item.q c.loop-item.invariant (found_end _ (sym (ap found_answer c.in-End.is) ∙ read (goal.at.returns-in-End c).After-read_record)),
+      seeking_inside (file (goal.at.returns-in-End c).After-read_record) (number (goal.at.returns-in-End c).After-read_record) (p (goal.at.returns-in-End c).After-read_record) c.loop-item.q c.loop-item.invariant,
     )
 
 pub returns-in-Fails : goal.returns-in-Fails
 returns-in-Fails c =
-    let f = c.before.before in
-    let fault = found-fails _ _ (sym (ap found_answer c.in-Fails.is) ∙ read f) in
-    absurd (seeking_fault (file f) (p f) (at f).loop-item.invariant.at (at f).requires _ fault)
+    let fault = found-fails _ _ (sym (ap found_answer c.in-Fails.is) ∙ read (goal.at.returns-in-Fails c).After-read_record) in
+    absurd (seeking_fault (file (goal.at.returns-in-Fails c).After-read_record) (p (goal.at.returns-in-Fails c).After-read_record) c.loop-item.invariant.at c.requires _ fault)

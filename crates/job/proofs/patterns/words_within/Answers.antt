@@ -10,29 +10,23 @@ use Rattle.coloring.specs.Lists.{all}
 use Rattle.job.specs.Patterns.{number, words, within}
 use Rattle.job.proofs.patterns.PatternLaws.{words-at, words-length, all-next, all_stops}
 use Rattle.job.proofs.patterns.words_within.Goals as goal
-use Rattle.job.proofs.patterns.words_within.Goals.{After-within, At-loop-i, Start}
+use Rattle.job.proofs.patterns.words_within.Goals.{After-within}
 
 -- the number at place i, tested
 module _ (c : After-within) where
-  abbrev at : At-loop-i
-  at = c.before.before.before.before
-
-  abbrev start : Start
-  start = at.before.before
-
   abbrev i : ℕ
-  i = at.loop-i.i
+  i = c.loop-i.i
 
   abbrev numbers : List ℕ
-  numbers = words start.args.n start.args.bytes.now
+  numbers = words c.args.n c.args.bytes.now
 
-  tested : c.within.result ≡ within start.args.range (number (take 8 (drop (8 * i) start.args.bytes.now)))
+  tested : c.within.result ≡ within c.args.range (number (take 8 (drop (8 * i) c.args.bytes.now)))
   tested =
       let e : 8 * i + 8 - 8 * i ≡ 8 = omega arith in
-      c.within.ensures ∙ ap (within start.args.range) (c.number.ensures ∙ rw e)
+      c.within.ensures ∙ ap (within c.args.range) (c.number.ensures ∙ rw e)
 
-  here : drop i numbers ≡ number (take 8 (drop (8 * i) start.args.bytes.now)) ∷ drop (suc i) numbers
-  here = words-at start.args.n i start.args.bytes.now (omega arith)
+  here : drop i numbers ≡ number (take 8 (drop (8 * i) c.args.bytes.now)) ∷ drop (suc i) numbers
+  here = words-at c.args.n i c.args.bytes.now (omega arith)
 
 pub loop-i-init : goal.loop-i-init
 loop-i-init c = (omega arith, refl)
@@ -59,7 +53,7 @@ pub within-requires : goal.within-requires
 within-requires c = tt
 
 pub returns-then-not-within : goal.returns-then-not-within
-returns-then-not-within c = sym ((at c.before).loop-i.invariant.1 ∙ all_stops _ _ _ _ (here c.before) (sym (tested c.before) ∙ not-true _ c.if-not-within.true-raw))
+returns-then-not-within c = sym (c.loop-i.invariant.1 ∙ all_stops _ _ _ _ (here (goal.at.returns-then-not-within c).After-within) (sym (tested (goal.at.returns-then-not-within c).After-within) ∙ not-true _ c.if-not-within.true-raw))
 
 pub overflow_add-i : goal.overflow_add-i
 overflow_add-i c = omega arith
@@ -70,14 +64,13 @@ loop-i-smaller c = omega arith
 pub loop-i-preserved : goal.loop-i-preserved
 loop-i-preserved c = (
   omega arith,
-  (at c.before).loop-i.invariant.1 ∙ all-next _ _ _ _ (here c.before) (sym (tested c.before) ∙ not-false _ c.if-not-within.false-raw)
+  c.loop-i.invariant.1 ∙ all-next _ _ _ _ (here (goal.at.loop-i-preserved c).After-within) (sym (tested (goal.at.loop-i-preserved c).After-within) ∙ not-false _ c.if-not-within.false-raw)
       ∙ rw add-one,
 )
 
 pub returns : goal.returns
 unfolding all
 returns c =
-    let start = c.before.before.before in
-    let end : c.loop-i.i ≡ length (words start.args.n start.args.bytes.now) = omega
-    (arith, words-length start.args.n start.args.bytes.now) in
+    let end : c.loop-i.i ≡ length (words c.args.n c.args.bytes.now) = omega
+    (arith, words-length c.args.n c.args.bytes.now) in
     sym (c.loop-i.invariant.1 ∙ rw (end, drop-length))

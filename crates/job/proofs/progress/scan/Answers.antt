@@ -11,29 +11,23 @@ use Rattle.job.proofs.records.RecordLaws.{part-after}
 use Rattle.job.proofs.records.ReadingLaws.{Read-as, found_item, found_end, found-fails}
 use Rattle.job.proofs.progress.ProgressLaws.{reached_begin, counts_on, less_on, reached_on, reached_end, reached_fault}
 use Rattle.job.proofs.progress.scan.Goals as goal
-use Rattle.job.proofs.progress.scan.Goals.{After-read_record, At-loop-item, In-Item-2}
+use Rattle.job.proofs.progress.scan.Goals.{After-read_record, In-Item-2}
 
 -- what the code finds is the first record of the bytes ahead
 module _ (c : After-read_record) where
-  abbrev at : At-loop-item
-  at = c.before.before.before
-
   abbrev file : List ℕ
-  file = at.args.file.now
+  file = c.args.file.now
 
   abbrev p : Progress
-  p = at.loop-item.p
+  p = c.loop-item.p
 
   read : found_answer c.read_record.result ≡ found_of (read_record p.state (drop p.at file))
   read = c.read_record.ensures ∙ ap (λ (x : List ℕ). found_of (read_record p.state x)) (part-after p.at file)
 
 -- a record
 module _ (c : In-Item-2) where
-  abbrev found : After-read_record
-  found = c.before.before
-
-  as_read : Read-as (read_record (p found).state-1 (drop (p found).at (file found))) c.in-Item.item c.in-Item.size
-  as_read = found_item _ _ _ (sym (ap found_answer c.in-Item.is) ∙ read found)
+  as_read : Read-as (read_record (p (goal.at.In-Item-2 c).After-read_record).state (drop (p (goal.at.In-Item-2 c).After-read_record).at (file (goal.at.In-Item-2 c).After-read_record))) c.in-Item.item c.in-Item.size
+  as_read = found_item _ _ _ (sym (ap found_answer c.in-Item.is) ∙ read (goal.at.In-Item-2 c).After-read_record)
 
 pub loop-item-init : goal.loop-item-init
 loop-item-init c = rw c.begin-p.ensures (reached_begin _)
@@ -48,22 +42,20 @@ pub slice_bounds-read_record-end : goal.slice_bounds-read_record-end
 slice_bounds-read_record-end c = omega arith
 
 pub advance-p-requires : goal.advance-p-requires
-advance-p-requires c = counts_on _ _ (at (found c.before)).loop-item.invariant (as_read c.before) (omega arith)
+advance-p-requires c = counts_on _ _ c.loop-item.invariant (as_read (goal.at.advance-p-requires c).In-Item-2) (omega arith)
 
 pub loop-item-smaller : goal.loop-item-smaller
-loop-item-smaller c = rw c.advance-p.ensures (less_on _ _ (at (found c.before.before)).loop-item.invariant (as_read c.before.before))
+loop-item-smaller c = rw c.advance-p.ensures (less_on _ _ c.loop-item.invariant (as_read (goal.at.loop-item-smaller c).In-Item-2))
 
 pub loop-item-preserved : goal.loop-item-preserved
-loop-item-preserved c = rw c.advance-p.ensures (reached_on _ _ (at (found c.before.before)).loop-item.invariant (as_read c.before.before))
+loop-item-preserved c = rw c.advance-p.ensures (reached_on _ _ c.loop-item.invariant (as_read (goal.at.loop-item-preserved c).In-Item-2))
 
 pub returns-in-End : goal.returns-in-End
 returns-in-End c =
-    let f = c.before.before.before in
-    let at_end = found_end _ (sym (ap found_answer c.in-End.is) ∙ read f) in
-    ap gives (at f).loop-item.invariant.numbers_are ∙ ap answer_of (reached_end (file f) (p f) (at f).loop-item.invariant at_end)
+    let at_end = found_end _ (sym (ap found_answer c.in-End.is) ∙ read (goal.at.returns-in-End c).After-read_record) in
+    ap gives c.loop-item.invariant.numbers_are ∙ ap answer_of (reached_end (file (goal.at.returns-in-End c).After-read_record) (p (goal.at.returns-in-End c).After-read_record) c.loop-item.invariant at_end)
 
 pub returns-in-Fails : goal.returns-in-Fails
 returns-in-Fails c =
-    let f = c.before.before.before in
-    let fault = found-fails _ _ (sym (ap found_answer c.in-Fails.is) ∙ read f) in
-    ap answer_of (reached_fault (file f) (p f) (at f).loop-item.invariant _ fault)
+    let fault = found-fails _ _ (sym (ap found_answer c.in-Fails.is) ∙ read (goal.at.returns-in-Fails c).After-read_record) in
+    ap answer_of (reached_fault (file (goal.at.returns-in-Fails c).After-read_record) (p (goal.at.returns-in-Fails c).After-read_record) c.loop-item.invariant _ fault)

@@ -66,13 +66,11 @@ returns-then-a-eq69 c = rw (c.if-a-eq69.true, ne_eqb _ _ c.if-b-eq78-2.false)
 pub returns : goal.returns
 unfolding mark_of
 returns c =
-    let no_line = c.before.before.before in
-    let no-curve = no_line.before in
     rw (
-      ne_eqb _ _ no-curve.if-a-eq74.false,
-      ne_eqb _ _ no-curve.if-a-eq66.false,
-      ne_eqb _ _ no-curve.if-a-eq67.false,
-      ne_eqb _ _ no_line.if-a-eq76.false,
+      ne_eqb _ _ c.if-a-eq74.false,
+      ne_eqb _ _ c.if-a-eq66.false,
+      ne_eqb _ _ c.if-a-eq67.false,
+      ne_eqb _ _ c.if-a-eq76.false,
       ne_eqb _ _ c.if-a-eq81.false,
       ne_eqb _ _ c.if-a-eq68.false,
       ne_eqb _ _ c.if-a-eq69.false,

@@ -45,10 +45,8 @@ returns-in-Contour c = rw (c.in-Contour.is, size_is, contour-body c)
 pub returns-in-Edge : goal.returns-in-Edge
 unfolding read_body
 returns-in-Edge c =
-    let marked = c.before.before in
-    let start = marked.before.before.before.before in
-    rw marked.in-Edge.is (c.read_edge.ensures
-    ∙ sym (edge-rest marked.in-Edge.kind start.args.body.now start.args.rest.now))
+    rw c.in-Edge.is (c.read_edge.ensures
+    ∙ sym (edge-rest c.in-Edge.kind c.args.body.now c.args.rest.now))
 
 pub returns-in-Distances : goal.returns-in-Distances
 unfolding read_body

@@ -16,9 +16,8 @@ returns-then-rest-count c = rw (← c.number-count.ensures, le-leb _ 2016 c.if-c
 
 pub returns-then-words_within : goal.returns-then-words_within
 returns-then-words_within c =
-    let counted = c.before.before.before.before in
-    distances-found _ _ _ _ counted.number-count.ensures (le-leb _ 2016 c.if-count-gt-MAX_DISTANCES.false) (le-leb _ _ c.if-rest-count.false)
-    (sym c.words_within.ensures ∙ c.if-words_within.true) (omega (arith, counted.requires))
+    distances-found _ _ _ _ c.number-count.ensures (le-leb _ 2016 c.if-count-gt-MAX_DISTANCES.false) (le-leb _ _ c.if-rest-count.false)
+    (sym c.words_within.ensures ∙ c.if-words_within.true) (omega (arith, c.requires))
 
 pub returns : goal.returns
 unfolding read_distances

@@ -16,8 +16,8 @@ tested c = c.words_within.ensures ∙ ap (λ (k : ℕ). all is_coordinate (words
     c.controls.ensures
 
 pub returns-then-words_within : goal.returns-then-words_within
-returns-then-words_within c = edge-found _ _ _ (sym (tested c.before) ∙ c.if-words_within.true) (omega (arith, c.requires))
+returns-then-words_within c = edge-found _ _ _ (sym (tested (goal.at.returns-then-words_within c).After-words_within) ∙ c.if-words_within.true) (omega (arith, c.requires))
 
 pub returns : goal.returns
 unfolding read_edge
-returns c = rw (← tested c.before, c.if-words_within.false)
+returns c = rw (← tested (goal.at.returns c).After-words_within, c.if-words_within.false)

@@ -12,21 +12,18 @@ use Rattle.job.specs.Patterns.{number, is_threshold}
 use Rattle.job.specs.Records.{read_header}
 use Rattle.job.proofs.records.RecordLaws.{header-found}
 use Rattle.job.proofs.records.read_header.Goals as goal
-use Rattle.job.proofs.records.read_header.Goals.{After-is_threshold, Else-number-gt3}
+use Rattle.job.proofs.records.read_header.Goals.{After-is_threshold}
 
 -- the threshold, tested
 module _ (c : After-is_threshold) where
-  abbrev known : Else-number-gt3
-  known = c.before.before.before.before.before
-
   abbrev body : List ℕ
-  body = known.args.body.now
+  body = c.args.body.now
 
   low : leb 1 (get_or body 0 0) ≡ true
-  low = le-leb 1 (get_or body 0 0) known.if-number-lt1.left
+  low = le-leb 1 (get_or body 0 0) c.if-number-lt1.false
 
   high : leb (get_or body 0 0) 3 ≡ true
-  high = le-leb (get_or body 0 0) 3 known.if-number-gt3.left
+  high = le-leb (get_or body 0 0) 3 c.if-number-gt3.false
 
   tested : c.is_threshold.result ≡ is_threshold (number (take 8 (drop 9 body)))
   tested = c.is_threshold.ensures ∙ ap is_threshold c.number-threshold.ensures
@@ -41,12 +38,11 @@ returns-then-number-gt3 c = rw (le-leb 1 _ c.if-number-lt1.false, lt-leb _ 3 c.i
 
 pub returns-then-not-is_threshold : goal.returns-then-not-is_threshold
 unfolding read_header
-returns-then-not-is_threshold c = rw (low c.before, high c.before, ← tested c.before, not-true c.is_threshold.result c.if-not-is_threshold.true-raw)
+returns-then-not-is_threshold c = rw (low (goal.at.returns-then-not-is_threshold c).After-is_threshold, high (goal.at.returns-then-not-is_threshold c).After-is_threshold, ← tested (goal.at.returns-then-not-is_threshold c).After-is_threshold, not-true c.is_threshold.result c.if-not-is_threshold.true-raw)
 
 pub returns : goal.returns
 returns c =
-    let t = c.before.before in
-    let within = sym t.is_threshold.ensures ∙ not-false t.is_threshold.result c.if-not-is_threshold.false-raw in
+    let within = sym c.is_threshold.ensures ∙ not-false c.is_threshold.result c.if-not-is_threshold.false-raw in
     rw c.strategy_of-strategy.ensures
-    (header-found (body t) _ t.number-seed.result t.number-threshold.result (low t) (high t) (omega arith)
-    t.number-seed.ensures t.number-threshold.ensures within)
+    (header-found (body (goal.at.returns c).After-is_threshold) _ c.number-seed.result c.number-threshold.result (low (goal.at.returns c).After-is_threshold) (high (goal.at.returns c).After-is_threshold) (omega arith)
+    c.number-seed.ensures c.number-threshold.ensures within)

@@ -7,16 +7,13 @@ use borrow.Author.Tests.{lt-leb, not-true, not-false}
 use Rattle.job.specs.Records.{below_maximum, found_of, read_body, read_marked}
 use Rattle.job.proofs.records.RecordLaws.{Allowed, marked-body, part-after}
 use Rattle.job.proofs.records.read_marked.Goals as goal
-use Rattle.job.proofs.records.read_marked.Goals.{Else-not-allowed, Else-not-below_maximum, Start}
-
-abbrev began : Else-not-allowed → Start
-began c = c.before.before.before.before.before
+use Rattle.job.proofs.records.read_marked.Goals.{Else-not-allowed, Else-not-below_maximum}
 
 -- the mark may stand there, and one more is within the maximum
-may : (c : Else-not-allowed) → Allowed (began c).args.s (began c).args.mark
+may : (c : Else-not-allowed) → Allowed c.args.s c.args.mark
 may c = sym c.allowed.ensures ∙ not-false c.allowed.result c.if-not-allowed.false-raw
 
-room : (c : Else-not-below_maximum) → below_maximum (began c.before.before).args.s.numbers (began c.before.before).args.mark ≡ true
+room : (c : Else-not-below_maximum) → below_maximum c.args.s.numbers c.args.mark ≡ true
 room c = sym c.below_maximum.ensures ∙ not-false c.below_maximum.result c.if-not-below_maximum.false-raw
 
 pub returns-then-not-allowed : goal.returns-then-not-allowed
@@ -25,25 +22,23 @@ returns-then-not-allowed c = rw (← c.allowed.ensures, not-true c.allowed.resul
 
 pub returns-then-not-below_maximum : goal.returns-then-not-below_maximum
 unfolding read_marked
-returns-then-not-below_maximum c = rw (may c.before.before, ← c.below_maximum.ensures, not-true c.below_maximum.result c.if-not-below_maximum.true-raw)
+returns-then-not-below_maximum c = rw (may (goal.at.returns-then-not-below_maximum c).Else-not-allowed, ← c.below_maximum.ensures, not-true c.below_maximum.result c.if-not-below_maximum.true-raw)
 
 pub returns-then-bytes-size : goal.returns-then-bytes-size
 unfolding read_marked
-returns-then-bytes-size c = rw (may c.before.before.before.before, room c.before.before, ← c.body_size-size.ensures, lt-leb _ _ c.if-bytes-size.true)
+returns-then-bytes-size c = rw (may (goal.at.returns-then-bytes-size c).Else-not-allowed, room (goal.at.returns-then-bytes-size c).Else-not-below_maximum, ← c.body_size-size.ensures, lt-leb _ _ c.if-bytes-size.true)
 
 pub slice_bounds-read_body-end : goal.slice_bounds-read_body-end
 slice_bounds-read_body-end c = rw length-take (omega arith)
 
 pub read_body-requires : goal.read_body-requires
-read_body-requires c = rw length-take (omega (arith, c.before.before.before.body-size.ensures))
+read_body-requires c = rw length-take (omega (arith, c.body_size-size.ensures))
 
 pub returns : goal.returns
 returns c =
-    let sized = c.before.before.before.before in
-    let start = began sized.before.before.before in
-    let size = sized.body-size.result in
+    let size = c.body_size-size.result in
     c.read_body.ensures
     ∙ ap found_of
-    (ap (read_body start.args.mark (take size start.args.bytes.now)) (part-after size start.args.bytes.now)
-    ∙ sym (marked-body start.args.s start.args.mark start.args.bytes.now size (may sized.before.before.before) (room sized.before)
-    sized.body-size.ensures c.before.before.before.if3.false))
+    (ap (read_body c.args.mark (take size c.args.bytes.now)) (part-after size c.args.bytes.now)
+    ∙ sym (marked-body c.args.s c.args.mark c.args.bytes.now size (may (goal.at.returns c).Else-not-allowed) (room (goal.at.returns c).Else-not-below_maximum)
+    c.body_size-size.ensures c.if-bytes-size.false))

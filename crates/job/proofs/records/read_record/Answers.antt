@@ -12,22 +12,18 @@ returns-then-bytes-lt2 c = sym (ap found_of (no_letters _ _ c.if-bytes-lt2.true)
 
 pub returns-in-Known : goal.returns-in-Known
 returns-in-Known c =
-    let marked = c.before.before.before.before.before in
-    let start = marked.before.before.before.before.before in
     let mark = c.mark-1.given in
-    let bytes = start.args.bytes.now in
+    let bytes = c.args.bytes.now in
     c.read_marked.ensures
     ∙ ap found_of
-    (ap (read_marked start.args.s (Known mark.0.0)) (part-after 2 bytes)
-    ∙ ap (λ m. read_marked start.args.s m (drop 2 bytes)) (sym mark.1 ∙ marked.mark_of.ensures)
-    ∙ sym (two-letters start.args.s bytes (omega arith)))
+    (ap (read_marked c.args.s (Known mark.0.0)) (part-after 2 bytes)
+    ∙ ap (λ m. read_marked c.args.s m (drop 2 bytes)) (sym mark.1 ∙ c.mark_of.ensures)
+    ∙ sym (two-letters c.args.s bytes (omega arith)))
 
 pub returns-in-Unknown : goal.returns-in-Unknown
 unfolding read_marked
 returns-in-Unknown c =
-    let marked = c.before.before in
-    let start = marked.before.before.before.before.before in
-    let bytes = start.args.bytes.now in
+    let bytes = c.args.bytes.now in
     ap found_of
-    (ap (λ m. read_marked start.args.s m (drop 2 bytes)) (sym c.in-Unknown.is ∙ marked.mark_of.ensures)
-    ∙ sym (two-letters start.args.s bytes (omega arith)))
+    (ap (λ m. read_marked c.args.s m (drop 2 bytes)) (sym c.in-Unknown.is ∙ c.mark_of.ensures)
+    ∙ sym (two-letters c.args.s bytes (omega arith)))
