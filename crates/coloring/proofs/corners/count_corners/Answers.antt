@@ -5,6 +5,7 @@ use lib.ListN.{length}
 use Rattle.coloring.specs.Corners.{corners_of, corner_count}
 use Rattle.coloring.proofs.corners.FlagLaws.{places_corner, places-none, places_end}
 use Rattle.coloring.proofs.corners.count_corners.Goals as goal
+use Rattle.coloring.proofs.corners.count_corners.Goals.{else-flags-i, then-flags-i}
 
 pub loop-i-init : goal.loop-i-init
 unfolding corner_count corners_of
@@ -26,18 +27,18 @@ pub loop-i-preserved : goal.loop-i-preserved
 loop-i-preserved c =
     let at = c.loop-i in
     let h = c.loop-i-test.true in
-    ⊎_elim
-    (λ w. (
-      omega arith,
-      omega (arith, w.1),
-      omega (arith, w.1, at.invariant.2, ap length (places_corner c.args.flags.now at.i h w.0.taken)),
-    ))
-    (λ w. (
-      omega arith,
-      omega (arith, w.1),
-      omega (arith, w.1, at.invariant.2, ap length (places-none c.args.flags.now at.i h w.0.left)),
-    ))
-    c.if-flags-i.branch
+    elim c.if-flags-i.branch [
+      then-flags-i w ↦ (
+        omega arith,
+        omega (arith, w.count-is),
+        omega (arith, w.count-is, at.invariant.2, ap length (places_corner c.args.flags.now at.i h w.if-flags-i.true)),
+      )
+    | else-flags-i w ↦ (
+        omega arith,
+        omega (arith, w.count-is),
+        omega (arith, w.count-is, at.invariant.2, ap length (places-none c.args.flags.now at.i h w.if-flags-i.false)),
+      )
+    ]
 
 pub returns : goal.returns
 returns c = omega (arith, c.loop-i.invariant.2, ap length (places_end c.args.flags.now c.loop-i.i c.loop-i-test.false))

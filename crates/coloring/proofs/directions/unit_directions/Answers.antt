@@ -83,9 +83,9 @@ loop-at-preserved c =
     let h : here.at < length all = omega (arith, inside (goal.at.loop-at-preserved c).In-loop-at, as_many (goal.at.loop-at-preserved c).Start) in (
       omega (arith, c.loop-at-test.true),
       record {
-        c = rw (c.write_directions.ensures, e)
+        directed = rw (c.write_directions.ensures, e)
             (directing_next 4 direction_places (λ d. refl) all here.out here.at here.invariant.1.directed any_edge h);
-        c = rw (c.write_marks.ensures, e)
+        marked = rw (c.write_marks.ensures, e)
             (directing_next 2 stand_in_marks (λ d. refl) all here.marks here.at here.invariant.1.marked any_edge h);
       },
     )

@@ -19,7 +19,7 @@ use Rattle.coloring.proofs.ink_trap.CornerLaws.{going_begins, going_major, going
 use Rattle.coloring.proofs.ink_trap.CornerLaws.{left_stays, minor_turn, major_turn, minors-done, color_of, bytes-set, bytes_same}
 use Rattle.coloring.proofs.ink_trap.CornerLaws.{last_set, last_same, colored, drawn}
 use Rattle.coloring.proofs.ink_trap.colors_by_length.Goals as goal
-use Rattle.coloring.proofs.ink_trap.colors_by_length.Goals.{After-majors, After-mark, After-measure, In-majors, Start}
+use Rattle.coloring.proofs.ink_trap.colors_by_length.Goals.{After-majors, After-mark, After-measure, In-majors, Start, else-corner, else-flags-index, else-minor, else-not-corner, then-corner, then-flags-index, then-minor, then-not-corner}
 
 -- the contour at the call
 abbrev contour : Start → Cornered
@@ -74,18 +74,18 @@ module _ (c : After-mark) where
       ∙ ap (λ k. marking n (first k)) close.ensures
       ∙ rw (close_first_lem s (array (goal.at.After-mark c).After-measure), found (goal.at.After-mark c).After-measure) (marks-many n s (array (goal.at.After-mark c).After-measure) (omega (arith, few (goal.at.After-mark c).After-measure)) (omega (arith, counted (goal.at.After-mark c).After-measure)))
 
-  majors : c.mark.false ≡ major_count marked_corners
+  majors : c.mark.left ≡ major_count marked_corners
   majors = omega (arith, c.mark.invariant.3, ap (λ i. major_count (take i c.mark.corners)) all-marked)
 
 at_major : (c : In-majors) → c.majors.j < 256
 at_major c = omega (arith, few (goal.at.In-majors c).After-measure)
 
 module _ (c : After-majors) where
-  inked : color_majors Black c.mark.false c.args.pen (marked_corners (goal.at.After-majors c).After-mark)
+  inked : color_majors Black c.mark.left c.args.pen (marked_corners (goal.at.After-majors c).After-mark)
       ≡ record { corners = take (count (goal.at.After-majors c).After-measure) c.majors.corners; pen = c.majors.ink }
   inked =
       let at = c.majors in
-      at.invariant.3 ∙ going-ends at.j (count (goal.at.After-majors c).After-measure) at.initial at.left
+      at.invariant.3 ∙ going-ends at.j (count (goal.at.After-majors c).After-measure) at.initial' at.left
       at.ink at.corners at.invariant.0 c.majors-test.false (omega (arith, few (goal.at.After-majors c).After-measure))
 
 pub measure-init : goal.measure-init
@@ -118,22 +118,24 @@ measure-preserved c =
     let h : at.index < length edges = omega (arith, edges-length c.args.kinds.now c.args.points.now) in
     let l : at.index < length flags = omega (arith, c.requires.0.flagged) in
     let estimate = c.estimate_edge_length-spline_length.ensures ∙ ap estimate_edge_length c.edge_at.ensures in
-    ⊎_elim
-    (λ w. (
-      omega arith,
-      omega (arith, w.4),
-      ap length w.2 ∙ simp length-set at.invariant.2,
-      at.invariant.3
-          ∙ measuring_corner at.count at.index at.spline-length at.corners edges flags h l (omega (arith, c.requires.0.few)) w.0.taken
-          w.1.ensures w.2 w.3 w.4 estimate,
-    ))
-    (λ w. (
-      omega arith,
-      omega (arith, w.3),
-      ap length w.1 ∙ at.invariant.2,
-      at.invariant.3 ∙ measuring-edge at.count at.index at.spline-length at.corners edges flags h l w.0.left w.1 w.2 w.3 estimate,
-    ))
-    c.if-flags-index.branch
+    elim c.if-flags-index.branch [
+      then-flags-index w ↦ (
+        omega arith,
+        omega (arith, w.count-is),
+        ap length w.corners-is ∙ simp length-set at.invariant.2,
+        at.invariant.3
+            ∙ measuring_corner at.count at.index at.spline_length at.corners edges flags h l (omega (arith, c.requires.0.few))
+            w.if-flags-index.true w.corner_at.ensures w.corners-is w.spline_length-is w.count-is estimate,
+      )
+    | else-flags-index w ↦ (
+        omega arith,
+        omega (arith, w.count-is),
+        ap length w.corners-is ∙ at.invariant.2,
+        at.invariant.3
+            ∙ measuring-edge at.count at.index at.spline_length at.corners edges flags h l w.if-flags-index.false w.corners-is
+            w.spline_length-is w.count-is estimate,
+      )
+    ]
 
 pub bounds-corners-0 : goal.bounds-corners-0
 bounds-corners-0 c = omega arith
@@ -209,10 +211,12 @@ mark-preserved c =
       omega arith,
       simp length-set at.invariant.1,
       at.invariant.2,
-      ⊎_elim
-          (λ w. omega (arith, at.invariant.3, w.1, majors_same at.i at.corners c.with_minor.result (omega arith) (minor ∙ w.0.taken)))
-          (λ w. omega (arith, at.invariant.3, w.1, majors_more at.i at.corners c.with_minor.result (omega arith) (minor ∙ w.0.left)))
-          c.if-minor.branch,
+      elim c.if-minor.branch [
+        then-minor w ↦
+          omega (arith, at.invariant.3, w.left-is, majors_same at.i at.corners c.with_minor.result (omega arith) (minor ∙ w.if-minor.true))
+      | else-minor w ↦
+          omega (arith, at.invariant.3, w.left-is, majors_more at.i at.corners c.with_minor.result (omega arith) (minor ∙ w.if-minor.false))
+      ],
       mark_turn at.i n (set (array (goal.at.mark-preserved c).After-measure) 0 c.closed.result) at.corners h fits same at.invariant.4 flag corner,
     )
 
@@ -248,24 +252,26 @@ majors-preserved c =
     let n = count (goal.at.majors-preserved c).After-measure in
     let h : at.j < n = omega arith in
     let fits : n ≤ length at.corners = omega (arith, few (goal.at.majors-preserved c).After-measure) in
-    ⊎_elim
-    (λ w.
-    let major = not-true _ w.0.taken in (
-      omega arith,
-      ap length w.5 ∙ simp length-set at.invariant.1,
-      left_falls at.j n at.corners h fits w.3.result major at.invariant.2 w.5 w.6,
-      at.invariant.3
-          ∙ going_major at.initial at.left at.ink at.j n at.corners h fits major
-          w.1.ensures w.2.ensures w.3.ensures w.4.ensures w.5 w.6 w.7 w.8,
-    ))
-    (λ w.
-    let minor = not-false _ w.0.left in (
-      omega arith,
-      ap length w.1 ∙ at.invariant.1,
-      left_stays at.j n at.corners h fits minor at.invariant.2 w.1 w.2,
-      at.invariant.3 ∙ going_minor at.initial at.left at.ink at.j n at.corners h fits minor w.1 w.2 w.3 w.4,
-    ))
-    c.if-not-corner.branch
+    elim c.if-not-corner.branch [
+      then-not-corner w ↦
+        let major = not-true _ w.if-not-corner.true in (
+          omega arith,
+          ap length w.corners-is ∙ simp length-set at.invariant.1,
+          left_falls at.j n at.corners h fits w.with_color.result major at.invariant.2 w.corners-is w.left-is,
+          at.invariant.3
+              ∙ going_major at.initial' at.left at.ink at.j n at.corners h fits major
+              w.banned_before.ensures w.switch_color_banned-ink.ensures w.with_color.ensures w.first_color-initial.ensures
+              w.corners-is w.left-is w.ink-is w.initial'-is,
+        )
+    | else-not-corner w ↦
+        let minor = not-false _ w.if-not-corner.false in (
+          omega arith,
+          ap length w.corners-is ∙ at.invariant.1,
+          left_stays at.j n at.corners h fits minor at.invariant.2 w.corners-is w.left-is,
+          at.invariant.3
+              ∙ going_minor at.initial' at.left at.ink at.j n at.corners h fits minor w.corners-is w.left-is w.ink-is w.initial'-is,
+        )
+    ]
 
 pub minors-init : goal.minors-init
 minors-init c =
@@ -321,25 +327,27 @@ minors-preserved c =
     let inside : at.k < length at.corners = omega arith in
     let room : at.k < length at.colors = omega (arith, at.invariant.2) in
     let long = length-set at.colors at.k c.bits.result ∙ at.invariant.2 in
-    ⊎_elim
-    (λ w.
-    let last = w.6 ∙ sym (ap color_of w.3.ensures) in (
-      omega arith,
-      ap length w.4 ∙ simp length-set at.invariant.1,
-      long,
-      at.invariant.3 ∙ minor_turn at.k n at.color at.corners h fits w.0.taken w.2.ensures w.3.ensures w.4 w.5,
-      bytes-set at.k at.corners at.colors inside room at.invariant.4 w.3.result c.bits.ensures last w.4,
-      last_set at.k at.corners w.3.result inside last w.4,
-    ))
-    (λ w. (
-      omega arith,
-      ap length w.1 ∙ at.invariant.1,
-      long,
-      at.invariant.3 ∙ major_turn at.k n at.color at.corners h fits w.0.left w.1 w.2,
-      bytes_same at.k at.corners at.colors inside room at.invariant.4 c.bits.ensures w.3 w.1,
-      last_same at.k at.corners w.3 w.1,
-    ))
-    c.if-corner.branch
+    elim c.if-corner.branch [
+      then-corner w ↦
+        let made = w.with_color-then-corner in
+        let last = w.last-is ∙ sym (ap color_of made.ensures) in (
+          omega arith,
+          ap length w.corners-is ∙ simp length-set at.invariant.1,
+          long,
+          at.invariant.3
+              ∙ minor_turn at.k n at.color at.corners h fits w.if-corner.true w.mixed_color-last.ensures made.ensures w.corners-is w.color-is,
+          bytes-set at.k at.corners at.colors inside room at.invariant.4 made.result c.bits.ensures last w.corners-is,
+          last_set at.k at.corners made.result inside last w.corners-is,
+        )
+    | else-corner w ↦ (
+        omega arith,
+        ap length w.corners-is ∙ at.invariant.1,
+        long,
+        at.invariant.3 ∙ major_turn at.k n at.color at.corners h fits w.if-corner.false w.corners-is w.color-is,
+        bytes_same at.k at.corners at.colors inside room at.invariant.4 c.bits.ensures w.last-is w.corners-is,
+        last_same at.k at.corners w.last-is w.corners-is,
+      )
+    ]
 
 pub shape_of-colors : goal.shape_of-colors
 shape_of-colors c =
@@ -353,9 +361,9 @@ returns c =
     let last : at.k ≡ n = omega arith in
     let all = length-take-le n at.corners (omega (arith, few (goal.at.returns c).After-measure)) in
     let corners : color_corners (measure_corners (contour (goal.at.returns c).Start)) c.args.pen ≡ record { corners = take n at.corners; pen = ink } =
-    colored _ _ (marked_corners (goal.at.returns c).After-mark) c.mark.false _ n (marked (goal.at.returns c).After-mark) (majors (goal.at.returns c).After-mark) (inked (goal.at.returns c).After-majors)
+    colored _ _ (marked_corners (goal.at.returns c).After-mark) c.mark.left _ n (marked (goal.at.returns c).After-mark) (majors (goal.at.returns c).After-mark) (inked (goal.at.returns c).After-majors)
     (length-take-le n c.mark.corners (omega (arith, c.mark.invariant.1, few (goal.at.returns c).After-measure)))
     ∙ ap (λ (cs : List InkTrapCorner). record { corners = cs; pen = ink })
     (at.invariant.3 ∙ minors-done at.k n at.color at.corners c.minors-test.false) in
-    drawn (contour (goal.at.returns c).Start) c.args.pen ink (take n at.corners) at.colors at.new corners
+    drawn (contour (goal.at.returns c).Start) c.args.pen ink (take n at.corners) at.colors at.last corners
     (sym (take_all n at.colors (omega (arith, at.invariant.2))) ∙ rw last at at.invariant.4) (rw all (rw last at at.invariant.5))

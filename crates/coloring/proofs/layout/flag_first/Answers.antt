@@ -40,7 +40,7 @@ loop-i-preserved c =
     let s = c.loop-i in
     let n = length c.args.out_flags.now in
     let h : s.i < n = omega arith in
-    (omega arith, simp length-set s.invariant.1, s.invariant.2 ∙ over-step s.i (first_only n) s.out-flags false (rw size h) (omega arith) ∙ rw (at n s.i h))
+    (omega arith, simp length-set s.invariant.1, s.invariant.2 ∙ over-step s.i (first_only n) s.out_flags false (rw size h) (omega arith) ∙ rw (at n s.i h))
 
 pub shape_of-out_flags : goal.shape_of-out_flags
 shape_of-out_flags c = c.loop-i.invariant.1
@@ -49,4 +49,4 @@ pub returns : goal.returns
 returns c =
     let s = c.loop-i in
     let n = length c.args.out_flags.now in
-    sym (s.invariant.2 ∙ over_done s.i (first_only n) s.out-flags (rw size (omega arith)))
+    sym (s.invariant.2 ∙ over_done s.i (first_only n) s.out_flags (rw size (omega arith)))

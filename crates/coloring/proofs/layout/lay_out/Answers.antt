@@ -120,16 +120,16 @@ loop-i-preserved c =
     let pre = c.requires in
     let a = c.args in
     let at = c.loop-i in
-    let kept = at.inv.0 in
-    let size = c.lay_out_part.auto.1.1.1.1.1.1.1 in
+    let kept = at.invariant.0 in
+    let size = c.lay_out_part.auto in
     let stored = rw (whole (goal.at.loop-i-preserved c).In-loop-i) at c.lay_out_part.ensures in (
       record {
         lengths-kept = simp length-set kept.lengths-kept;
-        kinds_kept = size.0 ∙ kept.kinds_kept;
-        points_kept = size.1.0 ∙ kept.points_kept;
-        flags-kept = size.1.1.0 ∙ kept.flags-kept;
+        kinds_kept = size.out_kinds ∙ kept.kinds_kept;
+        points_kept = size.out_points ∙ kept.points_kept;
+        flags-kept = size.out_flags ∙ kept.flags-kept;
       },
-      laying-next _ _ _ _ _ _ _ _ _ _ _ _ at.inv.1
+      laying-next _ _ _ _ _ _ _ _ _ _ _ _ at.invariant.1
           (pre.cut.matching.flagged ∙ sym (edges-length a.kinds.now a.points.now)) c.loop-i-test.true
           (omega (arith, kept.lengths-kept, pre.result_room.lengths_fit)) (omega (arith, kept.kinds_kept, pre.result_room.kinds_fit))
           (omega (arith, kept.points_kept, pre.result_room.points_fit))

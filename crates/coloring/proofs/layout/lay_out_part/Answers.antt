@@ -12,6 +12,7 @@ use Rattle.coloring.specs.Outline.{kind_stored, places_stored, part}
 use Rattle.coloring.specs.Sizes.{layout-length, layout-flagged, points-length}
 use Rattle.coloring.proofs.outline.EdgeLaws.{edges-length, edges-between, part-matching}
 use Rattle.coloring.proofs.layout.lay_out_part.Goals as goal
+use Rattle.coloring.proofs.layout.lay_out_part.Goals.{After-lay_out_contour-arg-3-1, After-slice_known-3-1}
 
 pub slice_bounds-lay_out_contour-count : goal.slice_bounds-lay_out_contour-count
 slice_bounds-lay_out_contour-count c = search rules

@@ -72,8 +72,8 @@ loop-i-preserved c =
     thirds-next edges c.args.corner at.i m (edges-length c.args.kinds.now c.args.points.now) (omega arith) (omega arith) in (
       at.invariant.0,
       omega arith,
-      written.auto.1.1.0 ∙ at.invariant.2,
-      rw (written.ensures.0, written.ensures.1, c.edge_at-e.ensures)
+      written.auto.out_kinds ∙ at.invariant.2,
+      rw (written.ensures.out_kinds_after, written.ensures.out_points_after, c.edge_at-e.ensures)
           (storing_many (thirds _) _ 3 (3 * (at.i + 1)) refl (omega arith) (rw next at at.invariant.3)),
     )
 

@@ -18,13 +18,12 @@ returns c =
     let one = storing_one parts.first (parts.second ∷ parts.third ∷ []) (i + 1) refl none in
     let two = storing_one parts.second (parts.third ∷ []) (i + 2) (omega arith) one in
     let three = storing_one parts.third [] (i + 3) (omega arith) two in
-    rw (
-      c.write_edge-3.ensures.out_kinds_after,
-      c.write_edge-3.ensures.out_points_after,
-      c.write_edge-2.ensures.out_kinds_after,
-      c.write_edge-2.ensures.out_points_after,
-      c.write_edge.ensures.out_kinds_after,
-      c.write_edge.ensures.out_points_after,
-      c.split_in_thirds-parts.ensures,
-    )
-    (storing_ends three)
+    let first = c.write_edge.ensures in
+    let second = c.write_edge-2.ensures in
+    let third = c.write_edge-3.ensures in
+    let split = c.split_in_thirds-parts.ensures in
+    let ends = storing_ends three in
+    record {
+      out_kinds_after = rw (third.out_kinds_after, second.out_kinds_after, first.out_kinds_after, split) ends.0;
+      out_points_after = rw (third.out_points_after, second.out_points_after, first.out_points_after, split) ends.1;
+    }

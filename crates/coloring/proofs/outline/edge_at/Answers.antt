@@ -17,7 +17,7 @@ module _ (c : After-from_stored) where
       let i = c.args.i in
       let copy = c.copy in
       let eight : 8 * i + 8 - 8 * i ≡ 8 = omega arith in
-      let places : copy.last.1.0 ≡ take 8 (drop (8 * i) c.args.points.now) = copy.ensures ∙ rw eight in
+      let places : copy.new.to ≡ take 8 (drop (8 * i) c.args.points.now) = copy.ensures ∙ rw eight in
       ap decoded c.from_stored.ensures ∙ ap (edge_stored (get_or c.args.kinds.now i 0)) places ∙ sym (edges_at _ _ i any_edge c.requires.0)
 
 pub returns-in-Edge : goal.returns-in-Edge

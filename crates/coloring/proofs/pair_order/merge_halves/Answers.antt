@@ -9,9 +9,6 @@ use Rattle.coloring.proofs.pair_order.EachLaws.{each_take, each_drop}
 use Rattle.coloring.proofs.pair_order.merge_halves.Goals as goal
 use Rattle.coloring.proofs.pair_order.merge_halves.Goals.{Start}
 
-abbrev start : tie.After-halves → Start
-start c = c
-
 -- the part from `half` on is the rest
 second : (c : Start)
     → take (length c.args.order.now - c.args.half) (drop c.args.half c.args.order.now) ≡ drop c.args.half c.args.order.now

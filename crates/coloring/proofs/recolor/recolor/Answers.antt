@@ -24,9 +24,6 @@ unfolding walk_start
 start_same coloring edge_matrix buffer entries a b d copy cut color = rw (copy, cut, color)
 
 module _ (c : After-first_possible_color-d) where
-  abbrev copies : tie.After-copy
-  copies = c
-
   abbrev coloring : List ℕ
   coloring = c.args.coloring.now
 
@@ -40,13 +37,13 @@ module _ (c : After-first_possible_color-d) where
   b = c.args.b
 
   abbrev buffer : List ℕ
-  buffer = copies.copy.last.1.0
+  buffer = c.copy_from_slice.new.self
 
   abbrev d : ℕ
   d = c.first_possible_color-d.result
 
   copy_same : buffer ≡ coloring
-  copy_same = copies.copy.ensures.1 ∙ copied coloring c.args.buffer.now c.requires.1
+  copy_same = c.copy_from_slice.ensures.after
 
   color : d ≡ first_possible_color (7 - 2 ^ get_or coloring a 0)
   color = c.first_possible_color-d.ensures ∙ ap first_possible_color c.other_colors.ensures

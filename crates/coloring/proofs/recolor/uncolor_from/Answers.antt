@@ -28,10 +28,10 @@ loop-i-preserved c =
     let small = inv.0.color in
     let args = c.args in
     let entries = args.entries.now in (
-      ring-kept inv.0 (one_uncolors entries args.c small c.loop-i.i (so_far (goal.at.loop-i-preserved c).After-uncolor_one-count)) one.new.0 one.new.1.0 one.result one.ensures
-          one.auto.1.0,
-      one.auto.0 ∙ inv.1,
-      one.auto.1.0 ∙ inv.2,
+      ring-kept inv.0 (one_uncolors entries args.c small c.loop-i.i (so_far (goal.at.loop-i-preserved c).After-uncolor_one-count)) one.new.coloring one.new.queue one.result one.ensures
+          one.auto.queue,
+      one.auto.coloring ∙ inv.1,
+      one.auto.queue ∙ inv.2,
       rw one.ensures (sym (uncolor_step entries args.c small c.loop-i.i args.to (so_far (goal.at.loop-i-preserved c).After-uncolor_one-count) (omega arith)) ∙ inv.3),
     )
 

@@ -6,7 +6,7 @@ use borrow.Author.Tests.{eqb-true, eqb-false}
 use Rattle.coloring.specs.Recolor.{uncolored}
 use Rattle.coloring.proofs.recolor.UncolorLaws.{ring-room, put_one, skip_entry, skip_color}
 use Rattle.coloring.proofs.recolor.uncolor_one.Goals as goal
-use Rattle.coloring.proofs.recolor.uncolor_one.Goals.{Then-coloring-i}
+use Rattle.coloring.proofs.recolor.uncolor_one.Goals.{Then-coloring-i, else-entries-i-ne0-via-else-entries-i-ne0, else-entries-i-ne0-via-then-entries-i-ne0+else-coloring-i}
 
 room : (c : Then-coloring-i) → c.args.waiting < 64
 room c =
@@ -25,7 +25,8 @@ returns-then-coloring-i c =
 
 pub returns : goal.returns
 returns c =
-    ⊎_elim
-    (λ w. skip_color c.requires.0 c.args.i c.requires.1 (eqb-false _ _ w.2.left))
-    (λ w. skip_entry c.requires.0 c.args.i c.requires.1 w.left)
-    c.else-entries-i-ne0.branch
+    elim c.else-entries-i-ne0.branch [
+      else-entries-i-ne0-via-then-entries-i-ne0+else-coloring-i w ↦
+        skip_color c.requires.0 c.args.i c.requires.1 w.if-coloring-i.false
+    | else-entries-i-ne0-via-else-entries-i-ne0 w ↦ skip_entry c.requires.0 c.args.i c.requires.1 w.if-entries-i-ne0.false
+    ]

@@ -27,7 +27,7 @@ uncolor_from-requires c =
     let ready = c.requires.0 in
     let run = c.uncolor_from-count in
     let lost = from_uncolors args.entries.now args.c ready.color (suc args.v) (left (goal.at.uncolor_from-requires c).After-slice_known-4-1) (given (goal.at.uncolor_from-requires c).After-slice_known-4-1) in
-    (ring-kept ready lost run.last.0 run.last.1.0 run.result (moved (goal.at.uncolor_from-requires c).After-slice_known-4-1) run.kept.1.0, omega arith)
+    (ring-kept ready lost run.new.coloring run.new.queue run.result (moved (goal.at.uncolor_from-requires c).After-slice_known-4-1) run.auto.queue, omega arith)
 
 pub returns : goal.returns
 unfolding uncolor_same_neighbors

@@ -14,7 +14,7 @@ use Rattle.coloring.proofs.recolor.FreeColorLaws.{possible-below, forced-here, f
 use Rattle.coloring.proofs.recolor.WalkLaws.{left, left_free, free_of, step_of, forced, walk_begins, walk-done}
 use Rattle.coloring.proofs.recolor.WalkLaws.{walk_stops, walk_first, walk_free, walk_uncolors, walk_forces, less_forced, forced_same}
 use Rattle.coloring.proofs.recolor.walk.Goals as goal
-use Rattle.coloring.proofs.recolor.walk.Goals.{After-row-entries, After-slice_known-in-walk-1, After-uncolor_same_neighbors-waiting, After-vertex_possible_colors-possible, At-walk, Joined-joined}
+use Rattle.coloring.proofs.recolor.walk.Goals.{After-row-entries, After-slice_known-in-walk-1, After-uncolor_same_neighbors-waiting, After-vertex_possible_colors-possible, At-walk, Joined-joined, else-joined, else-walk-test, then-joined, then-walk-test+then-step-ge-MAX_RECOLOR_STEPS}
 
 module _ (c : After-slice_known-in-walk-1) where
   abbrev n : ℕ
@@ -57,7 +57,11 @@ module _ (c : After-vertex_possible_colors-possible) where
 module _ (c : Joined-joined) where
   met : c.if-joined.t-44 ≡ (joined (entries (goal.at.Joined-joined c).After-row-entries) c.args.a && eqb (c.loop-color.step % 3) c.args.c)
   unfolding joined
-  met = ⊎_elim (λ w. w.1 ∙ sym (rw w.0.taken)) (λ w. w.1 ∙ w.0.left ∙ sym (rw w.0.left)) c.if-joined.branch
+  met =
+      elim c.if-joined.branch [
+        then-joined w ↦ w.t-44-is ∙ sym (rw w.if-joined.true-raw)
+      | else-joined w ↦ w.t-44-is ∙ w.if-joined.false-raw ∙ sym (rw w.if-joined.false-raw)
+      ]
 
   -- the loop is left at the forced step
   broke : c.if-joined.t-44 ≡ false → c.loop-color.step ≡ step (goal.at.Joined-joined c).After-row-entries
@@ -123,9 +127,8 @@ overflow_cast-i c = omega (arith, first c)
 pub row-entries-requires : goal.row-entries-requires
 row-entries-requires c = (c.requires.entries, first c, c.walk.invariant.few)
 
-vertex_possible_colors-possible-requires :
-    tie.Need-vertex-possible-colors-requires invariant-loop decreases-loop invariant-walk decreases-walk
-vertex_possible_colors-possible-requires c κs = c.walk.invariant.going.size ∙ sym (cut-size c)
+pub vertex_possible_colors-possible-requires : goal.vertex_possible_colors-possible-requires
+vertex_possible_colors-possible-requires c = c.walk.invariant.going.size ∙ sym (cut-size c)
 
 pub overflow_add-head : goal.overflow_add-head
 overflow_add-head c = omega arith
@@ -133,10 +136,9 @@ overflow_add-head c = omega arith
 pub overflow_sub-waiting : goal.overflow_sub-waiting
 overflow_sub-waiting c = omega arith
 
-first_possible_color-requires :
-    tie.Need-first-possible-color-requires invariant-loop decreases-loop invariant-walk decreases-walk
-first_possible_color-requires c κs =
-    omega (arith, free (goal.at.Then-possible-ne0 c).After-vertex_possible_colors-possible, possible-below c.walk.coloring (row (n (goal.at.Then-possible-ne0 c).After-slice_known-in-walk-1) (edge_matrix (goal.at.Then-possible-ne0 c).After-slice_known-in-walk-1) (spline (goal.at.Then-possible-ne0 c).After-slice_known-in-walk-1)))
+pub first_possible_color-requires : goal.first_possible_color-requires
+first_possible_color-requires c =
+    omega (arith, free (goal.at.first_possible_color-requires c).After-vertex_possible_colors-possible, possible-below c.walk.coloring (row (n (goal.at.first_possible_color-requires c).After-slice_known-in-walk-1) (edge_matrix (goal.at.first_possible_color-requires c).After-slice_known-in-walk-1) (spline (goal.at.first_possible_color-requires c).After-slice_known-in-walk-1)))
 
 pub bounds-coloring-i : goal.bounds-coloring-i
 bounds-coloring-i c = omega (arith, first (goal.at.bounds-coloring-i c).After-slice_known-in-walk-1, c.walk.invariant.going.size)
@@ -174,12 +176,11 @@ loop-color-preserved c =
 pub bounds-coloring-i-in-walk : goal.bounds-coloring-i-in-walk
 bounds-coloring-i-in-walk c = omega (arith, first (goal.at.bounds-coloring-i-in-walk c).After-slice_known-in-walk-1, c.walk.invariant.going.size)
 
-uncolor_same_neighbors-waiting-requires :
-    tie.Need-uncolor-same-neighbors-requires invariant-loop decreases-loop invariant-walk decreases-walk
-uncolor_same_neighbors-waiting-requires c κs =
+pub uncolor_same_neighbors-waiting-requires : goal.uncolor_same_neighbors-waiting-requires
+uncolor_same_neighbors-waiting-requires c =
     (
-      rw (cut (goal.at.After-uncolor_same_neighbors-arg-in-walk-1 c).After-row-entries) (walk_uncolors c.walk.invariant (some (goal.at.After-uncolor_same_neighbors-arg-in-walk-1 c).After-slice_known-in-walk-1) c.requires.entries (c.loop-color.step % 3) (omega arith)),
-      rw length-set (omega (arith, first (goal.at.After-uncolor_same_neighbors-arg-in-walk-1 c).After-slice_known-in-walk-1, c.walk.invariant.going.size)),
+      rw (cut (goal.at.uncolor_same_neighbors-waiting-requires c).After-row-entries) (walk_uncolors c.walk.invariant (some (goal.at.uncolor_same_neighbors-waiting-requires c).After-slice_known-in-walk-1) c.requires.entries (c.loop-color.step % 3) (omega arith)),
+      rw length-set (omega (arith, first (goal.at.uncolor_same_neighbors-waiting-requires c).After-slice_known-in-walk-1, c.walk.invariant.going.size)),
     )
 
 pub walk-smaller : goal.walk-smaller
@@ -211,4 +212,8 @@ shape_of-queue-else-waiting-eq0 c = ring-kept (goal.at.shape_of-queue-else-waiti
 
 pub returns-else-waiting-eq0 : goal.returns-else-waiting-eq0
 returns-else-waiting-eq0 c =
-    ⊎_elim (λ w. absurd (c.if-waiting-eq0.false (omega (arith, w.left)))) (λ w. walk_stops c.walk.invariant w.0.taken w.5.taken) c.walk-test.branch
+    elim c.walk-test.branch [
+      else-walk-test w ↦ absurd (c.if-waiting-eq0.false (omega (arith, w.walk-test.false)))
+    | then-walk-test+then-step-ge-MAX_RECOLOR_STEPS w ↦
+        walk_stops c.walk.invariant w.walk-test.true w.if-step-ge-MAX_RECOLOR_STEPS.true
+    ]

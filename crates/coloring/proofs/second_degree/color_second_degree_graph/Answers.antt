@@ -58,12 +58,10 @@ overflow_mul-start c = omega (arith, inside c)
 pub overflow_add-end : goal.overflow_add-end
 overflow_add-end c = omega (arith, inside c)
 
-slice_bounds-vertex_possible_colors-end :
-    tie.Need-slice-reshare-prefix-vertex-possible-colors invariant-loop decreases-loop
+pub slice_bounds-vertex_possible_colors-end : goal.slice_bounds-vertex_possible_colors-end
 slice_bounds-vertex_possible_colors-end c = omega arith
 
-slice_bounds-vertex_possible_colors-end-in-loop-i :
-    tie.Need-slice-aggregate-vertex-possible-colors invariant-loop decreases-loop
+pub slice_bounds-vertex_possible_colors-end-in-loop-i : goal.slice_bounds-vertex_possible_colors-end-in-loop-i
 slice_bounds-vertex_possible_colors-end-in-loop-i c = sym (done-size c)
 
 pub slice_bounds-vertex_possible_colors-count : goal.slice_bounds-vertex_possible_colors-count
@@ -98,8 +96,8 @@ loop-i-smaller c = omega arith
 pub loop-i-preserved : goal.loop-i-preserved
 loop-i-preserved c =
     let old = c.loop-i in
-    let more = color-more (n (goal.at.loop-i-preserved c).In-loop-i) (edge_matrix (goal.at.loop-i-preserved c).In-loop-i) (i (goal.at.loop-i-preserved c).In-loop-i) old.rest old.coloring c.loop-i-test.true old.inv.1 in
-    (omega arith, rw length-set old.inv.1, rw (draw (goal.at.loop-i-preserved c).After-starting_color-draw) (more ∙ old.inv.2))
+    let more = color-more (n (goal.at.loop-i-preserved c).In-loop-i) (edge_matrix (goal.at.loop-i-preserved c).In-loop-i) (i (goal.at.loop-i-preserved c).In-loop-i) old.rest old.coloring c.loop-i-test.true old.invariant.1 in
+    (omega arith, rw length-set old.invariant.1, rw (draw (goal.at.loop-i-preserved c).After-starting_color-draw) (more ∙ old.invariant.2))
 
 pub shape_of-coloring : goal.shape_of-coloring
 shape_of-coloring c = c.loop-i.invariant.1

@@ -17,10 +17,10 @@ color_second_degree_graph-requires c =
 
 pub offer_pairs-requires : goal.offer_pairs-requires
 offer_pairs-requires c =
-    offerable _ _ _ _ _ _ _ c.enter_zero_pairs-zeros.result c.args.seed c.requires c.enter_zero_pairs-zeros.ensures
-    c.color_second_degree_graph.ensures
+    offerable _ _ _ _ _ _ _ c.enter_zero_pairs-zeros.result c.args.seed c.requires
+    (c.enter_zero_pairs-zeros.ensures.entered, c.enter_zero_pairs-zeros.ensures.others) c.color_second_degree_graph.ensures
 
 pub returns : goal.returns
 returns c =
-    ends _ _ _ _ _ _ _ c.enter_zero_pairs-zeros.result c.args.seed c.requires c.enter_zero_pairs-zeros.ensures
-    c.color_second_degree_graph.ensures _ c.offer_pairs.ensures
+    ends _ _ _ _ _ _ _ c.enter_zero_pairs-zeros.result c.args.seed c.requires
+    (c.enter_zero_pairs-zeros.ensures.entered, c.enter_zero_pairs-zeros.ensures.others) c.color_second_degree_graph.ensures _ c.offer_pairs.ensures

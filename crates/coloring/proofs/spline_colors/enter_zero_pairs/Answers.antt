@@ -45,8 +45,9 @@ shape_of-edge_matrix-then-distance_at c = same_size (goal.at.shape_of-edge_matri
 
 pub returns-then-distance_at : goal.returns-then-distance_at
 returns-then-distance_at c =
-    zeros_stop _ _ _ _ _ _ (k (goal.at.returns-then-distance_at c).In-loop-k) c.loop-k.invariant c.requires.in_order c.loop-k-test.true
-    (not_zero _ _ c.distance_at.ensures c.if-distance_at.true)
+    let z = zeros_stop _ _ _ _ _ _ (k (goal.at.returns-then-distance_at c).In-loop-k) c.loop-k.invariant c.requires.in_order c.loop-k-test.true
+        (not_zero _ _ c.distance_at.ensures c.if-distance_at.true) in
+    record { entered = z.0; others = z.1 }
 
 pub code_at-code-requires : goal.code_at-code-requires
 code_at-code-requires c = (c.requires.in_order.numbers, c.loop-k-test.true)
@@ -79,4 +80,6 @@ shape_of-edge_matrix c =
     c.loop-k.invariant.size ∙ sym (ap length c.requires.none ∙ length-replicate _ 0)
 
 pub returns : goal.returns
-returns c = zeros_end _ _ _ _ _ _ _ c.loop-k.invariant c.requires.in_order c.loop-k-test.false
+returns c =
+    let z = zeros_end _ _ _ _ _ _ _ c.loop-k.invariant c.requires.in_order c.loop-k-test.false in
+    record { entered = z.0; others = z.1 }

@@ -58,20 +58,15 @@ pub slice_bounds-buffer-end-in-Recolored : goal.slice_bounds-buffer-end-in-Recol
 slice_bounds-buffer-end-in-Recolored c =
     omega (arith, length-append (after (goal.at.slice_bounds-buffer-end-in-Recolored c).After-recolor) (drop (n (goal.at.slice_bounds-buffer-end-in-Recolored c).Start) zeros), after-size (goal.at.slice_bounds-buffer-end-in-Recolored c).After-recolor)
 
--- NEED slice-aggregate-copy
-slice-aggregate-copy : tie.Need-slice-aggregate-copy
-slice-aggregate-copy c = sym (front_size c.before.before.before.before.before)
-
--- NEED copy-requires
-copy-requires : tie.Need-copy-requires
-copy-requires c κs = let told = c.before.before in omega (arith, front_size told.before.before.before.before)
+pub copy_from_slice-requires : goal.copy_from_slice-requires
+copy_from_slice-requires c = sym (front_size (goal.at.copy_from_slice-requires c).After-recolor)
 
 pub enter_pair-requires : goal.enter_pair-requires
 enter_pair-requires c = pair_inside c.requires
 
 pub returns-in-Recolored : goal.returns-in-Recolored
 returns-in-Recolored c =
-    let taken = c.copy.ensures.1 ∙ copied _ c.args.coloring.now (sym (front_size (goal.at.returns-in-Recolored c).After-recolor)) ∙ front (goal.at.returns-in-Recolored c).After-recolor in
+    let taken = c.copy_from_slice.ensures.after ∙ front (goal.at.returns-in-Recolored c).After-recolor in
     ap (λ (l : List ℕ). outcome (kept c.in-Recolored.step) l c.args.edge_matrix.now) taken ∙ by_end (goal.at.returns-in-Recolored c).After-recolor _ c.in-Recolored.is
 
 pub returns-in-Stopped : goal.returns-in-Stopped

@@ -31,4 +31,4 @@ loop-j-preserved c =
 pub returns : goal.returns
 returns c =
     let e : c.loop-j.j ≡ c.args.i = omega arith in
-    rw e c c.loop-j.invariant.1
+    rw e at c.loop-j.invariant.1

@@ -32,4 +32,4 @@ loop-i-preserved c =
 pub returns : goal.returns
 returns c =
     let e : c.loop-i.i ≡ c.args.n = omega arith in
-    rw e c c.loop-i.invariant.1
+    rw e at c.loop-i.invariant.1

@@ -9,7 +9,7 @@ use Rattle.coloring.proofs.recolor.RowLaws.{square_below}
 use Rattle.coloring.proofs.spline_table.OfferLaws.{Unrefused, unrefused_offerable, offer-many, offer-lengths, offer_unsound}
 use Rattle.coloring.proofs.spline_table.OfferLaws.{offer-first, offer-second, offer_equal, offer_rule}
 use Rattle.coloring.proofs.spline_table.try_add_edge.Goals as goal
-use Rattle.coloring.proofs.spline_table.try_add_edge.Goals.{Else-a-b, Start}
+use Rattle.coloring.proofs.spline_table.try_add_edge.Goals.{Else-a-b, Start, then-n-a-via-else-n-a+else-n-b+then-a-b, then-n-a-via-else-n-a+then-n-b, then-n-a-via-then-n-a}
 
 abbrev given : Start → Table
 given start = table_of start.args.coloring.now start.args.edge_matrix.now
@@ -45,11 +45,12 @@ pub returns-then-n-a : goal.returns-then-n-a
 returns-then-n-a c =
     let few = c.if-n-gt-MAX_SPLINES.false in
     let size = c.if-edge_matrix-n.false in
-    sym
-    (⊎_elim (λ w. offer-first (given (goal.at.returns-then-n-a c).Start) c.args.a c.args.b few size w.taken)
-    (⊎_elim (λ w. offer-second (given (goal.at.returns-then-n-a c).Start) c.args.a c.args.b few size (leb-true _ _ w.1.taken))
-    (λ w. offer_equal (given (goal.at.returns-then-n-a c).Start) c.args.a c.args.b few size (eqb-true _ _ w.2.taken)))
-    c.then-n-a.branch)
+    let t = given (goal.at.returns-then-n-a c).Start in
+    elim c.then-n-a.branch [
+      then-n-a-via-then-n-a w ↦ sym (offer-first t c.args.a c.args.b few size w.if-n-a.true)
+    | then-n-a-via-else-n-a+then-n-b w ↦ sym (offer-second t c.args.a c.args.b few size w.if-n-b.true)
+    | then-n-a-via-else-n-a+else-n-b+then-a-b w ↦ sym (offer_equal t c.args.a c.args.b few size w.if-a-b.true)
+    ]
 
 pub try_add_edge_unchecked-requires : goal.try_add_edge_unchecked-requires
 try_add_edge_unchecked-requires c =

@@ -96,7 +96,7 @@ loop-i-smaller c = omega arith
 pub loop-i-preserved : goal.loop-i-preserved
 loop-i-preserved c =
     let s = c.loop-i in
-    painting_next _ _ _ _ _ _ _ _ _ s.inv c.loop-i-test.true (counted (goal.at.loop-i-preserved c).After-part_splines) c.paint_part.auto.out
+    painting_next _ _ _ _ _ _ _ _ _ s.invariant c.loop-i-test.true (counted (goal.at.loop-i-preserved c).After-part_splines) c.paint_part.auto.out
     (rw (whole (goal.at.loop-i-preserved c).In-loop-i) at c.paint_part.ensures)
 
 pub shape_of-out : goal.shape_of-out

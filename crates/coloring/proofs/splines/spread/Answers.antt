@@ -8,6 +8,7 @@ use Rattle.coloring.specs.Splines.{spread}
 use Rattle.coloring.specs.Sizes.{spread-length}
 use Rattle.coloring.proofs.splines.SpreadLaws.{spread_corner, spread_beyond, spread-edge, spread_end}
 use Rattle.coloring.proofs.splines.spread.Goals as goal
+use Rattle.coloring.proofs.splines.spread.Goals.{else-flags-i, then-flags-i+else-next-values, then-flags-i+then-next-values}
 
 pub overflow_sub-value : goal.overflow_sub-value
 overflow_sub-value c = omega arith
@@ -50,29 +51,31 @@ loop-i-preserved c =
     let values = a.values.now in
     let h = c.loop-i-test.true in
     let room : at.i < length at.out = omega arith in
-    ⊎_elim
-    (λ w. (
-      omega arith,
-      omega (arith, w.4),
-      simp length-set at.invariant.2,
-      at.invariant.3
-          ∙ rw (w.3, w.4, spread_corner at.value values flags at.next at.i h 0 w.0.taken w.1.taken) (over-next at.i _ _ at.out room),
-    ))
-    (⊎_elim
-    (λ w. (
-      omega arith,
-      omega (arith, w.3),
-      simp length-set at.invariant.2,
-      at.invariant.3
-          ∙ rw (w.2, w.3, spread_beyond at.value values flags at.next at.i h w.0.taken w.1.left) (over-next at.i _ _ at.out room),
-    ))
-    (λ w. (
-      omega arith,
-      omega (arith, w.2),
-      simp length-set at.invariant.2,
-      at.invariant.3 ∙ rw (w.1, w.2, spread-edge at.value values flags at.next at.i h w.0.left) (over-next at.i _ _ at.out room),
-    )))
-    c.if-flags-i.branch
+    elim c.if-flags-i.branch [
+      then-flags-i+then-next-values w ↦ (
+        omega arith,
+        omega (arith, w.next-is),
+        simp length-set at.invariant.2,
+        at.invariant.3
+            ∙ rw (w.value-is, w.next-is, spread_corner at.value values flags at.next at.i h 0 w.if-flags-i.true w.if-next-values.true)
+            (over-next at.i _ _ at.out room),
+      )
+    | then-flags-i+else-next-values w ↦ (
+        omega arith,
+        omega (arith, w.next-is),
+        simp length-set at.invariant.2,
+        at.invariant.3
+            ∙ rw (w.value-is, w.next-is, spread_beyond at.value values flags at.next at.i h w.if-flags-i.true w.if-next-values.false)
+            (over-next at.i _ _ at.out room),
+      )
+    | else-flags-i w ↦ (
+        omega arith,
+        omega (arith, w.next-is),
+        simp length-set at.invariant.2,
+        at.invariant.3
+            ∙ rw (w.value-is, w.next-is, spread-edge at.value values flags at.next at.i h w.if-flags-i.false) (over-next at.i _ _ at.out room),
+      )
+    ]
 
 pub shape_of-out : goal.shape_of-out
 shape_of-out c = omega arith

@@ -52,7 +52,7 @@ loop-i-preserved c =
     let third = c.third_by in
     let thirds : c.third_of.result ≡ third_of a.first a.middle a.last (to_z w32 (of_z w32 third.result)) = c.third_of.ensures in
     let value : c.third_of.result ≡ third_of a.first a.middle a.last (third_by a.division i m) =
-    thirds ∙ ap (third_of a.first a.middle a.last) (to_z-of_z {w = w32} (record { sfits = third.type-inv }) ∙ third.ensures) in (
+    thirds ∙ ap (third_of a.first a.middle a.last) (to_z-of_z {w = w32} (record { sfits = third.type_inv }) ∙ third.ensures) in (
       omega arith,
       walked_more a.corner m _ 0 (omega arith) (omega arith) c.loop-i.invariant.1 c.third_of.result
           (value ∙ sym (at a.division a.first a.middle a.last m i (omega arith))),

@@ -10,7 +10,7 @@ pub returns-in-Source : goal.returns-in-Source
 returns-in-Source c =
     let a = c.args in
     let source = c.symmetrical_trichotomy in
-    to_z-of_z {w = w32} (record { sfits = source.type-inv })
+    to_z-of_z {w = w32} (record { sfits = source.type_inv })
     ∙ source.ensures
     ∙ ap (λ (d : Division). third_by d a.position a.n) (sym c.in-Source.is)
 
@@ -18,6 +18,6 @@ pub returns-in-Balanced : goal.returns-in-Balanced
 returns-in-Balanced c =
     let a = c.args in
     let other = c.balanced in
-    to_z-of_z {w = w32} (record { sfits = other.type-inv })
+    to_z-of_z {w = w32} (record { sfits = other.type_inv })
     ∙ other.ensures
     ∙ ap (λ (d : Division). third_by d a.position a.n) (sym c.in-Balanced.is)

@@ -12,6 +12,7 @@ use Rattle.coloring.specs.Values.{spline_colors}
 use Rattle.coloring.proofs.Lists.{part_front}
 use Rattle.coloring.proofs.outline.EdgeLaws.{edges-between, part-matching}
 use Rattle.coloring.proofs.values.part_colors.Goals as goal
+use Rattle.coloring.proofs.values.part_colors.Goals.{After-slice_known-1}
 
 pub slice_bounds-spline_colors-count : goal.slice_bounds-spline_colors-count
 slice_bounds-spline_colors-count c = search rules

@@ -68,7 +68,7 @@ module _ (c : After-part_splines) where
   fit =
       let s = c.loop-i in
       let a = c.args in
-      omega (arith, counted, s.inv.long, s.inv.splines, left_step spline_count a.lengths.now a.flags.now s.i s.at c.loop-i-test.true)
+      omega (arith, counted, s.invariant.long, s.invariant.splines, left_step spline_count a.lengths.now a.flags.now s.i s.at c.loop-i-test.true)
 
 pub loop-i-init : goal.loop-i-init
 loop-i-init c =
@@ -106,7 +106,7 @@ loop-i-smaller c = omega arith
 pub loop-i-preserved : goal.loop-i-preserved
 loop-i-preserved c =
     let s = c.loop-i in
-    coloring-next _ _ _ _ _ _ _ _ _ _ _ _ s.inv c.loop-i-test.true (counted (goal.at.loop-i-preserved c).After-part_splines) c.part_colors-pen.auto.colors
+    coloring-next _ _ _ _ _ _ _ _ _ _ _ _ s.invariant c.loop-i-test.true (counted (goal.at.loop-i-preserved c).After-part_splines) c.part_colors-pen.auto.colors
     (rw (whole (goal.at.loop-i-preserved c).In-loop-i) at c.part_colors-pen.ensures)
 
 pub shape_of-colors : goal.shape_of-colors

@@ -11,7 +11,7 @@ use Rattle.job.specs.Buffers.{buffers, written, RecordFits}
 use Rattle.job.proofs.records.RecordLaws.{part-after}
 use Rattle.job.proofs.records.RecordLaws.{controls-few}
 use Rattle.job.proofs.buffers.write_item.Goals as goal
-use Rattle.job.proofs.buffers.write_item.Goals.{After-body_size-end, In-Distances-2, In-Edge-2, Start}
+use Rattle.job.proofs.buffers.write_item.Goals.{After-body_size-end, In-Distances, In-Edge, Start}
 
 -- there is room for the record
 module _ (c : Start) where
@@ -21,26 +21,26 @@ module _ (c : Start) where
   room item e = subst (λ (i : Item). RecordFits i c.args.n c.args.bytes.now
       (buffers c.args.lengths.now c.args.kinds.now c.args.points.now c.args.distances.now)) e c.requires
 
-module _ (c : In-Edge-2) where
+module _ (c : In-Edge) where
   abbrev kind : Kind
   kind = c.in-Edge.kind
 
   edge-room : RecordFits (Edge kind) c.args.n c.args.bytes.now
       (buffers c.args.lengths.now c.args.kinds.now c.args.points.now c.args.distances.now)
-  edge-room = room (goal.at.In-Edge-2 c).Start (Edge kind) c.in-Edge.is
+  edge-room = room (goal.at.In-Edge c).Start (Edge kind) c.in-Edge.is
 
   -- the place of the last contour
   last-room : (1 ≤ c.args.n.contours) × (c.args.n.contours - 1 < length c.args.lengths.now)
   last-room = (omega (arith, edge-room.0), omega (arith, edge-room.0, edge-room.1))
 
 module _ (c : After-body_size-end) where
-  end_is : 2 + c.body_size-end.result ≡ 2 + 16 * controls (kind (goal.at.After-body_size-end c).In-Edge-2)
+  end_is : 2 + c.body_size-end.result ≡ 2 + 16 * controls (kind (goal.at.After-body_size-end c).In-Edge)
   end_is = ap (λ (k : ℕ). 2 + k) c.body_size-end.ensures
 
-module _ (c : In-Distances-2) where
+module _ (c : In-Distances) where
   distances_room : RecordFits (Distances c.in-Distances.count) c.args.n c.args.bytes.now
       (buffers c.args.lengths.now c.args.kinds.now c.args.points.now c.args.distances.now)
-  distances_room = room (goal.at.In-Distances-2 c).Start (Distances c.in-Distances.count) c.in-Distances.is
+  distances_room = room (goal.at.In-Distances c).Start (Distances c.in-Distances.count) c.in-Distances.is
 
 pub offset_bounds-lengths-contours : goal.offset_bounds-lengths-contours
 offset_bounds-lengths-contours c = omega (arith, room (goal.at.offset_bounds-lengths-contours c).Start Contour c.in-Contour.is)
@@ -49,54 +49,54 @@ pub bounds-lengths-contours : goal.bounds-lengths-contours
 bounds-lengths-contours c = omega (arith, room (goal.at.bounds-lengths-contours c).Start Contour c.in-Contour.is)
 
 pub overflow_sub-last : goal.overflow_sub-last
-overflow_sub-last c = (last-room (goal.at.overflow_sub-last c).In-Edge-2).0
+overflow_sub-last c = (last-room (goal.at.overflow_sub-last c).In-Edge).0
 
 pub offset_bounds-lengths-last : goal.offset_bounds-lengths-last
-offset_bounds-lengths-last c = omega (arith, last-room (goal.at.offset_bounds-lengths-last c).In-Edge-2)
+offset_bounds-lengths-last c = omega (arith, last-room (goal.at.offset_bounds-lengths-last c).In-Edge)
 
 pub bounds-lengths-last : goal.bounds-lengths-last
-bounds-lengths-last c = (last-room (goal.at.bounds-lengths-last c).In-Edge-2).1
+bounds-lengths-last c = (last-room (goal.at.bounds-lengths-last c).In-Edge).1
 
 pub overflow_add-lengths : goal.overflow_add-lengths
-overflow_add-lengths c = omega (arith, edge-room (goal.at.overflow_add-lengths c).In-Edge-2)
+overflow_add-lengths c = omega (arith, edge-room (goal.at.overflow_add-lengths c).In-Edge)
 
 pub offset_bounds-lengths-last-in-Edge : goal.offset_bounds-lengths-last-in-Edge
-offset_bounds-lengths-last-in-Edge c = omega (arith, last-room (goal.at.offset_bounds-lengths-last-in-Edge c).In-Edge-2)
+offset_bounds-lengths-last-in-Edge c = omega (arith, last-room (goal.at.offset_bounds-lengths-last-in-Edge c).In-Edge)
 
 pub bounds-lengths-last-in-Edge : goal.bounds-lengths-last-in-Edge
-bounds-lengths-last-in-Edge c = (last-room (goal.at.bounds-lengths-last-in-Edge c).In-Edge-2).1
+bounds-lengths-last-in-Edge c = (last-room (goal.at.bounds-lengths-last-in-Edge c).In-Edge).1
 
 pub bounds-kinds-edges : goal.bounds-kinds-edges
-bounds-kinds-edges c = omega (arith, edge-room (goal.at.bounds-kinds-edges c).In-Edge-2)
+bounds-kinds-edges c = omega (arith, edge-room (goal.at.bounds-kinds-edges c).In-Edge)
 
 pub overflow_add-end : goal.overflow_add-end
-overflow_add-end c = omega (arith, end_is c, controls-few (kind (goal.at.overflow_add-end c).In-Edge-2))
+overflow_add-end c = omega (arith, end_is c, controls-few (kind (goal.at.overflow_add-end c).In-Edge))
 
 pub overflow_mul-from : goal.overflow_mul-from
-overflow_mul-from c = omega (arith, edge-room (goal.at.overflow_mul-from c).In-Edge-2)
+overflow_mul-from c = omega (arith, edge-room (goal.at.overflow_mul-from c).In-Edge)
 
 pub overflow_add-to : goal.overflow_add-to
-overflow_add-to c = omega (arith, edge-room (goal.at.overflow_add-to c).In-Edge-2)
+overflow_add-to c = omega (arith, edge-room (goal.at.overflow_add-to c).In-Edge)
 
 pub slice_bounds-write_points-end : goal.slice_bounds-write_points-end
-slice_bounds-write_points-end c = omega (arith, end_is c, edge-room (goal.at.slice_bounds-write_points-end c).In-Edge-2)
+slice_bounds-write_points-end c = omega (arith, end_is c, edge-room (goal.at.slice_bounds-write_points-end c).In-Edge)
 
 pub offset_bounds-points-from : goal.offset_bounds-points-from
-offset_bounds-points-from c = omega (arith, edge-room (goal.at.offset_bounds-points-from c).In-Edge-2)
+offset_bounds-points-from c = omega (arith, edge-room (goal.at.offset_bounds-points-from c).In-Edge)
 
 pub slice_bounds-write_points-end-in-Edge : goal.slice_bounds-write_points-end-in-Edge
-slice_bounds-write_points-end-in-Edge c = omega (arith, edge-room (goal.at.slice_bounds-write_points-end-in-Edge c).In-Edge-2)
+slice_bounds-write_points-end-in-Edge c = omega (arith, edge-room (goal.at.slice_bounds-write_points-end-in-Edge c).In-Edge)
 
 pub slice_bounds-write_floats-count : goal.slice_bounds-write_floats-count
-slice_bounds-write_floats-count c = omega (arith, distances_room (goal.at.slice_bounds-write_floats-count c).In-Distances-2)
+slice_bounds-write_floats-count c = omega (arith, distances_room (goal.at.slice_bounds-write_floats-count c).In-Distances)
 
 pub slice_bounds-write_floats-start : goal.slice_bounds-write_floats-start
-slice_bounds-write_floats-start c = omega (arith, distances_room (goal.at.slice_bounds-write_floats-start c).In-Distances-2)
+slice_bounds-write_floats-start c = omega (arith, distances_room (goal.at.slice_bounds-write_floats-start c).In-Distances)
 
 pub write_floats-requires : goal.write_floats-requires
 write_floats-requires c = (
-  simp (length-take, length-drop) (omega (arith, distances_room (goal.at.write_floats-requires c).In-Distances-2)),
-  omega (arith, distances_room (goal.at.write_floats-requires c).In-Distances-2),
+  simp (length-take, length-drop) (omega (arith, distances_room (goal.at.write_floats-requires c).In-Distances)),
+  omega (arith, distances_room (goal.at.write_floats-requires c).In-Distances),
 )
 
 pub returns-in-Header : goal.returns-in-Header
@@ -116,7 +116,7 @@ unfolding written
 returns-in-Edge c =
     let i = c.args.n.edges in
     let eight : 8 * i + 8 - 8 * i ≡ 8 = omega arith in
-    let size : 2 + c.body_size-end.result - 2 ≡ 16 * controls (kind (goal.at.returns-in-Edge c).In-Edge-2) = omega (arith, end_is (goal.at.returns-in-Edge c).After-body_size-end) in
+    let size : 2 + c.body_size-end.result - 2 ≡ 16 * controls (kind (goal.at.returns-in-Edge c).In-Edge) = omega (arith, end_is (goal.at.returns-in-Edge c).After-body_size-end) in
     rw c.in-Edge.is
     (record {
       lengths_are = refl;

@@ -12,7 +12,7 @@ use Rattle.job.specs.Buffers.{Buffers, buffers}
 use Rattle.job.proofs.color.ColorLaws.{Holding, fits_jobs, holding_of, color-refused, held-colored, edges_most, contours-within, kinds-within}
 use Rattle.job.proofs.color.ColorLaws.{places-within, distances-within}
 use Rattle.job.proofs.color.color_in.Goals as goal
-use Rattle.job.proofs.color.color_in.Goals.{After-slice_known-in-Job-4-1, In-Job-2, Start}
+use Rattle.job.proofs.color.color_in.Goals.{After-slice_known-in-Job-4-1, In-Job, Start}
 
 -- the file, the places for its job, and those for the result
 module _ (c : Start) where
@@ -26,18 +26,18 @@ module _ (c : Start) where
   out = result c.args.out_lengths.now c.args.out_kinds.now c.args.out_points.now c.args.out_colors.now
 
 -- a file that was read
-module _ (c : In-Job-2) where
-  numbers_are : gives c.in-Job.n ≡ answer_of (read_job (file (goal.at.In-Job-2 c).Start))
+module _ (c : In-Job) where
+  numbers_are : gives c.in-Job.n ≡ answer_of (read_job (file (goal.at.In-Job c).Start))
   numbers_are = sym (ap read_answer c.in-Job.is) ∙ c.scan.ensures
 
 -- its job, written into the places
 module _ (c : After-slice_known-in-Job-4-1) where
   holding : Holding (file (goal.at.After-slice_known-in-Job-4-1 c).Start) c.in-Job.n (old (goal.at.After-slice_known-in-Job-4-1 c).Start) c.fill.new.lengths c.fill.new.kinds c.fill.new.points
       c.fill.new.distances
-  holding = holding_of _ _ _ (numbers_are (goal.at.After-slice_known-in-Job-4-1 c).In-Job-2) _ _ _ _ c.fill.ensures
+  holding = holding_of _ _ _ (numbers_are (goal.at.After-slice_known-in-Job-4-1 c).In-Job) _ _ _ _ c.fill.ensures
 
 pub fill-requires : goal.fill-requires
-fill-requires c = fits_jobs _ _ _ (numbers_are (goal.at.fill-requires c).In-Job-2) c.requires
+fill-requires c = fits_jobs _ _ _ (numbers_are (goal.at.fill-requires c).In-Job) c.requires
 
 pub overflow_mul-places : goal.overflow_mul-places
 overflow_mul-places c = omega (arith, edges_most (holding c))

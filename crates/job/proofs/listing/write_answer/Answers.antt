@@ -12,7 +12,7 @@ use Rattle.job.specs.Listing.{refusal_line, file_text, Pasted}
 use Rattle.coloring.specs.Refusal.{refusal_number}
 use Rattle.job.proofs.AnswerLaws.{Front, front, refused_text, text_few}
 use Rattle.job.proofs.listing.write_answer.Goals as goal
-use Rattle.job.proofs.listing.write_answer.Goals.{After-color, In-Edges, In-Refused-2, Start}
+use Rattle.job.proofs.listing.write_answer.Goals.{After-color, In-Edges, In-Refused, Start}
 
 -- the file, and the places for its coloured shape as they came
 module _ (c : Start) where
@@ -36,11 +36,11 @@ module _ (c : In-Edges) where
       (ap (λ (r : Colored). outcome (colored_answer r) (new (goal.at.In-Edges c).After-color)) (sym c.in-Edges.is) ∙ c.color.ensures)
 
 -- a file that was refused
-module _ (c : In-Refused-2) where
-  refused : file_text (file (goal.at.In-Refused-2 c).Start) ≡ refusal_line (refusal_number c.in-Refused.refusal)
+module _ (c : In-Refused) where
+  refused : file_text (file (goal.at.In-Refused c).Start) ≡ refusal_line (refusal_number c.in-Refused.refusal)
   refused =
-      refused_text (file (goal.at.In-Refused-2 c).Start) (old (goal.at.In-Refused-2 c).Start) c.requires.holds_results (refusal_number c.in-Refused.refusal) (new (goal.at.In-Refused-2 c).After-color)
-      (ap (λ (r : Colored). outcome (colored_answer r) (new (goal.at.In-Refused-2 c).After-color)) (sym c.in-Refused.is) ∙ c.color.ensures)
+      refused_text (file (goal.at.In-Refused c).Start) (old (goal.at.In-Refused c).Start) c.requires.holds_results (refusal_number c.in-Refused.refusal) (new (goal.at.In-Refused c).After-color)
+      (ap (λ (r : Colored). outcome (colored_answer r) (new (goal.at.In-Refused c).After-color)) (sym c.in-Refused.is) ∙ c.color.ensures)
 
 pub slice_bounds-write_listing-end : goal.slice_bounds-write_listing-end
 slice_bounds-write_listing-end c = (at_front c).lengths-within
@@ -66,7 +66,7 @@ write_listing-requires c =
 
 pub write_refusal-requires : goal.write_refusal-requires
 write_refusal-requires c =
-    omega (arith, ap length (refused (goal.at.write_refusal-requires c).In-Refused-2), text_few (file (goal.at.write_refusal-requires c).Start), c.requires.max_text_in_bounds)
+    omega (arith, ap length (refused (goal.at.write_refusal-requires c).In-Refused), text_few (file (goal.at.write_refusal-requires c).Start), c.requires.max_text_in_bounds)
 
 pub returns-in-Edges : goal.returns-in-Edges
 returns-in-Edges c =
@@ -77,5 +77,5 @@ returns-in-Edges c =
 pub returns-in-Refused : goal.returns-in-Refused
 returns-in-Refused c =
     subst (λ (x : List ℕ). Pasted x 0 c.args.text.now c.write_refusal.result c.write_refusal.new.out)
-    (sym (refused (goal.at.returns-in-Refused c).In-Refused-2))
+    (sym (refused (goal.at.returns-in-Refused c).In-Refused))
     c.write_refusal.ensures

@@ -10,7 +10,7 @@ use Rattle.job.proofs.records.ReadingLaws.{Read-as, found_item, found_end, found
 use Rattle.job.proofs.progress.ProgressLaws.{counts_on, less_on}
 use Rattle.job.proofs.part.PartLaws.{seeking_begin, seeking_next, seeking_end, seeking_fault, seeking_inside}
 use Rattle.job.proofs.part.contour_span.Goals as goal
-use Rattle.job.proofs.part.contour_span.Goals.{After-read_record, In-Item-2}
+use Rattle.job.proofs.part.contour_span.Goals.{After-read_record, In-Item}
 
 -- what the code finds is the first record of the bytes ahead
 module _ (c : After-read_record) where
@@ -27,9 +27,9 @@ module _ (c : After-read_record) where
   read = c.read_record.ensures ∙ ap (λ (x : List ℕ). found_of (read_record p.state x)) (part-after p.at file)
 
 -- a record
-module _ (c : In-Item-2) where
-  as_read : Read-as (read_record (p (goal.at.In-Item-2 c).After-read_record).state (drop (p (goal.at.In-Item-2 c).After-read_record).at (file (goal.at.In-Item-2 c).After-read_record))) c.in-Item.item c.in-Item.size
-  as_read = found_item _ _ _ (sym (ap found_answer c.in-Item.is) ∙ read (goal.at.In-Item-2 c).After-read_record)
+module _ (c : In-Item) where
+  as_read : Read-as (read_record (p (goal.at.In-Item c).After-read_record).state (drop (p (goal.at.In-Item c).After-read_record).at (file (goal.at.In-Item c).After-read_record))) c.in-Item.item c.in-Item.size
+  as_read = found_item _ _ _ (sym (ap found_answer c.in-Item.is) ∙ read (goal.at.In-Item c).After-read_record)
 
 pub loop-item-init : goal.loop-item-init
 loop-item-init c = rw c.begin-p.ensures (seeking_begin _ _)
@@ -44,14 +44,14 @@ pub slice_bounds-read_record-end : goal.slice_bounds-read_record-end
 slice_bounds-read_record-end c = omega arith
 
 pub advance-p-requires : goal.advance-p-requires
-advance-p-requires c = counts_on _ _ c.loop-item.invariant.at (as_read (goal.at.advance-p-requires c).In-Item-2) (omega arith)
+advance-p-requires c = counts_on _ _ c.loop-item.invariant.at (as_read (goal.at.advance-p-requires c).In-Item) (omega arith)
 
 pub loop-item-smaller : goal.loop-item-smaller
-loop-item-smaller c = rw c.advance-p.ensures (less_on _ _ c.loop-item.invariant.at (as_read (goal.at.loop-item-smaller c).In-Item-2))
+loop-item-smaller c = rw c.advance-p.ensures (less_on _ _ c.loop-item.invariant.at (as_read (goal.at.loop-item-smaller c).In-Item))
 
 pub loop-item-preserved : goal.loop-item-preserved
 loop-item-preserved c =
-    rw (c.advance-p.ensures, c.sought-q.ensures) (seeking_next (file (goal.at.loop-item-preserved c).After-read_record) (number (goal.at.loop-item-preserved c).After-read_record) (p (goal.at.loop-item-preserved c).After-read_record) c.loop-item.q c.loop-item.invariant _ _ (as_read (goal.at.loop-item-preserved c).In-Item-2))
+    rw (c.advance-p.ensures, c.sought-q.ensures) (seeking_next (file (goal.at.loop-item-preserved c).After-read_record) (number (goal.at.loop-item-preserved c).After-read_record) (p (goal.at.loop-item-preserved c).After-read_record) c.loop-item.q c.loop-item.invariant _ _ (as_read (goal.at.loop-item-preserved c).In-Item))
 
 pub returns-in-End : goal.returns-in-End
 returns-in-End c =

@@ -11,7 +11,7 @@ use Rattle.job.proofs.records.RecordLaws.{part-after}
 use Rattle.job.proofs.records.ReadingLaws.{Read-as, found_item, found_end, found-fails}
 use Rattle.job.proofs.progress.ProgressLaws.{reached_begin, counts_on, less_on, reached_on, reached_end, reached_fault}
 use Rattle.job.proofs.progress.scan.Goals as goal
-use Rattle.job.proofs.progress.scan.Goals.{After-read_record, In-Item-2}
+use Rattle.job.proofs.progress.scan.Goals.{After-read_record, In-Item}
 
 -- what the code finds is the first record of the bytes ahead
 module _ (c : After-read_record) where
@@ -25,9 +25,9 @@ module _ (c : After-read_record) where
   read = c.read_record.ensures ∙ ap (λ (x : List ℕ). found_of (read_record p.state x)) (part-after p.at file)
 
 -- a record
-module _ (c : In-Item-2) where
-  as_read : Read-as (read_record (p (goal.at.In-Item-2 c).After-read_record).state (drop (p (goal.at.In-Item-2 c).After-read_record).at (file (goal.at.In-Item-2 c).After-read_record))) c.in-Item.item c.in-Item.size
-  as_read = found_item _ _ _ (sym (ap found_answer c.in-Item.is) ∙ read (goal.at.In-Item-2 c).After-read_record)
+module _ (c : In-Item) where
+  as_read : Read-as (read_record (p (goal.at.In-Item c).After-read_record).state (drop (p (goal.at.In-Item c).After-read_record).at (file (goal.at.In-Item c).After-read_record))) c.in-Item.item c.in-Item.size
+  as_read = found_item _ _ _ (sym (ap found_answer c.in-Item.is) ∙ read (goal.at.In-Item c).After-read_record)
 
 pub loop-item-init : goal.loop-item-init
 loop-item-init c = rw c.begin-p.ensures (reached_begin _)
@@ -42,13 +42,13 @@ pub slice_bounds-read_record-end : goal.slice_bounds-read_record-end
 slice_bounds-read_record-end c = omega arith
 
 pub advance-p-requires : goal.advance-p-requires
-advance-p-requires c = counts_on _ _ c.loop-item.invariant (as_read (goal.at.advance-p-requires c).In-Item-2) (omega arith)
+advance-p-requires c = counts_on _ _ c.loop-item.invariant (as_read (goal.at.advance-p-requires c).In-Item) (omega arith)
 
 pub loop-item-smaller : goal.loop-item-smaller
-loop-item-smaller c = rw c.advance-p.ensures (less_on _ _ c.loop-item.invariant (as_read (goal.at.loop-item-smaller c).In-Item-2))
+loop-item-smaller c = rw c.advance-p.ensures (less_on _ _ c.loop-item.invariant (as_read (goal.at.loop-item-smaller c).In-Item))
 
 pub loop-item-preserved : goal.loop-item-preserved
-loop-item-preserved c = rw c.advance-p.ensures (reached_on _ _ c.loop-item.invariant (as_read (goal.at.loop-item-preserved c).In-Item-2))
+loop-item-preserved c = rw c.advance-p.ensures (reached_on _ _ c.loop-item.invariant (as_read (goal.at.loop-item-preserved c).In-Item))
 
 pub returns-in-End : goal.returns-in-End
 returns-in-End c =

@@ -12,7 +12,7 @@ use Rattle.job.proofs.records.ReadingLaws.{Read-as, found_item, found_end, found
 use Rattle.job.proofs.progress.ProgressLaws.{counts_on, less_on}
 use Rattle.job.proofs.reader.FillLaws.{Filling, filling_begin, filling_room, filling_next, filling_end, filling_fault}
 use Rattle.job.proofs.reader.fill.Goals as goal
-use Rattle.job.proofs.reader.fill.Goals.{After-read_record, After-write_item, In-Item-2}
+use Rattle.job.proofs.reader.fill.Goals.{After-read_record, After-write_item, In-Item}
 
 -- what the code finds is the first record of the bytes ahead
 module _ (c : After-read_record) where
@@ -29,14 +29,14 @@ module _ (c : After-read_record) where
   read = c.read_record.ensures ∙ ap (λ (x : List ℕ). found_of (read_record p.state x)) (part-after p.at file)
 
 -- a record
-module _ (c : In-Item-2) where
-  as_read : Read-as (read_record (p (goal.at.In-Item-2 c).After-read_record).state (drop (p (goal.at.In-Item-2 c).After-read_record).at (file (goal.at.In-Item-2 c).After-read_record))) c.in-Item.item c.in-Item.size
-  as_read = found_item _ _ _ (sym (ap found_answer c.in-Item.is) ∙ read (goal.at.In-Item-2 c).After-read_record)
+module _ (c : In-Item) where
+  as_read : Read-as (read_record (p (goal.at.In-Item c).After-read_record).state (drop (p (goal.at.In-Item c).After-read_record).at (file (goal.at.In-Item c).After-read_record))) c.in-Item.item c.in-Item.size
+  as_read = found_item _ _ _ (sym (ap found_answer c.in-Item.is) ∙ read (goal.at.In-Item c).After-read_record)
 
-  has_room : RecordFits c.in-Item.item (p (goal.at.In-Item-2 c).After-read_record).state.numbers (drop (p (goal.at.In-Item-2 c).After-read_record).at (file (goal.at.In-Item-2 c).After-read_record))
+  has_room : RecordFits c.in-Item.item (p (goal.at.In-Item c).After-read_record).state.numbers (drop (p (goal.at.In-Item c).After-read_record).at (file (goal.at.In-Item c).After-read_record))
       (buffers c.loop-item.lengths c.loop-item.kinds c.loop-item.points c.loop-item.distances)
   has_room =
-      filling_room (file (goal.at.In-Item-2 c).After-read_record) (old (goal.at.In-Item-2 c).After-read_record) c.requires (p (goal.at.In-Item-2 c).After-read_record) c.loop-item.lengths c.loop-item.kinds c.loop-item.points
+      filling_room (file (goal.at.In-Item c).After-read_record) (old (goal.at.In-Item c).After-read_record) c.requires (p (goal.at.In-Item c).After-read_record) c.loop-item.lengths c.loop-item.kinds c.loop-item.points
       c.loop-item.distances
       c.loop-item.invariant _ _ as_read
 
@@ -47,7 +47,7 @@ module _ (c : After-write_item) where
   next =
       let item = c.in-Item.item in
       filling_next (file (goal.at.After-write_item c).After-read_record) (old (goal.at.After-write_item c).After-read_record) c.requires (p (goal.at.After-write_item c).After-read_record) c.loop-item.lengths c.loop-item.kinds c.loop-item.points c.loop-item.distances
-      c.loop-item.invariant item _ (as_read (goal.at.After-write_item c).In-Item-2)
+      c.loop-item.invariant item _ (as_read (goal.at.After-write_item c).In-Item)
       c.write_item.new.lengths c.write_item.new.kinds c.write_item.new.points c.write_item.new.distances
       (subst (λ (x : List ℕ). Hold (written item (p (goal.at.After-write_item c).After-read_record).state.numbers x
       (buffers c.loop-item.lengths c.loop-item.kinds c.loop-item.points c.loop-item.distances)) c.write_item.new.lengths
@@ -80,15 +80,15 @@ pub write_item-requires : goal.write_item-requires
 write_item-requires c =
     subst (λ (x : List ℕ). RecordFits c.in-Item.item (p (goal.at.write_item-requires c).After-read_record).state.numbers x
     (buffers c.loop-item.lengths c.loop-item.kinds c.loop-item.points c.loop-item.distances))
-    (sym (part-after (p (goal.at.write_item-requires c).After-read_record).at (file (goal.at.write_item-requires c).After-read_record))) (has_room (goal.at.write_item-requires c).In-Item-2)
+    (sym (part-after (p (goal.at.write_item-requires c).After-read_record).at (file (goal.at.write_item-requires c).After-read_record))) (has_room (goal.at.write_item-requires c).In-Item)
 
 pub advance-p-requires : goal.advance-p-requires
 advance-p-requires c =
-    counts_on _ _ c.loop-item.invariant.at (as_read (goal.at.advance-p-requires c).In-Item-2) (omega (arith, c.well_formed))
+    counts_on _ _ c.loop-item.invariant.at (as_read (goal.at.advance-p-requires c).In-Item) (omega (arith, c.well_formed))
 
 pub loop-item-smaller : goal.loop-item-smaller
 loop-item-smaller c =
-    rw c.advance-p.ensures (less_on _ _ c.loop-item.invariant.at (as_read (goal.at.loop-item-smaller c).In-Item-2))
+    rw c.advance-p.ensures (less_on _ _ c.loop-item.invariant.at (as_read (goal.at.loop-item-smaller c).In-Item))
 
 pub loop-item-preserved : goal.loop-item-preserved
 loop-item-preserved c = rw c.advance-p.ensures (next (goal.at.loop-item-preserved c).After-write_item)

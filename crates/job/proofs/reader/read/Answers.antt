@@ -12,7 +12,7 @@ use Rattle.job.specs.Progress.{read_answer}
 use Rattle.job.proofs.reader.DeliverLaws.{As-job, answer_job, answer-refused, answer-few, delivers_refused, delivers_short, fits_buffers, delivers_job}
 use Rattle.job.proofs.color.AcceptLaws.{accept_same}
 use Rattle.job.proofs.reader.read.Goals as goal
-use Rattle.job.proofs.reader.read.Goals.{After-has_room, In-Job-2, Start}
+use Rattle.job.proofs.reader.read.Goals.{After-has_room, In-Job, Start}
 
 -- the buffers as they came
 module _ (c : Start) where
@@ -23,38 +23,38 @@ module _ (c : Start) where
   old = buffers c.args.lengths.now c.args.kinds.now c.args.points.now c.args.distances.now
 
 -- the file's job
-module _ (c : In-Job-2) where
+module _ (c : In-Job) where
   abbrev numbers : Numbers
   numbers = c.in-Job.n
 
-  job : As-job (accept_job (file (goal.at.In-Job-2 c).Start)) numbers
+  job : As-job (accept_job (file (goal.at.In-Job c).Start)) numbers
   job = answer_job _ _ (sym (ap read_answer c.in-Job.is) ∙ c.accept.ensures)
 
   -- which is the job that it reads as
-  same : read_job (file (goal.at.In-Job-2 c).Start) ≡ accept_job (file (goal.at.In-Job-2 c).Start)
-  same = accept_same (file (goal.at.In-Job-2 c).Start) numbers job
+  same : read_job (file (goal.at.In-Job c).Start) ≡ accept_job (file (goal.at.In-Job c).Start)
+  same = accept_same (file (goal.at.In-Job c).Start) numbers job
 
 -- whether there is room
-room : (c : After-has_room) (b : Bool) → c.has_room.result ≡ b → has_room (numbers (goal.at.After-has_room c).In-Job-2) (old (goal.at.After-has_room c).Start) ≡ b
+room : (c : After-has_room) (b : Bool) → c.has_room.result ≡ b → has_room (numbers (goal.at.After-has_room c).In-Job) (old (goal.at.After-has_room c).Start) ≡ b
 room c b e = sym c.has_room.ensures ∙ e
 
 pub has_room-requires : goal.has_room-requires
-has_room-requires c = answer-few (file (goal.at.has_room-requires c).Start) (numbers (goal.at.has_room-requires c).In-Job-2) (rw (same (goal.at.has_room-requires c).In-Job-2) (job (goal.at.has_room-requires c).In-Job-2))
+has_room-requires c = answer-few (file (goal.at.has_room-requires c).Start) (numbers (goal.at.has_room-requires c).In-Job) (rw (same (goal.at.has_room-requires c).In-Job) (job (goal.at.has_room-requires c).In-Job))
 
 pub returns-then-not-has_room : goal.returns-then-not-has_room
 returns-then-not-has_room c =
-    delivers_short (accept_job (file (goal.at.returns-then-not-has_room c).Start)) (numbers (goal.at.returns-then-not-has_room c).In-Job-2) (job (goal.at.returns-then-not-has_room c).In-Job-2) (old (goal.at.returns-then-not-has_room c).Start)
+    delivers_short (accept_job (file (goal.at.returns-then-not-has_room c).Start)) (numbers (goal.at.returns-then-not-has_room c).In-Job) (job (goal.at.returns-then-not-has_room c).In-Job) (old (goal.at.returns-then-not-has_room c).Start)
     (room (goal.at.returns-then-not-has_room c).After-has_room false (not-true c.has_room.result c.if-not-has_room.true-raw))
 
 pub fill-requires : goal.fill-requires
 fill-requires c =
-    rw (same (goal.at.fill-requires c).In-Job-2) (fits_buffers (accept_job (file (goal.at.fill-requires c).Start)) (numbers (goal.at.fill-requires c).In-Job-2) (job (goal.at.fill-requires c).In-Job-2) (old (goal.at.fill-requires c).Start)
+    rw (same (goal.at.fill-requires c).In-Job) (fits_buffers (accept_job (file (goal.at.fill-requires c).Start)) (numbers (goal.at.fill-requires c).In-Job) (job (goal.at.fill-requires c).In-Job) (old (goal.at.fill-requires c).Start)
     (room (goal.at.fill-requires c).After-has_room true (not-false c.has_room.result c.if-not-has_room.false-raw)))
 
 pub returns-else-not-has_room : goal.returns-else-not-has_room
 returns-else-not-has_room c =
-    delivers_job (accept_job (file (goal.at.returns-else-not-has_room c).Start)) (numbers (goal.at.returns-else-not-has_room c).In-Job-2) (job (goal.at.returns-else-not-has_room c).In-Job-2) (old (goal.at.returns-else-not-has_room c).Start) _ _ _ _
-    (room (goal.at.returns-else-not-has_room c).After-has_room true (not-false c.has_room.result c.if-not-has_room.false-raw)) (rw (same (goal.at.returns-else-not-has_room c).In-Job-2) at c.fill.ensures)
+    delivers_job (accept_job (file (goal.at.returns-else-not-has_room c).Start)) (numbers (goal.at.returns-else-not-has_room c).In-Job) (job (goal.at.returns-else-not-has_room c).In-Job) (old (goal.at.returns-else-not-has_room c).Start) _ _ _ _
+    (room (goal.at.returns-else-not-has_room c).After-has_room true (not-false c.has_room.result c.if-not-has_room.false-raw)) (rw (same (goal.at.returns-else-not-has_room c).In-Job) at c.fill.ensures)
 
 pub returns-in-Refused : goal.returns-in-Refused
 returns-in-Refused c =
