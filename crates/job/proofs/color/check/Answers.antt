@@ -18,16 +18,14 @@ only ByDistance h = refl
 
 pub check_by_distance-requires : goal.check_by_distance-requires
 check_by_distance-requires c =
-    (
-      record {
+    record {
+      asks_distances = record {
         numbers_are = sym (ap read_answer c.in-Job.is) ∙ c.scan.ensures;
         asks = only _ (sym c.by_distance.ensures ∙ c.if-by_distance.true);
-      },
-      (
-        record { lengths_fit = omega arith; kinds_fit = omega arith; points_fit = omega arith; distances_fit = omega arith },
-        record { lengths_fit = omega arith; kinds_fit = omega arith; points_fit = omega arith; colors_fit = omega arith },
-      ),
-    )
+      };
+      holds_jobs = record { lengths_fit = omega arith; kinds_fit = omega arith; points_fit = omega arith; distances_fit = omega arith };
+      holds_results = record { lengths_fit = omega arith; kinds_fit = omega arith; points_fit = omega arith; colors_fit = omega arith };
+    }
 
 pub returns-then-by_distance : goal.returns-then-by_distance
 returns-then-by_distance c =

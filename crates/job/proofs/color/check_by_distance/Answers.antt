@@ -30,7 +30,7 @@ module _ (c : After-slice_known-12-1) where
   holding = holding_of _ _ _ c.requires.asks_distances.numbers_are _ _ _ _ c.fill.ensures
 
 pub fill-requires : goal.fill-requires
-fill-requires c = fits_jobs _ _ _ c.requires.asks_distances.numbers_are c.requires.holds_jobs.0
+fill-requires c = fits_jobs _ _ _ c.requires.asks_distances.numbers_are c.requires.holds_jobs
 
 pub overflow_mul-places : goal.overflow_mul-places
 overflow_mul-places c = omega (arith, edges_most (holding c))
@@ -56,4 +56,4 @@ slice_bounds-collect_splines-end-6 c = sym (length-take-le _ _ (places-within (h
 pub returns : goal.returns
 returns c =
     c.paired.ensures ∙ ap (λ (o : Outcome). paired o.answer c.args.n.distances) c.collect_splines-counted.ensures
-    ∙ held-checked (holding (goal.at.returns c).After-slice_known-12-1) c.float-threshold.result (out (goal.at.returns c).Start) c.requires.holds_jobs.1 c.requires.asks_distances.asks c.float-threshold.ensures
+    ∙ held-checked (holding (goal.at.returns c).After-slice_known-12-1) c.float-threshold.result (out (goal.at.returns c).Start) c.requires.holds_results c.requires.asks_distances.asks c.float-threshold.ensures

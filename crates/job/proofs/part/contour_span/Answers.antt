@@ -55,10 +55,10 @@ loop-item-preserved c =
 
 pub returns-in-End : goal.returns-in-End
 returns-in-End c =
-    rw c.span_of.ensures (
-      seeking_end (file (goal.at.returns-in-End c).After-read_record) (number (goal.at.returns-in-End c).After-read_record) (p (goal.at.returns-in-End c).After-read_record) c.loop-item.q c.loop-item.invariant (found_end _ (sym (ap found_answer c.in-End.is) ∙ read (goal.at.returns-in-End c).After-read_record)),
-      seeking_inside (file (goal.at.returns-in-End c).After-read_record) (number (goal.at.returns-in-End c).After-read_record) (p (goal.at.returns-in-End c).After-read_record) c.loop-item.q c.loop-item.invariant,
-    )
+    rw c.span_of.ensures (record {
+      value = seeking_end (file (goal.at.returns-in-End c).After-read_record) (number (goal.at.returns-in-End c).After-read_record) (p (goal.at.returns-in-End c).After-read_record) c.loop-item.q c.loop-item.invariant (found_end _ (sym (ap found_answer c.in-End.is) ∙ read (goal.at.returns-in-End c).After-read_record));
+      inside = seeking_inside (file (goal.at.returns-in-End c).After-read_record) (number (goal.at.returns-in-End c).After-read_record) (p (goal.at.returns-in-End c).After-read_record) c.loop-item.q c.loop-item.invariant;
+    })
 
 pub returns-in-Fails : goal.returns-in-Fails
 returns-in-Fails c =

@@ -12,12 +12,12 @@ returns-then-bytes-lt2 c = sym (ap found_of (no_letters _ _ c.if-bytes-lt2.true)
 
 pub returns-in-Known : goal.returns-in-Known
 returns-in-Known c =
-    let mark = c.mark-1.given in
+    let known = c.in-Known in
     let bytes = c.args.bytes.now in
     c.read_marked.ensures
     ∙ ap found_of
-    (ap (read_marked c.args.s (Known mark.0.0)) (part-after 2 bytes)
-    ∙ ap (λ m. read_marked c.args.s m (drop 2 bytes)) (sym mark.1 ∙ c.mark_of.ensures)
+    (ap (read_marked c.args.s (Known known.mark)) (part-after 2 bytes)
+    ∙ ap (λ m. read_marked c.args.s m (drop 2 bytes)) (sym known.is ∙ c.mark_of.ensures)
     ∙ sym (two-letters c.args.s bytes (omega arith)))
 
 pub returns-in-Unknown : goal.returns-in-Unknown
