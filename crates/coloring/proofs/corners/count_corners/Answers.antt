@@ -28,12 +28,12 @@ loop-i-preserved c =
     let at = c.loop-i in
     let h = c.loop-i-test.true in
     elim c.if-flags-i.branch [
-      then-flags-i w ↦ (
+      | then-flags-i w ↦ (
         omega arith,
         omega (arith, w.count-is),
         omega (arith, w.count-is, at.invariant.2, ap length (places_corner c.args.flags.now at.i h w.if-flags-i.true)),
       )
-    | else-flags-i w ↦ (
+      | else-flags-i w ↦ (
         omega arith,
         omega (arith, w.count-is),
         omega (arith, w.count-is, at.invariant.2, ap length (places-none c.args.flags.now at.i h w.if-flags-i.false)),

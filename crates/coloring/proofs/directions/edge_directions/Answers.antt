@@ -135,10 +135,13 @@ slice_bounds-unit_directions-end-4 c =
 
 pub unit_directions-requires : goal.unit_directions-requires
 unit_directions-requires c =
-    record { agrees = agrees (given (goal.at.unit_directions-requires c).Start) (old (goal.at.unit_directions-requires c).Start) (passed (goal.at.unit_directions-requires c).In_default); out_len = (
+    record {
+      agrees = agrees (given (goal.at.unit_directions-requires c).Start) (old (goal.at.unit_directions-requires c).Start) (passed (goal.at.unit_directions-requires c).In_default);
+      out_len = (
         length-take-le _ c.args.out_directions.now (directions-room (goal.at.unit_directions-requires c).Else-marks-out_stand_ins),
         length-take-le _ c.args.out_stand_ins.now (marks-room (goal.at.unit_directions-requires c).Else-marks-out_stand_ins),
-      ) }
+      );
+    }
 
 pub returns : goal.returns
 returns c =

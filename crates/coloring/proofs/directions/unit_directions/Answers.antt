@@ -36,14 +36,13 @@ module _ (c : In-loop-at) where
   inside = omega (arith, room (goal.at.In-loop-at c).In-loop-i, c.loop-at-test.true)
 
 pub loop-i-init : goal.loop-i-init
-loop-i-init c =
-    (
-      none_passed _ _ (sym c.requires.agrees.edges),
-      record {
-        directed = directing_none 4 direction_places (λ d. refl) (edges (goal.at.loop-i-init c).Start) c.args.out.now (omega (arith, c.requires.out_len.0, as_many (goal.at.loop-i-init c).Start));
-        marked = directing_none 2 stand_in_marks (λ d. refl) (edges (goal.at.loop-i-init c).Start) c.args.marks.now (omega (arith, c.requires.out_len.1, as_many (goal.at.loop-i-init c).Start));
-      },
-    )
+loop-i-init c = (
+  none_passed _ _ (sym c.requires.agrees.edges),
+  record {
+    directed = directing_none 4 direction_places (λ d. refl) (edges (goal.at.loop-i-init c).Start) c.args.out.now (omega (arith, c.requires.out_len.0, as_many (goal.at.loop-i-init c).Start));
+    marked = directing_none 2 stand_in_marks (λ d. refl) (edges (goal.at.loop-i-init c).Start) c.args.marks.now (omega (arith, c.requires.out_len.1, as_many (goal.at.loop-i-init c).Start));
+  },
+)
 
 pub overflow_cast-end : goal.overflow_cast-end
 overflow_cast-end c = omega (arith, room (goal.at.overflow_cast-end c).In-loop-i, c.requires.agrees.few)
@@ -64,11 +63,10 @@ write_directions-requires c = (
 )
 
 pub write_marks-requires : goal.write_marks-requires
-write_marks-requires c =
-    (
-      omega (arith, inside (goal.at.write_marks-requires c).In-loop-at, c.loop-at.invariant.1.marked.room, as_many (goal.at.write_marks-requires c).Start),
-      omega (arith, inside (goal.at.write_marks-requires c).In-loop-at, c.requires.agrees.few),
-    )
+write_marks-requires c = (
+  omega (arith, inside (goal.at.write_marks-requires c).In-loop-at, c.loop-at.invariant.1.marked.room, as_many (goal.at.write_marks-requires c).Start),
+  omega (arith, inside (goal.at.write_marks-requires c).In-loop-at, c.requires.agrees.few),
+)
 
 pub overflow_add-at : goal.overflow_add-at
 overflow_add-at c =

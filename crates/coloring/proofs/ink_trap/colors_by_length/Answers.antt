@@ -119,7 +119,7 @@ measure-preserved c =
     let l : at.index < length flags = omega (arith, c.requires.0.flagged) in
     let estimate = c.estimate_edge_length-spline_length.ensures ∙ ap estimate_edge_length c.edge_at.ensures in
     elim c.if-flags-index.branch [
-      then-flags-index w ↦ (
+      | then-flags-index w ↦ (
         omega arith,
         omega (arith, w.count-is),
         ap length w.corners-is ∙ simp length-set at.invariant.2,
@@ -127,7 +127,7 @@ measure-preserved c =
             ∙ measuring_corner at.count at.index at.spline_length at.corners edges flags h l (omega (arith, c.requires.0.few))
             w.if-flags-index.true w.corner_at.ensures w.corners-is w.spline_length-is w.count-is estimate,
       )
-    | else-flags-index w ↦ (
+      | else-flags-index w ↦ (
         omega arith,
         omega (arith, w.count-is),
         ap length w.corners-is ∙ at.invariant.2,
@@ -212,10 +212,10 @@ mark-preserved c =
       simp length-set at.invariant.1,
       at.invariant.2,
       elim c.if-minor.branch [
-        then-minor w ↦
-          omega (arith, at.invariant.3, w.left-is, majors_same at.i at.corners c.with_minor.result (omega arith) (minor ∙ w.if-minor.true))
-      | else-minor w ↦
-          omega (arith, at.invariant.3, w.left-is, majors_more at.i at.corners c.with_minor.result (omega arith) (minor ∙ w.if-minor.false))
+        | then-minor w ↦
+            omega (arith, at.invariant.3, w.left-is, majors_same at.i at.corners c.with_minor.result (omega arith) (minor ∙ w.if-minor.true))
+        | else-minor w ↦
+            omega (arith, at.invariant.3, w.left-is, majors_more at.i at.corners c.with_minor.result (omega arith) (minor ∙ w.if-minor.false))
       ],
       mark_turn at.i n (set (array (goal.at.mark-preserved c).After-measure) 0 c.closed.result) at.corners h fits same at.invariant.4 flag corner,
     )
@@ -253,24 +253,24 @@ majors-preserved c =
     let h : at.j < n = omega arith in
     let fits : n ≤ length at.corners = omega (arith, few (goal.at.majors-preserved c).After-measure) in
     elim c.if-not-corner.branch [
-      then-not-corner w ↦
-        let major = not-true _ w.if-not-corner.true in (
-          omega arith,
-          ap length w.corners-is ∙ simp length-set at.invariant.1,
-          left_falls at.j n at.corners h fits w.with_color.result major at.invariant.2 w.corners-is w.left-is,
-          at.invariant.3
-              ∙ going_major at.initial' at.left at.ink at.j n at.corners h fits major
-              w.banned_before.ensures w.switch_color_banned-ink.ensures w.with_color.ensures w.first_color-initial.ensures
-              w.corners-is w.left-is w.ink-is w.initial'-is,
-        )
-    | else-not-corner w ↦
-        let minor = not-false _ w.if-not-corner.false in (
-          omega arith,
-          ap length w.corners-is ∙ at.invariant.1,
-          left_stays at.j n at.corners h fits minor at.invariant.2 w.corners-is w.left-is,
-          at.invariant.3
-              ∙ going_minor at.initial' at.left at.ink at.j n at.corners h fits minor w.corners-is w.left-is w.ink-is w.initial'-is,
-        )
+      | then-not-corner w ↦
+          let major = not-true _ w.if-not-corner.true in (
+            omega arith,
+            ap length w.corners-is ∙ simp length-set at.invariant.1,
+            left_falls at.j n at.corners h fits w.with_color.result major at.invariant.2 w.corners-is w.left-is,
+            at.invariant.3
+                ∙ going_major at.initial' at.left at.ink at.j n at.corners h fits major
+                w.banned_before.ensures w.switch_color_banned-ink.ensures w.with_color.ensures w.first_color-initial.ensures
+                w.corners-is w.left-is w.ink-is w.initial'-is,
+          )
+      | else-not-corner w ↦
+          let minor = not-false _ w.if-not-corner.false in (
+            omega arith,
+            ap length w.corners-is ∙ at.invariant.1,
+            left_stays at.j n at.corners h fits minor at.invariant.2 w.corners-is w.left-is,
+            at.invariant.3
+                ∙ going_minor at.initial' at.left at.ink at.j n at.corners h fits minor w.corners-is w.left-is w.ink-is w.initial'-is,
+          )
     ]
 
 pub minors-init : goal.minors-init
@@ -328,18 +328,18 @@ minors-preserved c =
     let room : at.k < length at.colors = omega (arith, at.invariant.2) in
     let long = length-set at.colors at.k c.bits.result ∙ at.invariant.2 in
     elim c.if-corner.branch [
-      then-corner w ↦
-        let made = w.with_color-then-corner in
-        let last = w.last-is ∙ sym (ap color_of made.ensures) in (
-          omega arith,
-          ap length w.corners-is ∙ simp length-set at.invariant.1,
-          long,
-          at.invariant.3
-              ∙ minor_turn at.k n at.color at.corners h fits w.if-corner.true w.mixed_color-last.ensures made.ensures w.corners-is w.color-is,
-          bytes-set at.k at.corners at.colors inside room at.invariant.4 made.result c.bits.ensures last w.corners-is,
-          last_set at.k at.corners made.result inside last w.corners-is,
-        )
-    | else-corner w ↦ (
+      | then-corner w ↦
+          let made = w.with_color-then-corner in
+          let last = w.last-is ∙ sym (ap color_of made.ensures) in (
+            omega arith,
+            ap length w.corners-is ∙ simp length-set at.invariant.1,
+            long,
+            at.invariant.3
+                ∙ minor_turn at.k n at.color at.corners h fits w.if-corner.true w.mixed_color-last.ensures made.ensures w.corners-is w.color-is,
+            bytes-set at.k at.corners at.colors inside room at.invariant.4 made.result c.bits.ensures last w.corners-is,
+            last_set at.k at.corners made.result inside last w.corners-is,
+          )
+      | else-corner w ↦ (
         omega arith,
         ap length w.corners-is ∙ at.invariant.1,
         long,

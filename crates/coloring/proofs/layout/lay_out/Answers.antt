@@ -102,11 +102,14 @@ lay_out_part-requires c =
     let pre = c.requires in
     let at = c.loop-i in
     let kept = at.invariant.0 in
-    let enough = fit (goal.at.lay_out_part-requires c).After-part_edges-edges in record { part = (record { matching = pre.cut.matching; start = omega arith; inside = room (goal.at.lay_out_part-requires c).In-loop-i }, ap (λ k. at.to + k) c.part_edges-edges.ensures); next_in_bounds = (
+    let enough = fit (goal.at.lay_out_part-requires c).After-part_edges-edges in record {
+      part = (record { matching = pre.cut.matching; start = omega arith; inside = room (goal.at.lay_out_part-requires c).In-loop-i }, ap (λ k. at.to + k) c.part_edges-edges.ensures);
+      next_in_bounds = (
         omega (arith, enough, kept.kinds_kept, pre.result_room.kinds_fit),
         omega (arith, enough, kept.points_kept, pre.result_room.points_fit),
         omega (arith, enough, kept.flags-kept, pre.result_room.flags_fit),
-      ) }
+      );
+    }
 
 pub overflow_add-i : goal.overflow_add-i
 overflow_add-i c =

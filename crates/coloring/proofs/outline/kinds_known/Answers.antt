@@ -22,11 +22,10 @@ pub loop-i-smaller : goal.loop-i-smaller
 loop-i-smaller c = omega arith
 
 pub loop-i-preserved : goal.loop-i-preserved
-loop-i-preserved c =
-    (
-      omega arith,
-      scan_more known_kind 0 _ _ c.loop-i.invariant.1 c.loop-i-test.true (sym c.known_kind.ensures ∙ not-false _ c.if-not-known_kind.false-raw),
-    )
+loop-i-preserved c = (
+  omega arith,
+  scan_more known_kind 0 _ _ c.loop-i.invariant.1 c.loop-i-test.true (sym c.known_kind.ensures ∙ not-false _ c.if-not-known_kind.false-raw),
+)
 
 pub returns : goal.returns
 returns c = scan_end known_kind 0 _ _ c.loop-i.invariant.1 c.loop-i-test.false

@@ -26,11 +26,10 @@ pub loop-i-smaller : goal.loop-i-smaller
 loop-i-smaller c = omega arith
 
 pub loop-i-preserved : goal.loop-i-preserved
-loop-i-preserved c =
-    (
-      omega arith,
-      scan_more in_range nan _ _ c.loop-i.invariant.1 c.loop-i-test.true (sym c.in_range.ensures ∙ not-false _ c.if-not-in_range.false-raw),
-    )
+loop-i-preserved c = (
+  omega arith,
+  scan_more in_range nan _ _ c.loop-i.invariant.1 c.loop-i-test.true (sym c.in_range.ensures ∙ not-false _ c.if-not-in_range.false-raw),
+)
 
 pub returns : goal.returns
 returns c = scan_end in_range nan _ _ c.loop-i.invariant.1 c.loop-i-test.false

@@ -26,7 +26,7 @@ returns-then-coloring-i c =
 pub returns : goal.returns
 returns c =
     elim c.else-entries-i-ne0.branch [
-      else-entries-i-ne0-via-then-entries-i-ne0+else-coloring-i w ↦
-        skip_color c.requires.0 c.args.i c.requires.1 w.if-coloring-i.false
-    | else-entries-i-ne0-via-else-entries-i-ne0 w ↦ skip_entry c.requires.0 c.args.i c.requires.1 w.if-entries-i-ne0.false
+      | else-entries-i-ne0-via-then-entries-i-ne0+else-coloring-i w ↦
+          skip_color c.requires.0 c.args.i c.requires.1 w.if-coloring-i.false
+      | else-entries-i-ne0-via-else-entries-i-ne0 w ↦ skip_entry c.requires.0 c.args.i c.requires.1 w.if-entries-i-ne0.false
     ]

@@ -59,8 +59,8 @@ module _ (c : Joined-joined) where
   unfolding joined
   met =
       elim c.if-joined.branch [
-        then-joined w ↦ w.t-44-is ∙ sym (rw w.if-joined.true-raw)
-      | else-joined w ↦ w.t-44-is ∙ w.if-joined.false-raw ∙ sym (rw w.if-joined.false-raw)
+        | then-joined w ↦ w.t-44-is ∙ sym (rw w.if-joined.true-raw)
+        | else-joined w ↦ w.t-44-is ∙ w.if-joined.false-raw ∙ sym (rw w.if-joined.false-raw)
       ]
 
   -- the loop is left at the forced step
@@ -177,11 +177,10 @@ pub bounds-coloring-i-in-walk : goal.bounds-coloring-i-in-walk
 bounds-coloring-i-in-walk c = omega (arith, first (goal.at.bounds-coloring-i-in-walk c).After-slice_known-in-walk-1, c.walk.invariant.going.size)
 
 pub uncolor_same_neighbors-waiting-requires : goal.uncolor_same_neighbors-waiting-requires
-uncolor_same_neighbors-waiting-requires c =
-    (
-      rw (cut (goal.at.uncolor_same_neighbors-waiting-requires c).After-row-entries) (walk_uncolors c.walk.invariant (some (goal.at.uncolor_same_neighbors-waiting-requires c).After-slice_known-in-walk-1) c.requires.entries (c.loop-color.step % 3) (omega arith)),
-      rw length-set (omega (arith, first (goal.at.uncolor_same_neighbors-waiting-requires c).After-slice_known-in-walk-1, c.walk.invariant.going.size)),
-    )
+uncolor_same_neighbors-waiting-requires c = (
+  rw (cut (goal.at.uncolor_same_neighbors-waiting-requires c).After-row-entries) (walk_uncolors c.walk.invariant (some (goal.at.uncolor_same_neighbors-waiting-requires c).After-slice_known-in-walk-1) c.requires.entries (c.loop-color.step % 3) (omega arith)),
+  rw length-set (omega (arith, first (goal.at.uncolor_same_neighbors-waiting-requires c).After-slice_known-in-walk-1, c.walk.invariant.going.size)),
+)
 
 pub walk-smaller : goal.walk-smaller
 walk-smaller c =
@@ -213,7 +212,7 @@ shape_of-queue-else-waiting-eq0 c = ring-kept (goal.at.shape_of-queue-else-waiti
 pub returns-else-waiting-eq0 : goal.returns-else-waiting-eq0
 returns-else-waiting-eq0 c =
     elim c.walk-test.branch [
-      else-walk-test w ↦ absurd (c.if-waiting-eq0.false (omega (arith, w.walk-test.false)))
-    | then-walk-test+then-step-ge-MAX_RECOLOR_STEPS w ↦
-        walk_stops c.walk.invariant w.walk-test.true w.if-step-ge-MAX_RECOLOR_STEPS.true
+      | else-walk-test w ↦ absurd (c.if-waiting-eq0.false (omega (arith, w.walk-test.false)))
+      | then-walk-test+then-step-ge-MAX_RECOLOR_STEPS w ↦
+          walk_stops c.walk.invariant w.walk-test.true w.if-step-ge-MAX_RECOLOR_STEPS.true
     ]

@@ -79,12 +79,15 @@ returns-then-not-room c = sym (deliver-short _ _ _ (fit (goal.at.returns-then-no
 pub lay_out-requires : goal.lay_out-requires
 lay_out-requires c =
     let counted = c.requires.counted.0 in
-    let r = room (goal.at.lay_out-requires c).Else-not-room in record { cut = c.requires.cut; result_room = record {
+    let r = room (goal.at.lay_out-requires c).Else-not-room in record {
+      cut = c.requires.cut;
+      result_room = record {
         lengths_fit = omega (arith, counted.contours_are, r.0);
         kinds_fit = omega (arith, counted.edges_are, r.1);
         points_fit = omega (arith, counted.edges_are, r.2);
         flags_fit = omega (arith, counted.edges_are, counted.edges_few, length-replicate 508 false);
-      } }
+      };
+    }
 
 pub slice_bounds-paint_contours-end : goal.slice_bounds-paint_contours-end
 slice_bounds-paint_contours-end c =

@@ -46,7 +46,7 @@ shape_of-edge_matrix-then-distance_at c = same_size (goal.at.shape_of-edge_matri
 pub returns-then-distance_at : goal.returns-then-distance_at
 returns-then-distance_at c =
     let z = zeros_stop _ _ _ _ _ _ (k (goal.at.returns-then-distance_at c).In-loop-k) c.loop-k.invariant c.requires.in_order c.loop-k-test.true
-        (not_zero _ _ c.distance_at.ensures c.if-distance_at.true) in
+    (not_zero _ _ c.distance_at.ensures c.if-distance_at.true) in
     record { entered = z.0; others = z.1 }
 
 pub code_at-code-requires : goal.code_at-code-requires

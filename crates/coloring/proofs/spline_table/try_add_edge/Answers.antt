@@ -47,9 +47,9 @@ returns-then-n-a c =
     let size = c.if-edge_matrix-n.false in
     let t = given (goal.at.returns-then-n-a c).Start in
     elim c.then-n-a.branch [
-      then-n-a-via-then-n-a w ↦ sym (offer-first t c.args.a c.args.b few size w.if-n-a.true)
-    | then-n-a-via-else-n-a+then-n-b w ↦ sym (offer-second t c.args.a c.args.b few size w.if-n-b.true)
-    | then-n-a-via-else-n-a+else-n-b+then-a-b w ↦ sym (offer_equal t c.args.a c.args.b few size w.if-a-b.true)
+      | then-n-a-via-then-n-a w ↦ sym (offer-first t c.args.a c.args.b few size w.if-n-a.true)
+      | then-n-a-via-else-n-a+then-n-b w ↦ sym (offer-second t c.args.a c.args.b few size w.if-n-b.true)
+      | then-n-a-via-else-n-a+else-n-b+then-a-b w ↦ sym (offer_equal t c.args.a c.args.b few size w.if-a-b.true)
     ]
 
 pub try_add_edge_unchecked-requires : goal.try_add_edge_unchecked-requires

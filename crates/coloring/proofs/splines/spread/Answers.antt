@@ -52,7 +52,7 @@ loop-i-preserved c =
     let h = c.loop-i-test.true in
     let room : at.i < length at.out = omega arith in
     elim c.if-flags-i.branch [
-      then-flags-i+then-next-values w ↦ (
+      | then-flags-i+then-next-values w ↦ (
         omega arith,
         omega (arith, w.next-is),
         simp length-set at.invariant.2,
@@ -60,7 +60,7 @@ loop-i-preserved c =
             ∙ rw (w.value-is, w.next-is, spread_corner at.value values flags at.next at.i h 0 w.if-flags-i.true w.if-next-values.true)
             (over-next at.i _ _ at.out room),
       )
-    | then-flags-i+else-next-values w ↦ (
+      | then-flags-i+else-next-values w ↦ (
         omega arith,
         omega (arith, w.next-is),
         simp length-set at.invariant.2,
@@ -68,7 +68,7 @@ loop-i-preserved c =
             ∙ rw (w.value-is, w.next-is, spread_beyond at.value values flags at.next at.i h w.if-flags-i.true w.if-next-values.false)
             (over-next at.i _ _ at.out room),
       )
-    | else-flags-i w ↦ (
+      | else-flags-i w ↦ (
         omega arith,
         omega (arith, w.next-is),
         simp length-set at.invariant.2,

@@ -65,24 +65,24 @@ module _ (c : After-slice_known-1) where
 pub returns-then-values-gt-MAX_SPLINES : goal.returns-then-values-gt-MAX_SPLINES
 returns-then-values-gt-MAX_SPLINES c =
     let v =
-        too_many c.args.distances.now (found (goal.at.returns-then-values-gt-MAX_SPLINES c).After-slice_known-1) _ (size (goal.at.returns-then-values-gt-MAX_SPLINES c).After-slice_known-1) c.in-Numbers.is c.if-values-gt-MAX_SPLINES.true in
+    too_many c.args.distances.now (found (goal.at.returns-then-values-gt-MAX_SPLINES c).After-slice_known-1) _ (size (goal.at.returns-then-values-gt-MAX_SPLINES c).After-slice_known-1) c.in-Numbers.is c.if-values-gt-MAX_SPLINES.true in
     record { answer = v.0; bytes = v.1 }
 
 pub returns-in-Colors : goal.returns-in-Colors
 returns-in-Colors c =
     let v =
-        by_colors c.args.distances.now (found (goal.at.returns-in-Colors c).After-slice_known-1) _ (size (goal.at.returns-in-Colors c).After-slice_known-1) c.in-Colors.is c.shape_colors.ensures in
+    by_colors c.args.distances.now (found (goal.at.returns-in-Colors c).After-slice_known-1) _ (size (goal.at.returns-in-Colors c).After-slice_known-1) c.in-Colors.is c.shape_colors.ensures in
     record { answer = v.0; bytes = v.1 }
 
 pub returns-else-values-gt-MAX_SPLINES : goal.returns-else-values-gt-MAX_SPLINES
 returns-else-values-gt-MAX_SPLINES c =
     let v =
-        by_numbers c.args.distances.now (found (goal.at.returns-else-values-gt-MAX_SPLINES c).After-slice_known-1) _ (size (goal.at.returns-else-values-gt-MAX_SPLINES c).After-slice_known-1) c.in-Numbers.is c.if-values-gt-MAX_SPLINES.false c.count_up.ensures in
+    by_numbers c.args.distances.now (found (goal.at.returns-else-values-gt-MAX_SPLINES c).After-slice_known-1) _ (size (goal.at.returns-else-values-gt-MAX_SPLINES c).After-slice_known-1) c.in-Numbers.is c.if-values-gt-MAX_SPLINES.false c.count_up.ensures in
     record { answer = v.0; bytes = v.1 }
 
 pub returns-in-Distances : goal.returns-in-Distances
 returns-in-Distances c =
     let v =
-        by_distances c.args.distances.now (found (goal.at.returns-in-Distances c).After-slice_known-1) _ (size (goal.at.returns-in-Distances c).After-slice_known-1) _ c.in-Distances.is refl c.color_splines-checked.ensures
+    by_distances c.args.distances.now (found (goal.at.returns-in-Distances c).After-slice_known-1) _ (size (goal.at.returns-in-Distances c).After-slice_known-1) _ c.in-Distances.is refl c.color_splines-checked.ensures
     c.color_numbers.ensures in
     record { answer = v.0; bytes = v.1 }

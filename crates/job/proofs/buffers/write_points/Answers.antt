@@ -7,11 +7,10 @@ use Rattle.job.proofs.records.RecordLaws.{controls-few}
 use Rattle.job.proofs.buffers.write_points.Goals as goal
 
 pub write_floats-requires : goal.write_floats-requires
-write_floats-requires c =
-    (
-      omega (arith, c.controls.ensures),
-      rw (c.clear.ensures, length-replicate) (omega (arith, c.controls.ensures, controls-few c.args.kind)),
-    )
+write_floats-requires c = (
+  omega (arith, c.controls.ensures),
+  rw (c.clear.ensures, length-replicate) (omega (arith, c.controls.ensures, controls-few c.args.kind)),
+)
 
 pub returns : goal.returns
 returns c =

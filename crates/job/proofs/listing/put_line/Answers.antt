@@ -47,18 +47,17 @@ put_field-second-requires c =
     (c.requires.0, omega (arith, room (goal.at.put_field-second-requires c).Start, field-length (contour (goal.at.put_field-second-requires c).Start) space))
 
 pub put_field-third-requires : goal.put_field-third-requires
-put_field-third-requires c =
-    (
-      c.requires.1,
-      omega (
-        arith,
-        room (goal.at.put_field-third-requires c).Start,
-        field-length (contour (goal.at.put_field-third-requires c).Start) space,
-        field-length (place (goal.at.put_field-third-requires c).Start) space,
-        c.put_field-second.ensures.place,
-        c.put_field-second.auto.out,
-      ),
-    )
+put_field-third-requires c = (
+  c.requires.1,
+  omega (
+    arith,
+    room (goal.at.put_field-third-requires c).Start,
+    field-length (contour (goal.at.put_field-third-requires c).Start) space,
+    field-length (place (goal.at.put_field-third-requires c).Start) space,
+    c.put_field-second.ensures.place,
+    c.put_field-second.auto.out,
+  ),
+)
 
 pub put-fourth-requires : goal.put-fourth-requires
 put-fourth-requires c =
@@ -69,22 +68,21 @@ put-fifth-requires c =
     omega (arith, room (goal.at.put-fifth-requires c).Start, (fields (goal.at.put-fifth-requires c).After-put_field-third).place, fields_length (goal.at.put-fifth-requires c).After-put_field-third, kept (goal.at.put-fifth-requires c).After-put_field-third, c.put-fourth.ensures.place, c.put-fourth.auto.out)
 
 pub put_field-requires : goal.put_field-requires
-put_field-requires c =
-    (
-      omega (arith, c.ranges.color),
-      omega (
-        arith,
-        room (goal.at.put_field-requires c).Start,
-        (fields (goal.at.put_field-requires c).After-put_field-third).place,
-        fields_length (goal.at.put_field-requires c).After-put_field-third,
-        kept (goal.at.put_field-requires c).After-put_field-third,
-        c.put-fourth.ensures.place,
-        c.put-fourth.auto.out,
-        c.put-fifth.ensures.place,
-        c.put-fifth.auto.out,
-        field-length (color (goal.at.put_field-requires c).Start) newline,
-      ),
-    )
+put_field-requires c = (
+  omega (arith, c.ranges.color),
+  omega (
+    arith,
+    room (goal.at.put_field-requires c).Start,
+    (fields (goal.at.put_field-requires c).After-put_field-third).place,
+    fields_length (goal.at.put_field-requires c).After-put_field-third,
+    kept (goal.at.put_field-requires c).After-put_field-third,
+    c.put-fourth.ensures.place,
+    c.put-fourth.auto.out,
+    c.put-fifth.ensures.place,
+    c.put-fifth.auto.out,
+    field-length (color (goal.at.put_field-requires c).Start) newline,
+  ),
+)
 
 pub returns : goal.returns
 returns c =

@@ -79,11 +79,14 @@ slice_bounds-put_contour-end-in-loop-contour c = omega (arith, inside (goal.at.s
 
 pub put_contour-next-requires : goal.put_contour-next-requires
 put_contour-next-requires c =
-    record { contour_bound = (
+    record {
+      contour_bound = (
         omega (arith, c.requires.lengths_len_bound.0),
         simp (length-take, length-drop) (omega (arith, c.requires.lengths_len_bound.1)),
         simp (length-take, length-drop) (omega (arith, c.requires.lengths_len_bound.3)),
-      ); colors_in_bounds = pasting_room (here (goal.at.put_contour-next-requires c).In-loop-contour) (rest (goal.at.put_contour-next-requires c).In-loop-contour) (step (goal.at.put_contour-next-requires c).In-loop-contour) c.loop-contour.invariant.3 }
+      );
+      colors_in_bounds = pasting_room (here (goal.at.put_contour-next-requires c).In-loop-contour) (rest (goal.at.put_contour-next-requires c).In-loop-contour) (step (goal.at.put_contour-next-requires c).In-loop-contour) c.loop-contour.invariant.3;
+    }
 
 pub overflow_add-contour : goal.overflow_add-contour
 overflow_add-contour c = omega arith
@@ -92,13 +95,12 @@ pub loop-contour-smaller : goal.loop-contour-smaller
 loop-contour-smaller c = omega arith
 
 pub loop-contour-preserved : goal.loop-contour-preserved
-loop-contour-preserved c =
-    (
-      omega arith,
-      omega (arith, c.loop-contour.invariant.1, total-step (contour (goal.at.loop-contour-preserved c).In-loop-contour) c.args.lengths.now c.loop-contour-test.true),
-      c.put_contour-next.auto.out ∙ c.loop-contour.invariant.2,
-      pasting_next (here (goal.at.loop-contour-preserved c).In-loop-contour) (rest (goal.at.loop-contour-preserved c).In-loop-contour) (step (goal.at.loop-contour-preserved c).In-loop-contour) c.loop-contour.invariant.3 c.put_contour-next.ensures,
-    )
+loop-contour-preserved c = (
+  omega arith,
+  omega (arith, c.loop-contour.invariant.1, total-step (contour (goal.at.loop-contour-preserved c).In-loop-contour) c.args.lengths.now c.loop-contour-test.true),
+  c.put_contour-next.auto.out ∙ c.loop-contour.invariant.2,
+  pasting_next (here (goal.at.loop-contour-preserved c).In-loop-contour) (rest (goal.at.loop-contour-preserved c).In-loop-contour) (step (goal.at.loop-contour-preserved c).In-loop-contour) c.loop-contour.invariant.3 c.put_contour-next.ensures,
+)
 
 pub shape_of-out : goal.shape_of-out
 shape_of-out c = c.loop-contour.invariant.2

@@ -41,12 +41,11 @@ pub loop-i-smaller : goal.loop-i-smaller
 loop-i-smaller c = omega arith
 
 pub loop-i-preserved : goal.loop-i-preserved
-loop-i-preserved c =
-    (
-      omega arith,
-      c.put-next.auto.out ∙ c.loop-i.invariant.1,
-      pasting_next (here (goal.at.loop-i-preserved c).In-loop-i) (rest (goal.at.loop-i-preserved c).In-loop-i) (step (goal.at.loop-i-preserved c).In-loop-i) c.loop-i.invariant.2 c.put-next.ensures,
-    )
+loop-i-preserved c = (
+  omega arith,
+  c.put-next.auto.out ∙ c.loop-i.invariant.1,
+  pasting_next (here (goal.at.loop-i-preserved c).In-loop-i) (rest (goal.at.loop-i-preserved c).In-loop-i) (step (goal.at.loop-i-preserved c).In-loop-i) c.loop-i.invariant.2 c.put-next.ensures,
+)
 
 pub shape_of-out : goal.shape_of-out
 shape_of-out c = c.loop-i.invariant.1

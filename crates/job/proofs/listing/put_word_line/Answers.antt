@@ -10,11 +10,10 @@ put_word-next-requires c =
     omega (arith, c.requires.1, word_line_length c.args.word.now c.args.n)
 
 pub put_field-requires : goal.put_field-requires
-put_field-requires c =
-    (
-      c.requires.0,
-      omega (arith, c.requires.1, word_line_length c.args.word.now c.args.n, c.put_word-next.ensures.place, c.put_word-next.auto.out),
-    )
+put_field-requires c = (
+  c.requires.0,
+  omega (arith, c.requires.1, word_line_length c.args.word.now c.args.n, c.put_word-next.ensures.place, c.put_word-next.auto.out),
+)
 
 pub returns : goal.returns
 unfolding word_line

@@ -39,18 +39,17 @@ put_word_line-counted-requires c =
     (c.requires.lengths_len_bound.1, omega (arith, room (goal.at.put_word_line-counted-requires c).Start, c.put_shape-lines.ensures.place, c.put_shape-lines.auto.out))
 
 pub put_word_line-requires : goal.put_word_line-requires
-put_word_line-requires c =
-    (
-      c.requires.lengths_len_bound.2,
-      omega (
-        arith,
-        room (goal.at.put_word_line-requires c).Start,
-        c.put_shape-lines.ensures.place,
-        c.put_shape-lines.auto.out,
-        c.put_word_line-counted.ensures.place,
-        c.put_word_line-counted.auto.out,
-      ),
-    )
+put_word_line-requires c = (
+  c.requires.lengths_len_bound.2,
+  omega (
+    arith,
+    room (goal.at.put_word_line-requires c).Start,
+    c.put_shape-lines.ensures.place,
+    c.put_shape-lines.auto.out,
+    c.put_word_line-counted.ensures.place,
+    c.put_word_line-counted.auto.out,
+  ),
+)
 
 pub returns : goal.returns
 returns c =

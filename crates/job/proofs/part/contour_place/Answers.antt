@@ -30,5 +30,8 @@ contour_span-requires c = ap succeeds (accepted_same (file (goal.at.contour_span
 pub returns : goal.returns
 unfolding contour_place
 returns c =
-    record { value = c.contour_span.ensures.value ∙ ap (λ (r : Reading). place_in r c.args.number)
-          (accepted_same (file (goal.at.returns c).After-accepted) (is_accepted (goal.at.returns c).Else-not-accepted)); inside = c.contour_span.ensures.inside }
+    record {
+      value = c.contour_span.ensures.value ∙ ap (λ (r : Reading). place_in r c.args.number)
+          (accepted_same (file (goal.at.returns c).After-accepted) (is_accepted (goal.at.returns c).Else-not-accepted));
+      inside = c.contour_span.ensures.inside;
+    }

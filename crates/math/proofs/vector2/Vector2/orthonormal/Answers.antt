@@ -17,8 +17,8 @@ returns-then-len c = simp (← c.length-len.ensures, c.if-len.true, c.if-polarit
 height : (c : Joined-allow_zero) → c.if-allow_zero.z ≡ cond c.args.allow_zero f0 f1
 height c =
     elim c.if-allow_zero.branch [
-      then-allow_zero w ↦ rw (w.z-is, w.if-allow_zero.true)
-    | else-allow_zero w ↦ rw (w.z-is, w.if-allow_zero.false)
+      | then-allow_zero w ↦ rw (w.z-is, w.if-allow_zero.true)
+      | else-allow_zero w ↦ rw (w.z-is, w.if-allow_zero.false)
     ]
 
 pub returns-then-polarity-2 : goal.returns-then-polarity-2
