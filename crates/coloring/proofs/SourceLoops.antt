@@ -128,7 +128,8 @@ module _ {A : Type 0} (corners : List ℕ) (values : List A) (d : A) where
 
   -- one place
   step : (done out : List A) (x : A) (spline : ℕ) (places : List ℕ) {now : ℕ} → next_spline corners spline (length done) ≡ now
-      → go_round corners values d (length done ∷ places) spline (done ++ (x ∷ out)) ≡ go_round corners values d places now ((done ++ (value_of now ∷ [])) ++ out)
+      → go_round corners values d (length done ∷ places) spline (done ++ (x ∷ out)) ≡ go_round corners values d places now
+      ((done ++ (value_of now ∷ [])) ++ out)
   unfolding go_round
   step done out x spline places {now} e =
       ap (λ (k : ℕ). go_round corners values d places k (set (done ++ (x ∷ out)) (length done) (value_of k))) e
@@ -138,7 +139,8 @@ module _ {A : Type 0} (corners : List ℕ) (values : List A) (d : A) where
   along : (flags : List Bool) (done out : List A) (spline : ℕ) (places : List ℕ) → length values ≡ length corners → length out ≡ length flags
       → drop (suc spline) corners ≡ corners_from (length done) flags
       → go_round corners values d (range (length done) (length flags) ++ places) spline (done ++ out)
-      ≡ go_round corners values d places (spline + length (corners_from (length done) flags)) (done ++ spread (value_of spline) (drop (suc spline) values) flags)
+      ≡ go_round corners values d places (spline + length (corners_from (length done) flags))
+      (done ++ spread (value_of spline) (drop (suc spline) values) flags)
   unfolding range spread corners_from go_round
   along [] done [] spline places v l c = rw (add-zero spline)
   along [] done (x ∷ out) spline places v l c = absurd (omega arith)

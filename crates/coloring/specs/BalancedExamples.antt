@@ -50,7 +50,8 @@ pub in_every_strategy :
     × (colors_by Balanced Numbers [] ≡ in_runs 0 255 1 17 15)
     × (colors_by Source (Distances 0) (n0 ∷ []) ≡ in_runs 3 7 6 16 16)
     × (colors_by Balanced (Distances 0) (n0 ∷ []) ≡ in_runs 3 7 6 17 15)
-unfolding edge_coloring valid_distance offer_splines offer corner_count first_corner quadratic_direction quadratic_tangent vmix to_stored from_stored add sub mul_scalar
+unfolding edge_coloring valid_distance offer_splines offer corner_count first_corner quadratic_direction quadratic_tangent vmix to_stored from_stored add sub
+    mul_scalar
     is_nonzero dot cross div_scalar squared_length length_of normalize sqrt_of direction
     Ieee.add Ieee.sub Ieee.mul Ieee.div Ieee.neg Ieee.ne Ieee.le Ieee.lt Ieee.eq Ieee.of_bits
 in_every_strategy = (refl, refl, refl, refl, refl, refl, refl, refl)

@@ -25,7 +25,8 @@ use Rattle.coloring.specs.Examples.{square_outline, four_edges, eighth}
 pub square_edges :
     ((collect_splines square_outline eighth four_edges).buffers.colors ≡ (0 ∷ 1 ∷ 2 ∷ 3 ∷ []))
     × ((edge_coloring_by_distance square_outline eighth 0 square_distances four_edges).buffers.colors ≡ (3 ∷ 6 ∷ 5 ∷ 6 ∷ []))
-unfolding square_outline edge_coloring valid_distance corner_count first_corner offer_splines offer direction sub dot cross div_scalar squared_length length_of normalize
+unfolding square_outline edge_coloring valid_distance corner_count first_corner offer_splines offer direction sub dot cross div_scalar squared_length
+    length_of normalize
     sqrt_of to_stored from_stored Ieee.add Ieee.sub Ieee.mul Ieee.div Ieee.neg Ieee.ne Ieee.le Ieee.lt Ieee.eq Ieee.of_bits
 square_edges = (refl, refl)
 

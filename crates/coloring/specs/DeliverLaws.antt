@@ -38,7 +38,8 @@ module _ (counts : Counts) (written old : Result) where
   deliver_failed checks e = sym (failed_on checks _ _ _ e)
 
   -- where the result fits, the checks give the answer
-  pub deliver-answer : (checks : List Check) → result_fits written old ≡ true → (deliver checks counts written old).answer ≡ in_order checks refusal (gives counts)
+  pub deliver-answer : (checks : List Check) → result_fits written old ≡ true → (deliver checks counts written old).answer ≡ in_order checks refusal
+      (gives counts)
   unfolding delivered
   deliver-answer checks e = go (first_refusal checks) refl
     where

@@ -31,7 +31,8 @@ module _ {A B : Type 0} (f : A → B) where
       → map f (map (λ i. third_of first middle last (third_by division i m)) places)
       ≡ map (λ i. third_of (f first) (f middle) (f last) (third_by division i m)) places
   each_third division first middle last m [] = refl
-  each_third division first middle last m (i ∷ places) = rw (third-map first middle last (third_by division i m), each_third division first middle last m places)
+  each_third division first middle last m (i ∷ places) =
+      rw (third-map first middle last (third_by division i m), each_third division first middle last m places)
 
   runs_map : (division : Division) (first middle last : A) (m : ℕ) → map f (runs division first middle last m) ≡ runs division (f first) (f middle) (f last) m
   unfolding runs

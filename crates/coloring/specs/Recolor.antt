@@ -2,7 +2,8 @@
 -- walk. The parts stand in the source's order and under its names. A colour is 0, 1 or 2; 3 is the source's -1, a
 -- spline without a colour. Last comes what the functions of the recolouring promise each other: the queue of the walk
 -- as the code holds it.
-use Rattle.std.specs.Prelude.{◌≡◌, Bool, true, false, not, ◌&&◌, ◌||◌, cond, List, [], ◌∷◌, ◌++◌, ℕ, zero, suc, ◌+◌, ◌-◌, ◌*◌, ◌%◌, ◌^◌, ◌≤◌, ◌<◌, length, get_or, take, drop, set, leb, eqb}
+use Rattle.std.specs.Prelude.{◌≡◌, Bool, true, false, not, ◌&&◌, ◌||◌, cond, List, [], ◌∷◌, ◌++◌, ℕ, zero, suc, ◌+◌, ◌-◌, ◌*◌, ◌%◌, ◌^◌, ◌≤◌, ◌<◌, length}
+use Rattle.std.specs.Prelude.{get_or, take, drop, set, leb, eqb}
 use Rattle.coloring.specs.Limits.{max_splines}
 use Rattle.coloring.specs.declared.recolor.Walked.{Walked}
 use Rattle.coloring.specs.declared.recolor.Walked.TheVariants.{Recolored, Stopped}

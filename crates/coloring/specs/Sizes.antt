@@ -155,7 +155,8 @@ module _ {A : Type 0} where
 
   module _ (division : Division) (middle : A) (values : List A) (flags : List Bool) where
     pub paint-one : eqb (corner_count flags) 1 ≡ true
-        → paint division middle values flags ≡ by_place (first_corner flags) (runs division (get_or values 0 middle) middle (get_or values 1 middle) (length flags))
+        → paint division middle values flags ≡ by_place (first_corner flags)
+        (runs division (get_or values 0 middle) middle (get_or values 1 middle) (length flags))
     unfolding paint teardrop
     paint-one e = branch_true (eqb (corner_count flags) 1) _ _ e
 

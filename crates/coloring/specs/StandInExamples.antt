@@ -28,7 +28,8 @@ dotted =
 -- by contour: both ends of the line, none of the true one; the end of the quadratic, both of the cubic. Refutes one
 -- that counts once an edge (1, 0, 2), starts only (1, 0, 1), a true (0, 1) too (4, 0, 3), or tests the vector (0, 0, 2)
 pub by_contour : map (λ edges. (search_corners eighth edges).stand_ins) (contours dotted) ≡ (2 ∷ 0 ∷ 3 ∷ [])
-unfolding search_corners contours quadratic_direction quadratic_tangent cubic_direction cubic_tangent vmix from_stored add sub mul_scalar is_nonzero normalize length_of
+unfolding search_corners contours quadratic_direction quadratic_tangent cubic_direction cubic_tangent vmix from_stored add sub mul_scalar is_nonzero
+    normalize length_of
     squared_length div_scalar sqrt_of Ieee.add Ieee.sub Ieee.mul Ieee.div Ieee.neg Ieee.ne Ieee.eq Ieee.of_bits
 by_contour = refl
 
@@ -44,7 +45,8 @@ pub by_every_strategy :
     × ((edge_coloring_ink_trap dotted eighth 0 room).answer ≡ gives five)
     × ((collect_splines dotted eighth room).answer ≡ gives five)
     × ((edge_coloring_by_distance dotted eighth 0 (n1 ∷ n1 ∷ n1 ∷ []) room).answer ≡ gives five)
-unfolding edge_coloring valid_distance corner_count first_corner quadratic_direction quadratic_tangent cubic_direction cubic_tangent vmix to_stored from_stored add sub
+unfolding edge_coloring valid_distance corner_count first_corner quadratic_direction quadratic_tangent cubic_direction cubic_tangent vmix to_stored
+    from_stored add sub
     mul_scalar is_nonzero dot cross div_scalar squared_length length_of normalize sqrt_of split_in_thirds split_quadratic split_cubic
     Ieee.add Ieee.sub Ieee.mul Ieee.div Ieee.neg Ieee.ne Ieee.le Ieee.lt Ieee.eq Ieee.of_bits
 by_every_strategy = (refl, refl, refl, refl)

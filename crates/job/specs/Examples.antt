@@ -71,7 +71,8 @@ line_record x0 y0 x1 y1 rest = LN (x0 ++ y0 ++ x1 ++ y1 ++ rest)
 
 -- the square (0,0) (1,0) (1,1) (0,1) of lines, strategy 1, seed 0, threshold 0.125
 abbrev square_contour : List ℕ → List ℕ
-square_contour rest = CT (line_record zeros zeros one zeros (line_record one zeros one one (line_record one one zeros one (line_record zeros one zeros zeros rest))))
+square_contour rest = CT (line_record zeros zeros one zeros
+    (line_record one zeros one one (line_record one one zeros one (line_record zeros one zeros zeros rest))))
 
 abbrev pub square_file : List ℕ
 square_file = opening 1 (square_contour (EN []))
@@ -317,7 +318,8 @@ unfolding accept_job of_bits
 reading_before_splines = refl
 
 pub splines_before_miscounted : accept_job many_splines ≡ refusal 4
-unfolding accept_job of_bits find_corners corner_count first_corner direction sub dot cross div_scalar squared_length length_of normalize sqrt_of Ieee.add Ieee.sub
+unfolding accept_job of_bits find_corners corner_count first_corner direction sub dot cross div_scalar squared_length length_of normalize sqrt_of Ieee.add
+    Ieee.sub
     Ieee.mul Ieee.div Ieee.ne Ieee.le Ieee.lt
 splines_before_miscounted = refl
 
@@ -354,7 +356,8 @@ pub drop-colored :
     × (edge_colors (drop_job InkTrap Balanced []) ≡ in_runs 5 17 3 15)
     × (edge_colors (drop_job ByDistance Source (f0 ∷ [])) ≡ in_runs 3 16 6 16)
     × (edge_colors (drop_job ByDistance Balanced (f0 ∷ [])) ≡ in_runs 3 17 6 15)
-unfolding edge_colors of_bits find_corners corner_count first_corner offer_splines offer valid_distance vmix quadratic_tangent quadratic_direction direction add sub
+unfolding edge_colors of_bits find_corners corner_count first_corner offer_splines offer valid_distance vmix quadratic_tangent quadratic_direction direction
+    add sub
     mul_scalar div_scalar is_nonzero dot cross squared_length length_of normalize sqrt_of Ieee.add Ieee.sub Ieee.mul Ieee.div Ieee.neg Ieee.ne Ieee.le Ieee.lt
     Ieee.eq
 drop-colored = (refl, refl, refl, refl, refl, refl)
@@ -372,7 +375,8 @@ square_text =
 
 -- from bytes to bytes: the square's file is printed as docs/FORMAT.md has it
 pub square_printed : file_text square_file ≡ square_text
-unfolding file_text of_bits to_stored find_corners corner_count first_corner direction sub dot cross div_scalar squared_length length_of normalize sqrt_of Ieee.add
+unfolding file_text of_bits to_stored find_corners corner_count first_corner direction sub dot cross div_scalar squared_length length_of normalize sqrt_of
+    Ieee.add
     Ieee.sub Ieee.mul Ieee.div Ieee.ne Ieee.le Ieee.lt
 square_printed = refl
 
@@ -398,7 +402,8 @@ pub dot_printed :
     (file_text (dot_file 1 (EN [])) ≡ dot_text 0x35)
     × (file_text (dot_file 2 (EN [])) ≡ dot_text 0x35)
     × (file_text (dot_file 3 (DS (0 ∷ 0 ∷ EN []))) ≡ dot_text 0x33)
-unfolding file_text of_bits to_stored find_corners corner_count first_corner offer_splines valid_distance direction sub dot cross div_scalar squared_length length_of
+unfolding file_text of_bits to_stored find_corners corner_count first_corner offer_splines valid_distance direction sub dot cross div_scalar squared_length
+    length_of
     normalize sqrt_of Ieee.add Ieee.sub Ieee.mul Ieee.div Ieee.ne Ieee.le Ieee.lt
 dot_printed = (refl, refl, refl)
 

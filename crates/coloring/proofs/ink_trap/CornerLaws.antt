@@ -9,7 +9,8 @@ use native.Mathlib.Numerals.{add-one}
 use native.Mathlib.Nat.{mod-lt, mod-eq_of_lt, sub-eq-zero_of_le, zero-add, add-zero}
 use lib.Dec.{ltb}
 use borrow.Author.Tests.{lt-ltb, le-ltb}
-use lib.Seq.{map-set_same, get_or_at, get_or-set_same, set_at, length-take-le, get_or-take, take-set-lt, take-suc, take-suc-set, drop-cons, drop-set-lt, append_snoc}
+use lib.Seq.{map-set_same, get_or_at, get_or-set_same, set_at, length-take-le, get_or-take, take-set-lt, take-suc, take-suc-set, drop-cons, drop-set-lt}
+use lib.Seq.{append_snoc}
 use lib.ListN.{length, take, drop, get_or, set, drop_of_length-le, length-map, get_or-map}
 use lib.Ieee as Ieee
 use lib.Ieee.{Float}

@@ -41,7 +41,8 @@ uses_enough c (suc k) (x ∷ coloring) [] h = refl
 uses_enough c (suc k) (x ∷ coloring) (e ∷ entries) h =
     ap (λ b. (not (eqb e 0) && eqb x c) || b) (uses_enough c k coloring entries (le_of_suc-le-suc h))
 
-free_enough : (k : ℕ) (coloring entries : List ℕ) → length coloring ≤ k → vertex_possible_colors coloring (take k entries) ≡ vertex_possible_colors coloring entries
+free_enough : (k : ℕ) (coloring entries : List ℕ) → length coloring ≤ k → vertex_possible_colors coloring (take k entries) ≡ vertex_possible_colors coloring
+    entries
 unfolding vertex_possible_colors
 free_enough k coloring entries h =
     rw (uses_enough 0 k coloring entries h, uses_enough 1 k coloring entries h, uses_enough 2 k coloring entries h)

@@ -129,7 +129,8 @@ module _ (lengths : List ℕ) (xs : List EdgeSegment) (flags : List Bool) (count
   edges-laid : length (flatten (flags_in laid)) ≡ counts.edges
   edges-laid = flatten-length (flags_in laid) ∙ ap total (sizes-laid ∙ laid-sizes found found-flagged) ∙ edges-counted
 
-  module _ {lengths₀ kinds₀ : List ℕ} {points₀ : List Float} {flags₀ : List Bool} {out_lengths out_kinds : List ℕ} {out_points : List Float} {out_flags : List Bool}
+  module _ {lengths₀ kinds₀ : List ℕ} {points₀ : List Float} {flags₀ : List Bool} {out_lengths out_kinds : List ℕ} {out_points : List Float}
+      {out_flags : List Bool}
       (out : LaidOut laid lengths₀ kinds₀ points₀ flags₀ out_lengths out_kinds out_points out_flags) where
     front_lengths : take counts.contours out_lengths ≡ sizes (flags_in laid)
     unfolding over encode

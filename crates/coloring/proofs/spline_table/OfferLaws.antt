@@ -149,7 +149,8 @@ module _ (t : Table) (a b : ℕ) where
 -- ---- the walk
 
 module _ (coloring edge_matrix : List ℕ) (a b : ℕ) (color : get_or coloring a 0 < 3) where
-  start-going : Going (length coloring) (walk_fuel (length coloring)) 0 (walk_start coloring edge_matrix a b).coloring (walk_start coloring edge_matrix a b).queue
+  start-going : Going (length coloring) (walk_fuel (length coloring)) 0 (walk_start coloring edge_matrix a b).coloring
+      (walk_start coloring edge_matrix a b).queue
   unfolding walk_start Waiting
   start-going =
       let u = force_uncolors (row (length coloring) edge_matrix b) _ (others (get_or coloring a 0) color).2 b (record { coloring = coloring; queue = [] }) in

@@ -22,7 +22,8 @@ module _ {A : Type 0} where
     unfolding spread
     spread_beyond t l = rw (drop-cons flags i false h, t, drop_of_length-le values l, add-one)
 
-    pub spread-edge : get_or flags i false ≡ false → spread value (drop next values) (drop i flags) ≡ value ∷ spread value (drop next values) (drop (i + 1) flags)
+    pub spread-edge : get_or flags i false ≡ false → spread value (drop next values) (drop i flags) ≡ value ∷ spread value (drop next values)
+        (drop (i + 1) flags)
     unfolding spread
     spread-edge t = rw (drop-cons flags i false h, t, add-one)
 

@@ -168,7 +168,8 @@ module _ (file : List ℕ) (n : JobNumbers) (old : Buffers) (numbers_are : gives
       let a = answer_job (read_job file) n numbers_are in
       record { job = a.job; is_read = a.is_read; numbers = a.numbers; holds = rw a.is_read at h }
 
-pub color-refused : (file : List ℕ) (number : ℕ) (out : Result) → refusal number ≡ answer_of (read_job file) → outcome (refusal number) out ≡ color_file file out
+pub color-refused : (file : List ℕ) (number : ℕ) (out : Result) → refusal number ≡ answer_of (read_job file) → outcome (refusal number) out ≡ color_file file
+    out
 unfolding color_file color_reading
 color-refused file number out numbers_are = rw (answer-refused (read_job file) number numbers_are)
 

@@ -19,7 +19,8 @@ use Rattle.job.proofs.progress.SoFarLaws.{outlined, bytes-append, outline-more}
 use Rattle.job.proofs.progress.ProgressLaws.{file_of_job}
 use Rattle.job.proofs.color.AcceptLaws.{accepted_same}
 
-concat_both : (xs ys : List (List EdgeSegment)) → flatten (map contour_records (xs ++ ys)) ≡ flatten (map contour_records xs) ++ flatten (map contour_records ys)
+concat_both : (xs ys : List (List EdgeSegment)) → flatten (map contour_records (xs ++ ys)) ≡ flatten (map contour_records xs) ++ flatten
+    (map contour_records ys)
 unfolding flatten
 concat_both [] ys = refl
 concat_both (x ∷ xs) ys = rw (concat_both xs ys) (sym (append_assoc (contour_records x) (flatten (map contour_records xs)) (flatten (map contour_records ys))))

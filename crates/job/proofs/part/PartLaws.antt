@@ -70,7 +70,8 @@ with_edge_take (c ∷ []) e (suc n) h = absurd (omega arith)
 with_edge_take (c ∷ d ∷ contours) e zero h = refl
 with_edge_take (c ∷ d ∷ contours) e (suc n) h = ap (λ (x : List (List EdgeSegment)). c ∷ x) (with_edge_take (d ∷ contours) e n (omega arith))
 
-with_edge_get : (contours : List (List EdgeSegment)) (e : EdgeSegment) (n : ℕ) → n + 2 ≤ length contours → get_or (with_edge contours e) n [] ≡ get_or contours n []
+with_edge_get : (contours : List (List EdgeSegment)) (e : EdgeSegment) (n : ℕ) → n + 2 ≤ length contours → get_or (with_edge contours e) n [] ≡ get_or
+    contours n []
 unfolding with_edge
 with_edge_get [] e n h = refl
 with_edge_get (c ∷ []) e n h = absurd (omega arith)

@@ -44,7 +44,8 @@ unfolding mark_of
 letters_of a b mark e = letters-among marks a b mark e
 
 -- the letters and the fields, and so all the bytes
-pub marked-bytes : (a b : ℕ) (bytes rest : List ℕ) (r : Record) → Lettered a b (record_mark r) → fields_of r ++ rest ≡ bytes → a ∷ b ∷ bytes ≡ bytes_of r ++ rest
+pub marked-bytes : (a b : ℕ) (bytes rest : List ℕ) (r : Record) → Lettered a b (record_mark r) → fields_of r ++ rest ≡ bytes → a ∷ b ∷ bytes ≡ bytes_of r ++
+    rest
 unfolding bytes_of
 marked-bytes a b bytes rest r l e = rw (l.0, l.1, ← e)
 
@@ -81,7 +82,12 @@ module _ (bytes : List ℕ) (are : AreBytes bytes) where
   header_body = take 17 bytes
 
   abbrev pub header_in : Header
-  header_in = record { strategy = strategy_of (get_or header_body 0 0); seed = number (take 8 (drop 1 header_body)); threshold = number (take 8 (drop 9 header_body)) }
+  header_in = record {
+    strategy = strategy_of (get_or header_body 0 0);
+    seed = number (take 8 (drop 1 header_body));
+    threshold = number
+        (take 8 (drop 9 header_body));
+  }
 
   word_below : (n : ℕ) → n + 8 ≤ length bytes → 17 ≤ length bytes → n + 8 ≤ 17 → number (take 8 (drop n header_body)) < 2 ^ 64
   word_below n k whole few =

@@ -279,7 +279,8 @@ records_step s (b ∷ bytes) = go (read_record s (b ∷ bytes)) (of_step s (b �
     go : (step : Step) → OfStep s (b ∷ bytes) step
         → elim step [ next r rest ↦ r then records_within (length bytes) (after s (item_of r)) rest | ends ↦ complete | fails number ↦ fault number ]
         ≡ proceed s step
-    go (next r rest) t = ap (λ (x : Records). r then x) (enough (length bytes) (length rest) (after s (item_of r)) rest (omega (arith, shorter t)) (omega arith))
+    go (next r rest) t = ap (λ (x : Records). r then x)
+        (enough (length bytes) (length rest) (after s (item_of r)) rest (omega (arith, shorter t)) (omega arith))
     go ends t = refl
     go (fails number) t = refl
 

@@ -124,7 +124,8 @@ distances-found body rest count size e few there within whole =
 
 -- ---- the mark
 
-pub two-letters : (s : State) (bytes : List ℕ) → 2 ≤ length bytes → read_record s bytes ≡ read_marked s (mark_of (get_or bytes 0 0) (get_or bytes 1 0)) (drop 2 bytes)
+pub two-letters : (s : State) (bytes : List ℕ) → 2 ≤ length bytes → read_record s bytes ≡ read_marked s (mark_of (get_or bytes 0 0) (get_or bytes 1 0))
+    (drop 2 bytes)
 unfolding read_record
 two-letters s [] h = absurd (omega arith)
 two-letters s (a ∷ []) h = absurd (omega arith)

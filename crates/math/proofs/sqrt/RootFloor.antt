@@ -1,5 +1,6 @@
 -- The floor root: `root k n` is the one r with r · r ≤ n < (r + 1) · (r + 1), for every n below 4 ^ k.
-use Rattle.std.proofs.Common.{◌≡◌, ℕ, zero, suc, ◌+◌, ◌*◌, ◌/◌, ◌^◌, ◌<◌, ◌≤◌, Bool, true, false, cond, leb, refl, le_of_suc-le-suc, mul-le-mul, le_antisymm, pow-suc, lt_of_not-le, arith, leb-false, leb-true}
+use Rattle.std.proofs.Common.{◌≡◌, ℕ, zero, suc, ◌+◌, ◌*◌, ◌/◌, ◌^◌, ◌<◌, ◌≤◌, Bool, true, false, cond, leb, refl, le_of_suc-le-suc, mul-le-mul, le_antisymm}
+use Rattle.std.proofs.Common.{pow-suc, lt_of_not-le, arith, leb-false, leb-true}
 use Rattle.math.specs.Sqrt.{root}
 
 pub record Floor (n r : ℕ) : Type 0 where

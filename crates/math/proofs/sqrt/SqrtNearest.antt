@@ -1,6 +1,7 @@
 -- The definition of the square root is right, with no real number in the claim: `sqrt_nearest` for every positive
 -- finite double, `sqrt_special` for every other pattern.
-use Rattle.std.proofs.Common.{◌≡◌, ℕ, suc, ◌+◌, ◌-◌, ◌*◌, ◌/◌, ◌^◌, ◌<◌, ◌≤◌, sym, refl, ap, ◌∙◌, ⊎_elim, le_of_suc-le-suc, le_of_lt, mul-le-mul_right, mul-le-mul, le_antisymm, mul-pos, lt_of_not-le, arith, pow_pos}
+use Rattle.std.proofs.Common.{◌≡◌, ℕ, suc, ◌+◌, ◌-◌, ◌*◌, ◌/◌, ◌^◌, ◌<◌, ◌≤◌, sym, refl, ap, ◌∙◌, ⊎_elim, le_of_suc-le-suc, le_of_lt, mul-le-mul_right}
+use Rattle.std.proofs.Common.{mul-le-mul, le_antisymm, mul-pos, lt_of_not-le, arith, pow_pos}
 use Rattle.math.specs.Sqrt.{scaled, rounded, infinity_pattern, nan_pattern, sqrt_bits}
 use Rattle.math.proofs.sqrt.SqrtOpen.{positive_root_is, sqrt_bits_above, sqrt_bits_positive}
 use Rattle.math.proofs.sqrt.SqrtRounded.{Within, rounded-within}

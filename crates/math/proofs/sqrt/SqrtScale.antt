@@ -1,7 +1,8 @@
 -- The scaling. A positive finite pattern b stands for significand b · 2 ^ (exponent b − 1126), and the significand has
 -- its leading digit at place 52 (`normalised`). The number whose root is taken lies between 2 ^ 104 and 2 ^ 106
 -- (`scaled_bounds`), and times a square it is what b stands for (`square_is`).
-use Rattle.std.proofs.Common.{◌≡◌, ℕ, zero, suc, ◌+◌, ◌-◌, ◌*◌, ◌/◌, ◌%◌, ◌^◌, ◌<◌, ◌≤◌, sym, ap, ◌∙◌, ⊎_elim, lt_of_le_of_lt, lt_irrefl, mul-le-mul_right, mul_assoc, mul-lt-mul_of_pos_right, pow-suc, lt_of_not-le, arith, pow_pos, pow_mono, pow-add}
+use Rattle.std.proofs.Common.{◌≡◌, ℕ, zero, suc, ◌+◌, ◌-◌, ◌*◌, ◌/◌, ◌%◌, ◌^◌, ◌<◌, ◌≤◌, sym, ap, ◌∙◌, ⊎_elim, lt_of_le_of_lt, lt_irrefl, mul-le-mul_right}
+use Rattle.std.proofs.Common.{mul_assoc, mul-lt-mul_of_pos_right, pow-suc, lt_of_not-le, arith, pow_pos, pow_mono, pow-add}
 use lib.Count.{count_leading_zeros, leading_top}
 use Rattle.math.specs.Sqrt.{shift, significand, exponent, scaled, infinity_pattern}
 use Rattle.math.proofs.sqrt.SqrtOpen.{shift_is, significand-low, significand_high, exponent-low, exponent_high, scaled_is}

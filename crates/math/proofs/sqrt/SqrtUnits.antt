@@ -1,7 +1,8 @@
 -- The number that a positive finite pattern stands for, counted in units of the smallest double, 2 ^ −1074. It is the
 -- value that the logic's account of IEEE 754 reads from the pattern (`units_value`), it grows with the pattern
 -- (`units_mono`), and the step from a pattern to the next is one unit in the last place (`units-suc`).
-use Rattle.std.proofs.Common.{◌≡◌, ℕ, suc, ◌+◌, ◌-◌, ◌*◌, ◌/◌, ◌%◌, ◌^◌, ◌<◌, ◌≤◌, false, cond, ltb, ◌⊎◌, sym, ap, ◌∙◌, subst, ap₂, inl, inr, ⊎_elim, le_refl, mod-lt, mod-eq_of_lt, eq-or-lt_of_le, lt_of_not-le, mul-one, arith, pow_pos, le-ltb, lt-ltb, ne_eqb}
+use Rattle.std.proofs.Common.{◌≡◌, ℕ, suc, ◌+◌, ◌-◌, ◌*◌, ◌/◌, ◌%◌, ◌^◌, ◌<◌, ◌≤◌, false, cond, ltb, ◌⊎◌, sym, ap, ◌∙◌, subst, ap₂, inl, inr, ⊎_elim, le_refl}
+use Rattle.std.proofs.Common.{mod-lt, mod-eq_of_lt, eq-or-lt_of_le, lt_of_not-le, mul-one, arith, pow_pos, le-ltb, lt-ltb, ne_eqb}
 use native.Mathlib.Nat.{pow-succ'}
 use native.Mathlib.Decide.{dec_le, le_ind}
 use borrow.Author.Tests.{lt-leb}

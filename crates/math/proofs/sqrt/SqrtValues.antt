@@ -1,7 +1,9 @@
 -- The square root on values: `sqrt_of` of a pattern's float is the float of the pattern's root (`sqrt_of_bits`), so that
 -- what SqrtNearest says of patterns holds of floats: `sqrt_nearest_value` for every float that is finite and above
 -- zero, `sqrt_special_value` for every other.
-use Rattle.std.proofs.Common.{◌≡◌, ℕ, zero, suc, ◌+◌, ◌*◌, ◌/◌, ◌%◌, ◌^◌, ◌<◌, ◌≤◌, Bool, true, false, cond, not, T, eqb, leb, pos, sym, refl, ap, ◌∙◌, subst, mul-le-mul_right, lt_of_mul-lt-mul_right, mul-lt-mul_of_pos_right, mul-pos, lt_of_not-le, not-le_of_lt, arith, ltb→lt, pow_pos, ltb-true, leb-false}
+use Rattle.std.proofs.Common.{◌≡◌, ℕ, zero, suc, ◌+◌, ◌*◌, ◌/◌, ◌%◌, ◌^◌, ◌<◌, ◌≤◌, Bool, true, false, cond, not, T, eqb, leb, pos, sym, refl, ap, ◌∙◌, subst}
+use Rattle.std.proofs.Common.{mul-le-mul_right, lt_of_mul-lt-mul_right, mul-lt-mul_of_pos_right, mul-pos, lt_of_not-le, not-le_of_lt, arith, ltb→lt, pow_pos}
+use Rattle.std.proofs.Common.{ltb-true, leb-false}
 use native.Mathlib.Nat.{eq_of_mul-eq-mul_right}
 use lib.Ieee.{Float, nan, inf, fin, binary64, up, down, lt, fits, is_nan, odd, of_fields, of_bits, to_bits}
 use lib.Ieee.Bits.{of_bits-to_bits, of_bits-fits, to_bits-lt, to_bits-of_bits, nan_bits_is, nan_bits_above}

@@ -29,11 +29,19 @@ pub slice_bounds-search_corners-end : goal.slice_bounds-search_corners-end
 slice_bounds-search_corners-end c = sym (length-take-le _ (places 256) c.if-places-le-FEW_DIRECTION_PLACES.true)
 
 pub slice_bounds-search_corners-end-then-places-le-FEW_DIRECTION_PLACES : goal.slice_bounds-search_corners-end-then-places-le-FEW_DIRECTION_PLACES
-slice_bounds-search_corners-end-then-places-le-FEW_DIRECTION_PLACES c = sym (length-take-le _ (marks 128) (half (goal.at.slice_bounds-search_corners-end-then-places-le-FEW_DIRECTION_PLACES c).Then-places-le-FEW_DIRECTION_PLACES))
+slice_bounds-search_corners-end-then-places-le-FEW_DIRECTION_PLACES c =
+    let then_places_le_few_direction_places =
+    (goal.at.slice_bounds-search_corners-end-then-places-le-FEW_DIRECTION_PLACES c).Then-places-le-FEW_DIRECTION_PLACES in
+    sym (length-take-le _ (marks 128) (half then_places_le_few_direction_places))
 
 pub search_corners-requires : goal.search_corners-requires
 search_corners-requires c =
-    record { cut = c.requires; directions_len = (length-take-le _ (places 256) c.if-places-le-FEW_DIRECTION_PLACES.true, length-take-le _ (marks 128) (half (goal.at.search_corners-requires c).Then-places-le-FEW_DIRECTION_PLACES)) }
+    let then_places_le_few_direction_places = (goal.at.search_corners-requires c).Then-places-le-FEW_DIRECTION_PLACES in
+    record {
+      cut = c.requires;
+      directions_len
+          = (length-take-le _ (places 256) c.if-places-le-FEW_DIRECTION_PLACES.true, length-take-le _ (marks 128) (half then_places_le_few_direction_places));
+    }
 
 within : (c : Else-places-le-FEW_DIRECTION_PLACES) → 4 * length c.args.kinds.now ≤ 1024
 within c = omega (arith, c.requires.matching.few)
@@ -42,11 +50,24 @@ within-marks : (c : Else-places-le-FEW_DIRECTION_PLACES) → 2 * length c.args.k
 within-marks c = omega (arith, c.requires.matching.few)
 
 pub slice_bounds-search_corners-end-2 : goal.slice_bounds-search_corners-end-2
-slice_bounds-search_corners-end-2 c = sym (length-take-le _ (places 1024) (within (goal.at.slice_bounds-search_corners-end-2 c).Else-places-le-FEW_DIRECTION_PLACES))
+slice_bounds-search_corners-end-2 c =
+    let else_places_le_few_direction_places = (goal.at.slice_bounds-search_corners-end-2 c).Else-places-le-FEW_DIRECTION_PLACES in
+    sym (length-take-le _ (places 1024) (within else_places_le_few_direction_places))
 
 pub slice_bounds-search_corners-end-3 : goal.slice_bounds-search_corners-end-3
-slice_bounds-search_corners-end-3 c = sym (length-take-le _ (marks 512) (within-marks (goal.at.slice_bounds-search_corners-end-3 c).Else-places-le-FEW_DIRECTION_PLACES))
+slice_bounds-search_corners-end-3 c =
+    let else_places_le_few_direction_places = (goal.at.slice_bounds-search_corners-end-3 c).Else-places-le-FEW_DIRECTION_PLACES in
+    sym (length-take-le _ (marks 512) (within-marks else_places_le_few_direction_places))
 
 pub search_corners-requires-2 : goal.search_corners-requires-2
 search_corners-requires-2 c =
-    record { cut = c.requires; directions_len = (length-take-le _ (places 1024) (within (goal.at.search_corners-requires-2 c).Else-places-le-FEW_DIRECTION_PLACES), length-take-le _ (marks 512) (within-marks (goal.at.search_corners-requires-2 c).Else-places-le-FEW_DIRECTION_PLACES)) }
+    let else_places_le_few_direction_places = (goal.at.search_corners-requires-2 c).Else-places-le-FEW_DIRECTION_PLACES in
+    record {
+      cut = c.requires;
+      directions_len
+          = (
+            length-take-le _ (places 1024) (within else_places_le_few_direction_places),
+            length-take-le _ (marks 512)
+                (within-marks else_places_le_few_direction_places),
+          );
+    }

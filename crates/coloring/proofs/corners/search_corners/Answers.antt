@@ -40,7 +40,11 @@ module _ (c : After-unit_directions) where
 
 pub unit_directions-requires : goal.unit_directions-requires
 unit_directions-requires c =
-    let cut = c.requires.cut in record { agrees = record { contours-few = cut.contours-few; edges = sym cut.whole; few = cut.matching.few; places = cut.matching.places }; out_len = c.requires.directions_len }
+    let cut = c.requires.cut in record {
+      agrees = record { contours-few = cut.contours-few; edges = sym cut.whole; few = cut.matching.few; places = cut.matching.places };
+      out_len
+          = c.requires.directions_len;
+    }
 
 pub count_marks-requires : goal.count_marks-requires
 count_marks-requires c =
@@ -57,12 +61,13 @@ compare_neighbors-requires c =
 pub returns : goal.returns
 unfolding contours stand_in_count
 returns c =
+    let after_unit_directions = (goal.at.returns c).After-unit_directions in
     let a = c.args in
     let flags =
     c.compare_neighbors.ensures
     ∙ ap (λ places. all_flags a.threshold a.lengths.now (decode_ends (length a.flags.now) places)) c.unit_directions.ensures.out_after
-    ∙ ap (all_flags a.threshold a.lengths.now) (again (goal.at.returns c).After-unit_directions) in
+    ∙ ap (all_flags a.threshold a.lengths.now) (again after_unit_directions) in
     let corners =
-    all-cut a.threshold a.lengths.now (edges (goal.at.returns c).After-unit_directions) (omega (arith, c.requires.cut.whole, as_many (goal.at.returns c).After-unit_directions)) in
-    ap₂ found_in (ap (cornered a.lengths.now (edges (goal.at.returns c).After-unit_directions)) flags ∙ corners)
-    (c.count_marks.ensures ∙ ap total c.unit_directions.ensures.marks_after ∙ counted (goal.at.returns c).After-unit_directions)
+    all-cut a.threshold a.lengths.now (edges after_unit_directions) (omega (arith, c.requires.cut.whole, as_many after_unit_directions)) in
+    ap₂ found_in (ap (cornered a.lengths.now (edges after_unit_directions)) flags ∙ corners)
+    (c.count_marks.ensures ∙ ap total c.unit_directions.ensures.marks_after ∙ counted after_unit_directions)

@@ -97,26 +97,38 @@ given s = outline s.args.lengths.now s.args.kinds.now s.args.points.now
 
 pub returns-in-Failed : goal.returns-in-Failed
 returns-in-Failed c =
-    refused (given (goal.at.returns-in-Failed c).Start) (old (goal.at.returns-in-Failed c).Start) (sym c.check_outline-checked.ensures ∙ ap checked_answer c.in-Failed.is)
+    let start = (goal.at.returns-in-Failed c).Start in
+    refused (given start) (old start) (sym c.check_outline-checked.ensures ∙ ap checked_answer c.in-Failed.is)
 
 -- and passed
 module _ (c : In_default) where
-  passed : first_refusal (check_outline (given (goal.at.In_default c).Start)) ≡ all_pass
+  abbrev start_2 : Start
+  start_2 = (goal.at.In_default c).Start
+
+  passed : first_refusal (check_outline (given start_2)) ≡ all_pass
   passed = sym c.check_outline-checked.ensures ∙ ap checked_answer c.in_default.is
 
 pub overflow_mul-places : goal.overflow_mul-places
-overflow_mul-places c = omega (arith, (agrees (given (goal.at.overflow_mul-places c).Start) (old (goal.at.overflow_mul-places c).Start) (passed c)).few)
+overflow_mul-places c =
+    let start = (goal.at.overflow_mul-places c).Start in
+    omega (arith, (agrees (given start) (old start) (passed c)).few)
 
 pub overflow_mul-marks : goal.overflow_mul-marks
-overflow_mul-marks c = omega (arith, (agrees (given (goal.at.overflow_mul-marks c).Start) (old (goal.at.overflow_mul-marks c).Start) (passed c)).few)
+overflow_mul-marks c =
+    let start = (goal.at.overflow_mul-marks c).Start in
+    omega (arith, (agrees (given start) (old start) (passed c)).few)
 
 pub returns-then-places-out_directions : goal.returns-then-places-out_directions
 returns-then-places-out_directions c =
-    directions-short (given (goal.at.returns-then-places-out_directions c).Start) (old (goal.at.returns-then-places-out_directions c).Start) (passed (goal.at.returns-then-places-out_directions c).In_default) c.if-places-out_directions.true
+    let start = (goal.at.returns-then-places-out_directions c).Start in
+    let in_default_2 = (goal.at.returns-then-places-out_directions c).In_default in
+    directions-short (given start) (old start) (passed in_default_2) c.if-places-out_directions.true
 
 pub returns-then-marks-out_stand_ins : goal.returns-then-marks-out_stand_ins
 returns-then-marks-out_stand_ins c =
-    marks-short (given (goal.at.returns-then-marks-out_stand_ins c).Start) (old (goal.at.returns-then-marks-out_stand_ins c).Start) (passed (goal.at.returns-then-marks-out_stand_ins c).In_default) c.if-places-out_directions.false c.if-marks-out_stand_ins.true
+    let start = (goal.at.returns-then-marks-out_stand_ins c).Start in
+    let in_default_2 = (goal.at.returns-then-marks-out_stand_ins c).In_default in
+    marks-short (given start) (old start) (passed in_default_2) c.if-places-out_directions.false c.if-marks-out_stand_ins.true
 
 -- there is room
 module _ (c : Else-marks-out_stand_ins) where
@@ -127,7 +139,9 @@ module _ (c : Else-marks-out_stand_ins) where
   marks-room = c.if-marks-out_stand_ins.false
 
 pub slice_bounds-unit_directions-end-2 : goal.slice_bounds-unit_directions-end-2
-slice_bounds-unit_directions-end-2 c = sym (length-take-le _ c.args.out_directions.now (directions-room (goal.at.slice_bounds-unit_directions-end-2 c).Else-marks-out_stand_ins))
+slice_bounds-unit_directions-end-2 c =
+    let else_marks_out_stand_ins = (goal.at.slice_bounds-unit_directions-end-2 c).Else-marks-out_stand_ins in
+    sym (length-take-le _ c.args.out_directions.now (directions-room else_marks_out_stand_ins))
 
 pub slice_bounds-unit_directions-end-4 : goal.slice_bounds-unit_directions-end-4
 slice_bounds-unit_directions-end-4 c =
@@ -135,15 +149,21 @@ slice_bounds-unit_directions-end-4 c =
 
 pub unit_directions-requires : goal.unit_directions-requires
 unit_directions-requires c =
+    let start = (goal.at.unit_directions-requires c).Start in
+    let in_default_2 = (goal.at.unit_directions-requires c).In_default in
+    let else_marks_out_stand_ins = (goal.at.unit_directions-requires c).Else-marks-out_stand_ins in
     record {
-      agrees = agrees (given (goal.at.unit_directions-requires c).Start) (old (goal.at.unit_directions-requires c).Start) (passed (goal.at.unit_directions-requires c).In_default);
+      agrees = agrees (given start) (old start) (passed in_default_2);
       out_len = (
-        length-take-le _ c.args.out_directions.now (directions-room (goal.at.unit_directions-requires c).Else-marks-out_stand_ins),
-        length-take-le _ c.args.out_stand_ins.now (marks-room (goal.at.unit_directions-requires c).Else-marks-out_stand_ins),
+        length-take-le _ c.args.out_directions.now (directions-room else_marks_out_stand_ins),
+        length-take-le _ c.args.out_stand_ins.now (marks-room else_marks_out_stand_ins),
       );
     }
 
 pub returns : goal.returns
 returns c =
+    let start = (goal.at.returns c).Start in
+    let in_default_2 = (goal.at.returns c).In_default in
+    let else_marks_out_stand_ins = (goal.at.returns c).Else-marks-out_stand_ins in
     rw (c.unit_directions.ensures.out_after, c.unit_directions.ensures.marks_after)
-    (fits (given (goal.at.returns c).Start) (old (goal.at.returns c).Start) (passed (goal.at.returns c).In_default) (directions-room (goal.at.returns c).Else-marks-out_stand_ins) (marks-room (goal.at.returns c).Else-marks-out_stand_ins))
+    (fits (given start) (old start) (passed in_default_2) (directions-room else_marks_out_stand_ins) (marks-room else_marks_out_stand_ins))

@@ -32,17 +32,21 @@ module _ (c : In-loop-i) where
 
 -- the next edge is one of it
 module _ (c : In-loop-at) where
+  abbrev in_loop_i : In-loop-i
+  in_loop_i = (goal.at.In-loop-at c).In-loop-i
+
   inside : c.loop-at.at < length c.args.kinds.now
-  inside = omega (arith, room (goal.at.In-loop-at c).In-loop-i, c.loop-at-test.true)
+  inside = omega (arith, room in_loop_i, c.loop-at-test.true)
 
 pub loop-i-init : goal.loop-i-init
-loop-i-init c = (
-  none_passed _ _ (sym c.requires.agrees.edges),
-  record {
-    directed = directing_none 4 direction_places (λ d. refl) (edges (goal.at.loop-i-init c).Start) c.args.out.now (omega (arith, c.requires.out_len.0, as_many (goal.at.loop-i-init c).Start));
-    marked = directing_none 2 stand_in_marks (λ d. refl) (edges (goal.at.loop-i-init c).Start) c.args.marks.now (omega (arith, c.requires.out_len.1, as_many (goal.at.loop-i-init c).Start));
-  },
-)
+loop-i-init c =
+    let start_2 = (goal.at.loop-i-init c).Start in (
+      none_passed _ _ (sym c.requires.agrees.edges),
+      record {
+        directed = directing_none 4 direction_places (λ d. refl) (edges start_2) c.args.out.now (omega (arith, c.requires.out_len.0, as_many start_2));
+        marked = directing_none 2 stand_in_marks (λ d. refl) (edges start_2) c.args.marks.now (omega (arith, c.requires.out_len.1, as_many start_2));
+      },
+    )
 
 pub overflow_cast-end : goal.overflow_cast-end
 overflow_cast-end c = omega (arith, room (goal.at.overflow_cast-end c).In-loop-i, c.requires.agrees.few)
@@ -57,16 +61,20 @@ pub edge_at-requires : goal.edge_at-requires
 edge_at-requires c = (inside c, c.requires.agrees.places)
 
 pub write_directions-requires : goal.write_directions-requires
-write_directions-requires c = (
-  omega (arith, inside (goal.at.write_directions-requires c).In-loop-at, c.loop-at.invariant.1.directed.room, as_many (goal.at.write_directions-requires c).Start),
-  omega (arith, inside (goal.at.write_directions-requires c).In-loop-at, c.requires.agrees.few),
-)
+write_directions-requires c =
+    let in_loop_at = (goal.at.write_directions-requires c).In-loop-at in
+    let start_2 = (goal.at.write_directions-requires c).Start in (
+      omega (arith, inside in_loop_at, c.loop-at.invariant.1.directed.room, as_many start_2),
+      omega (arith, inside in_loop_at, c.requires.agrees.few),
+    )
 
 pub write_marks-requires : goal.write_marks-requires
-write_marks-requires c = (
-  omega (arith, inside (goal.at.write_marks-requires c).In-loop-at, c.loop-at.invariant.1.marked.room, as_many (goal.at.write_marks-requires c).Start),
-  omega (arith, inside (goal.at.write_marks-requires c).In-loop-at, c.requires.agrees.few),
-)
+write_marks-requires c =
+    let in_loop_at = (goal.at.write_marks-requires c).In-loop-at in
+    let start_2 = (goal.at.write_marks-requires c).Start in (
+      omega (arith, inside in_loop_at, c.loop-at.invariant.1.marked.room, as_many start_2),
+      omega (arith, inside in_loop_at, c.requires.agrees.few),
+    )
 
 pub overflow_add-at : goal.overflow_add-at
 overflow_add-at c =
@@ -74,11 +82,12 @@ overflow_add-at c =
 
 pub loop-at-preserved : goal.loop-at-preserved
 loop-at-preserved c =
+    let start_2 = (goal.at.loop-at-preserved c).Start in
     let here = c.loop-at in
-    let all = edges (goal.at.loop-at-preserved c).Start in
+    let all = edges start_2 in
     let e : c.unit_directions-d.result ≡ unit_directions (get_or all here.at any_edge) =
     c.unit_directions-d.ensures ∙ ap unit_directions c.edge_at.ensures in
-    let h : here.at < length all = omega (arith, inside (goal.at.loop-at-preserved c).In-loop-at, as_many (goal.at.loop-at-preserved c).Start) in (
+    let h : here.at < length all = omega (arith, inside (goal.at.loop-at-preserved c).In-loop-at, as_many start_2) in (
       omega (arith, c.loop-at-test.true),
       record {
         directed = rw (c.write_directions.ensures, e)
@@ -102,9 +111,14 @@ loop-i-preserved c =
 pub returns : goal.returns
 unfolding encode_directions marks_of
 returns c =
+    let start_2 = (goal.at.returns c).Start in
     let at = c.loop-i in
     let none = total_end c.args.lengths.now at.i c.loop-i-test.false in
-    let done : length (edges (goal.at.returns c).Start) ≤ at.at = omega (arith, at.invariant.0.left, none, as_many (goal.at.returns c).Start) in record { out_after = directing_all 4 direction_places (λ d. refl) (edges (goal.at.returns c).Start) at.out at.at at.invariant.1.directed done; marks_after = directing_all 2 stand_in_marks (λ d. refl) (edges (goal.at.returns c).Start) at.marks at.at at.invariant.1.marked done }
+    let done : length (edges start_2) ≤ at.at = omega (arith, at.invariant.0.left, none, as_many start_2) in record {
+      out_after = directing_all 4 direction_places (λ d. refl) (edges start_2) at.out at.at at.invariant.1.directed done;
+      marks_after = directing_all 2
+          stand_in_marks (λ d. refl) (edges start_2) at.marks at.at at.invariant.1.marked done;
+    }
 
 pub shape_of-out : goal.shape_of-out
 shape_of-out c =

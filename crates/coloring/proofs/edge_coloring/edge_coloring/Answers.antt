@@ -56,18 +56,24 @@ given s = outline s.args.lengths.now s.args.kinds.now s.args.points.now
 
 -- the checks are passed
 module _ (c : In_default) where
-  passed : first_refusal (check (given (goal.at.In_default c).Start) c.args.settings.threshold) ≡ all_pass
+  abbrev start : Start
+  start = (goal.at.In_default c).Start
+
+  passed : first_refusal (check (given start) c.args.settings.threshold) ≡ all_pass
   passed = sym c.check-checked.ensures ∙ ap checked_answer c.in_default.is
 
-  agrees : Agrees (given (goal.at.In_default c).Start)
+  agrees : Agrees (given start)
   unfolding check
   agrees = passed_agrees _ _ passed
 
-  all-passed : first_refusal (checks c.args.settings (given (goal.at.In_default c).Start) c.args.distances.now) ≡ all_pass
-  all-passed = not_many c.args.settings (given (goal.at.In_default c).Start) c.args.distances.now c.if-distances-gt-MAX_DISTANCES.false ∙ passed
+  all-passed : first_refusal (checks c.args.settings (given start) c.args.distances.now) ≡ all_pass
+  all-passed = not_many c.args.settings (given start) c.args.distances.now c.if-distances-gt-MAX_DISTANCES.false ∙ passed
 
 -- the corners are searched
 module _ (c : After-find_corners-stand_ins) where
+  abbrev in_default_2 : In_default
+  in_default_2 = (goal.at.After-find_corners-stand_ins c).In_default
+
   abbrev n : ℕ
   n = length c.args.kinds.now
 
@@ -75,7 +81,7 @@ module _ (c : After-find_corners-stand_ins) where
   flags = c.find_corners-stand_ins.new.flags
 
   size : length flags ≡ n
-  size = c.find_corners-stand_ins.auto.flags ∙ length-take-le n none (agrees (goal.at.After-find_corners-stand_ins c).In_default).few
+  size = c.find_corners-stand_ins.auto.flags ∙ length-take-le n none (agrees in_default_2).few
 
   -- the array with them, and its first part
   within : n ≤ length (flags ++ drop n none)
@@ -86,19 +92,24 @@ module _ (c : After-find_corners-stand_ins) where
 
 pub returns-then-distances-gt-MAX_DISTANCES : goal.returns-then-distances-gt-MAX_DISTANCES
 returns-then-distances-gt-MAX_DISTANCES c =
-    refused c.args.settings (given (goal.at.returns-then-distances-gt-MAX_DISTANCES c).Start) c.args.distances.now (old (goal.at.returns-then-distances-gt-MAX_DISTANCES c).Start) (too_many c.args.settings (given (goal.at.returns-then-distances-gt-MAX_DISTANCES c).Start) c.args.distances.now c.if-distances-gt-MAX_DISTANCES.true)
+    let start_2 = (goal.at.returns-then-distances-gt-MAX_DISTANCES c).Start in
+    refused c.args.settings (given start_2) c.args.distances.now (old start_2)
+    (too_many c.args.settings (given start_2) c.args.distances.now c.if-distances-gt-MAX_DISTANCES.true)
 
 pub returns-in-Failed : goal.returns-in-Failed
 returns-in-Failed c =
+    let start_2 = (goal.at.returns-in-Failed c).Start in
     let failed = sym c.check-checked.ensures ∙ ap checked_answer c.in-Failed.is in
-    refused c.args.settings (given (goal.at.returns-in-Failed c).Start) c.args.distances.now (old (goal.at.returns-in-Failed c).Start)
-    (not_many c.args.settings (given (goal.at.returns-in-Failed c).Start) c.args.distances.now c.if-distances-gt-MAX_DISTANCES.false ∙ failed)
+    refused c.args.settings (given start_2) c.args.distances.now (old start_2)
+    (not_many c.args.settings (given start_2) c.args.distances.now c.if-distances-gt-MAX_DISTANCES.false ∙ failed)
 
 pub slice_bounds-flags-end : goal.slice_bounds-flags-end
 slice_bounds-flags-end c = (agrees c).few
 
 pub slice_bounds-find_corners-end : goal.slice_bounds-find_corners-end
-slice_bounds-find_corners-end c = sym (length-take-le (length c.args.kinds.now) none (agrees (goal.at.slice_bounds-find_corners-end c).In_default).few)
+slice_bounds-find_corners-end c =
+    let in_default_3 = (goal.at.slice_bounds-find_corners-end c).In_default in
+    sym (length-take-le (length c.args.kinds.now) none (agrees in_default_3).few)
 
 pub find_corners-stand_ins-requires : goal.find_corners-stand_ins-requires
 find_corners-stand_ins-requires c =
@@ -113,18 +124,25 @@ pub slice_bounds-flags-end-2 : goal.slice_bounds-flags-end-2
 slice_bounds-flags-end-2 c = within (goal.at.slice_bounds-flags-end-2 c).After-find_corners-stand_ins
 
 pub slice_bounds-color_shape-end : goal.slice_bounds-color_shape-end
-slice_bounds-color_shape-end c = sym (ap length (front (goal.at.slice_bounds-color_shape-end c).After-find_corners-stand_ins) ∙ size (goal.at.slice_bounds-color_shape-end c).After-find_corners-stand_ins)
+slice_bounds-color_shape-end c =
+    let after_find_corners_stand_ins = (goal.at.slice_bounds-color_shape-end c).After-find_corners-stand_ins in
+    sym (ap length (front after_find_corners_stand_ins) ∙ size after_find_corners_stand_ins)
 
 pub color_shape-requires : goal.color_shape-requires
 color_shape-requires c =
-    let a = agrees (goal.at.color_shape-requires c).In_default in
+    let in_default_3 = (goal.at.color_shape-requires c).In_default in
+    let after_find_corners_stand_ins = (goal.at.color_shape-requires c).After-find_corners-stand_ins in
+    let a = agrees in_default_3 in
     record {
-      matching = record { places = a.places; flagged = ap length (front (goal.at.color_shape-requires c).After-find_corners-stand_ins) ∙ size (goal.at.color_shape-requires c).After-find_corners-stand_ins; few = a.few };
+      matching = record { places = a.places; flagged = ap length (front after_find_corners_stand_ins) ∙ size after_find_corners_stand_ins; few = a.few };
       whole = sym a.edges;
       contours-few = a.contours-few;
     }
 
 pub returns : goal.returns
 returns c =
-    (rw (front (goal.at.returns c).After-find_corners-stand_ins) at c.color_shape.ensures)
-    ∙ goes_on c.args.settings (given (goal.at.returns c).Start) c.args.distances.now (old (goal.at.returns c).Start) (all-passed (goal.at.returns c).In_default) c.find_corners-stand_ins.ensures
+    let after_find_corners_stand_ins = (goal.at.returns c).After-find_corners-stand_ins in
+    let start_2 = (goal.at.returns c).Start in
+    let in_default_3 = (goal.at.returns c).In_default in
+    (rw (front after_find_corners_stand_ins) at c.color_shape.ensures)
+    ∙ goes_on c.args.settings (given start_2) c.args.distances.now (old start_2) (all-passed in_default_3) c.find_corners-stand_ins.ensures

@@ -19,20 +19,24 @@ use Rattle.coloring.proofs.ink_trap.CornerLaws.{going_begins, going_major, going
 use Rattle.coloring.proofs.ink_trap.CornerLaws.{left_stays, minor_turn, major_turn, minors-done, color_of, bytes-set, bytes_same}
 use Rattle.coloring.proofs.ink_trap.CornerLaws.{last_set, last_same, colored, drawn}
 use Rattle.coloring.proofs.ink_trap.colors_by_length.Goals as goal
-use Rattle.coloring.proofs.ink_trap.colors_by_length.Goals.{After-majors, After-mark, After-measure, In-majors, Start, else-corner, else-flags-index, else-minor, else-not-corner, then-corner, then-flags-index, then-minor, then-not-corner}
+use Rattle.coloring.proofs.ink_trap.colors_by_length.Goals.{After-majors, After-mark, After-measure, In-majors, Start, else-corner, else-flags-index}
+use Rattle.coloring.proofs.ink_trap.colors_by_length.Goals.{else-minor, else-not-corner, then-corner, then-flags-index, then-minor, then-not-corner}
 
 -- the contour at the call
 abbrev contour : Start → Cornered
 contour c = whole c.args.kinds.now c.args.points.now c.args.flags.now
 
 module _ (c : After-measure) where
+  abbrev start : Start
+  start = (goal.at.After-measure c).Start
+
   abbrev array : List InkTrapCorner
   array = c.measure.corners
 
   abbrev count : ℕ
   count = c.measure.count
 
-  found : measure_corners (contour (goal.at.After-measure c).Start) ≡ record { corners = take count array; spline_length = c.measure.spline_length }
+  found : measure_corners (contour start) ≡ record { corners = take count array; spline_length = c.measure.spline_length }
   found =
       let a = c.args in
       c.measure.invariant.3
@@ -54,25 +58,32 @@ module _ (c : After-measure) where
       let a = c.args in
       sym size
       ∙ sym (ap (λ (m : Measured). length m.corners) found)
-      ∙ measured-count (contour (goal.at.After-measure c).Start) (c.requires.0.flagged ∙ sym (edges-length a.kinds.now a.points.now))
+      ∙ measured-count (contour start) (c.requires.0.flagged ∙ sym (edges-length a.kinds.now a.points.now))
 
 module _ (c : After-mark) where
-  abbrev marked_corners : List InkTrapCorner
-  marked_corners = take (count (goal.at.After-mark c).After-measure) c.mark.corners
+  abbrev after_measure : After-measure
+  after_measure = (goal.at.After-mark c).After-measure
 
-  all-marked : c.mark.i ≡ count (goal.at.After-mark c).After-measure
+  abbrev start_2 : Start
+  start_2 = (goal.at.After-mark c).Start
+
+  abbrev marked_corners : List InkTrapCorner
+  marked_corners = take (count after_measure) c.mark.corners
+
+  all-marked : c.mark.i ≡ count after_measure
   all-marked = omega arith
 
-  marked : marked_corners ≡ mark_minors (measure_corners (contour (goal.at.After-mark c).Start))
+  marked : marked_corners ≡ mark_minors (measure_corners (contour start_2))
   marked =
-      let n = count (goal.at.After-mark c).After-measure in
+      let n = count after_measure in
       let s = c.measure.spline_length in
-      let first : InkTrapCorner → List InkTrapCorner = λ k. take n (set (array (goal.at.After-mark c).After-measure) 0 k) in
+      let first : InkTrapCorner → List InkTrapCorner = λ k. take n (set (array after_measure) 0 k) in
       let close = c.closed in
       c.mark.invariant.4
       ∙ ap (λ i. marking i (first close.result)) all-marked
       ∙ ap (λ k. marking n (first k)) close.ensures
-      ∙ rw (close_first_lem s (array (goal.at.After-mark c).After-measure), found (goal.at.After-mark c).After-measure) (marks-many n s (array (goal.at.After-mark c).After-measure) (omega (arith, few (goal.at.After-mark c).After-measure)) (omega (arith, counted (goal.at.After-mark c).After-measure)))
+      ∙ rw (close_first_lem s (array after_measure), found after_measure)
+      (marks-many n s (array after_measure) (omega (arith, few after_measure)) (omega (arith, counted after_measure)))
 
   majors : c.mark.left ≡ major_count marked_corners
   majors = omega (arith, c.mark.invariant.3, ap (λ i. major_count (take i c.mark.corners)) all-marked)
@@ -81,12 +92,18 @@ at_major : (c : In-majors) → c.majors.j < 256
 at_major c = omega (arith, few (goal.at.In-majors c).After-measure)
 
 module _ (c : After-majors) where
-  inked : color_majors Black c.mark.left c.args.pen (marked_corners (goal.at.After-majors c).After-mark)
-      ≡ record { corners = take (count (goal.at.After-majors c).After-measure) c.majors.corners; pen = c.majors.ink }
+  abbrev after_mark : After-mark
+  after_mark = (goal.at.After-majors c).After-mark
+
+  abbrev after_measure_2 : After-measure
+  after_measure_2 = (goal.at.After-majors c).After-measure
+
+  inked : color_majors Black c.mark.left c.args.pen (marked_corners after_mark)
+      ≡ record { corners = take (count after_measure_2) c.majors.corners; pen = c.majors.ink }
   inked =
       let at = c.majors in
-      at.invariant.3 ∙ going-ends at.j (count (goal.at.After-majors c).After-measure) at.initial' at.left
-      at.ink at.corners at.invariant.0 c.majors-test.false (omega (arith, few (goal.at.After-majors c).After-measure))
+      at.invariant.3 ∙ going-ends at.j (count after_measure_2) at.initial' at.left
+      at.ink at.corners at.invariant.0 c.majors-test.false (omega (arith, few after_measure_2))
 
 pub measure-init : goal.measure-init
 measure-init c =
@@ -200,13 +217,14 @@ mark-smaller c = omega arith
 
 pub mark-preserved : goal.mark-preserved
 mark-preserved c =
+    let after_measure_3 = (goal.at.mark-preserved c).After-measure in
     let at = c.mark in
-    let n = count (goal.at.mark-preserved c).After-measure in
+    let n = count after_measure_3 in
     let flag = c.is_minor-minor.ensures in
     let corner = c.with_minor.ensures in
     let h : at.i < n = omega arith in
-    let fits : n ≤ length (set (array (goal.at.mark-preserved c).After-measure) 0 c.closed.result) = omega (arith, at.invariant.2, few (goal.at.mark-preserved c).After-measure) in
-    let same : n ≤ length at.corners = omega (arith, few (goal.at.mark-preserved c).After-measure) in
+    let fits : n ≤ length (set (array after_measure_3) 0 c.closed.result) = omega (arith, at.invariant.2, few after_measure_3) in
+    let same : n ≤ length at.corners = omega (arith, few after_measure_3) in
     let minor : c.with_minor.result.minor ≡ c.is_minor-minor.result = ap (λ (k : InkTrapCorner). k.minor) corner in (
       omega arith,
       simp length-set at.invariant.1,
@@ -217,7 +235,7 @@ mark-preserved c =
         | else-minor w ↦
             omega (arith, at.invariant.3, w.left-is, majors_more at.i at.corners c.with_minor.result (omega arith) (minor ∙ w.if-minor.false))
       ],
-      mark_turn at.i n (set (array (goal.at.mark-preserved c).After-measure) 0 c.closed.result) at.corners h fits same at.invariant.4 flag corner,
+      mark_turn at.i n (set (array after_measure_3) 0 c.closed.result) at.corners h fits same at.invariant.4 flag corner,
     )
 
 pub majors-init : goal.majors-init
@@ -231,8 +249,14 @@ bounds-corners-j c = omega arith
 
 pub overflow_sub-left-then-not-corner : goal.overflow_sub-left-then-not-corner
 overflow_sub-left-then-not-corner c =
+    let after_measure_3 = (goal.at.overflow_sub-left-then-not-corner c).After-measure in
     let at = c.majors in
-    omega (arith, at.invariant.2, majors_fall at.j (count (goal.at.overflow_sub-left-then-not-corner c).After-measure) at.corners (omega arith) (omega (arith, few (goal.at.overflow_sub-left-then-not-corner c).After-measure)) (not-true _ c.if-not-corner.true))
+    omega (
+      arith,
+      at.invariant.2,
+      majors_fall at.j (count after_measure_3) at.corners (omega arith) (omega (arith, few after_measure_3))
+          (not-true _ c.if-not-corner.true),
+    )
 
 pub offset_bounds-corners-j-then-not-corner : goal.offset_bounds-corners-j-then-not-corner
 offset_bounds-corners-j-then-not-corner c = omega (arith, at_major (goal.at.offset_bounds-corners-j-then-not-corner c).In-majors)
@@ -248,10 +272,11 @@ majors-smaller c = omega arith
 
 pub majors-preserved : goal.majors-preserved
 majors-preserved c =
+    let after_measure_3 = (goal.at.majors-preserved c).After-measure in
     let at = c.majors in
-    let n = count (goal.at.majors-preserved c).After-measure in
+    let n = count after_measure_3 in
     let h : at.j < n = omega arith in
-    let fits : n ≤ length at.corners = omega (arith, few (goal.at.majors-preserved c).After-measure) in
+    let fits : n ≤ length at.corners = omega (arith, few after_measure_3) in
     elim c.if-not-corner.branch [
       | then-not-corner w ↦
           let major = not-true _ w.if-not-corner.true in (
@@ -275,11 +300,12 @@ majors-preserved c =
 
 pub minors-init : goal.minors-init
 minors-init c =
+    let after_measure_3 = (goal.at.minors-init c).After-measure in
     let at = c.majors in (
       omega arith,
       at.invariant.1,
-      c.requires.2 ∙ sym (counted (goal.at.minors-init c).After-measure),
-      ap (λ k. color_minors 0 k at.ink.color (take (count (goal.at.minors-init c).After-measure) at.corners)) (omega arith),
+      c.requires.2 ∙ sym (counted after_measure_3),
+      ap (λ k. color_minors 0 k at.ink.color (take (count after_measure_3) at.corners)) (omega arith),
       refl,
       refl,
     )
@@ -320,10 +346,11 @@ minors-smaller c = omega arith
 
 pub minors-preserved : goal.minors-preserved
 minors-preserved c =
+    let after_measure_3 = (goal.at.minors-preserved c).After-measure in
     let at = c.minors in
-    let n = count (goal.at.minors-preserved c).After-measure in
+    let n = count after_measure_3 in
     let h : at.k < n = omega arith in
-    let fits : n ≤ length at.corners = omega (arith, few (goal.at.minors-preserved c).After-measure) in
+    let fits : n ≤ length at.corners = omega (arith, few after_measure_3) in
     let inside : at.k < length at.corners = omega arith in
     let room : at.k < length at.colors = omega (arith, at.invariant.2) in
     let long = length-set at.colors at.k c.bits.result ∙ at.invariant.2 in
@@ -355,15 +382,19 @@ shape_of-colors c =
 
 pub returns : goal.returns
 returns c =
+    let after_measure_3 = (goal.at.returns c).After-measure in
+    let start_3 = (goal.at.returns c).Start in
+    let after_mark_2 = (goal.at.returns c).After-mark in
+    let after_majors = (goal.at.returns c).After-majors in
     let at = c.minors in
     let ink = c.majors.ink in
-    let n = count (goal.at.returns c).After-measure in
+    let n = count after_measure_3 in
     let last : at.k ≡ n = omega arith in
-    let all = length-take-le n at.corners (omega (arith, few (goal.at.returns c).After-measure)) in
-    let corners : color_corners (measure_corners (contour (goal.at.returns c).Start)) c.args.pen ≡ record { corners = take n at.corners; pen = ink } =
-    colored _ _ (marked_corners (goal.at.returns c).After-mark) c.mark.left _ n (marked (goal.at.returns c).After-mark) (majors (goal.at.returns c).After-mark) (inked (goal.at.returns c).After-majors)
-    (length-take-le n c.mark.corners (omega (arith, c.mark.invariant.1, few (goal.at.returns c).After-measure)))
+    let all = length-take-le n at.corners (omega (arith, few after_measure_3)) in
+    let corners : color_corners (measure_corners (contour start_3)) c.args.pen ≡ record { corners = take n at.corners; pen = ink } =
+    colored _ _ (marked_corners after_mark_2) c.mark.left _ n (marked after_mark_2) (majors after_mark_2) (inked after_majors)
+    (length-take-le n c.mark.corners (omega (arith, c.mark.invariant.1, few after_measure_3)))
     ∙ ap (λ (cs : List InkTrapCorner). record { corners = cs; pen = ink })
     (at.invariant.3 ∙ minors-done at.k n at.color at.corners c.minors-test.false) in
-    drawn (contour (goal.at.returns c).Start) c.args.pen ink (take n at.corners) at.colors at.last corners
+    drawn (contour start_3) c.args.pen ink (take n at.corners) at.colors at.last corners
     (sym (take_all n at.colors (omega (arith, at.invariant.2))) ∙ rw last at at.invariant.4) (rw all (rw last at at.invariant.5))

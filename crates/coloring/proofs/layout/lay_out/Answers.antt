@@ -32,9 +32,12 @@ module _ (c : In-loop-i) where
   whole = omega arith
 
 module _ (c : After-part_edges-edges) where
+  abbrev in_loop_i : In-loop-i
+  in_loop_i = (goal.at.After-part_edges-edges c).In-loop-i
+
   -- what it comes to
-  counted : c.part_edges-edges.result ≡ result_edges (part (goal.at.After-part_edges-edges c).In-loop-i)
-  counted = rw (whole (goal.at.After-part_edges-edges c).In-loop-i) at c.part_edges-edges.ensures
+  counted : c.part_edges-edges.result ≡ result_edges (part in_loop_i)
+  counted = rw (whole in_loop_i) at c.part_edges-edges.ensures
 
   -- there is room for it
   fit : let a = c.args in
@@ -49,8 +52,8 @@ module _ (c : After-part_edges-edges) where
       let at = c.loop-i.at in
       let flags = c.args.flags.now in
       let m = c.requires.cut.matching in
-      let long = length-take-le (n (goal.at.After-part_edges-edges c).In-loop-i) (drop at flags) (omega (arith, room (goal.at.After-part_edges-edges c).In-loop-i, length-drop at flags, m.flagged)) in
-      omega (arith, counted, edges_bound (part (goal.at.After-part_edges-edges c).In-loop-i), room (goal.at.After-part_edges-edges c).In-loop-i, m.few)
+      let long = length-take-le (n in_loop_i) (drop at flags) (omega (arith, room in_loop_i, length-drop at flags, m.flagged)) in
+      omega (arith, counted, edges_bound (part in_loop_i), room in_loop_i, m.few)
 
 pub loop-i-init : goal.loop-i-init
 unfolding over_from
@@ -99,11 +102,13 @@ bounds-out_lengths-i c =
 
 pub lay_out_part-requires : goal.lay_out_part-requires
 lay_out_part-requires c =
+    let after_part_edges_edges = (goal.at.lay_out_part-requires c).After-part_edges-edges in
+    let in_loop_i_2 = (goal.at.lay_out_part-requires c).In-loop-i in
     let pre = c.requires in
     let at = c.loop-i in
     let kept = at.invariant.0 in
-    let enough = fit (goal.at.lay_out_part-requires c).After-part_edges-edges in record {
-      part = (record { matching = pre.cut.matching; start = omega arith; inside = room (goal.at.lay_out_part-requires c).In-loop-i }, ap (λ k. at.to + k) c.part_edges-edges.ensures);
+    let enough = fit after_part_edges_edges in record {
+      part = (record { matching = pre.cut.matching; start = omega arith; inside = room in_loop_i_2 }, ap (λ k. at.to + k) c.part_edges-edges.ensures);
       next_in_bounds = (
         omega (arith, enough, kept.kinds_kept, pre.result_room.kinds_fit),
         omega (arith, enough, kept.points_kept, pre.result_room.points_fit),

@@ -18,6 +18,9 @@ contour c = whole c.args.kinds.now c.args.points.now c.args.flags.now
 
 -- it is split
 module _ (c : Then-splits) where
+  abbrev start : Start
+  start = (goal.at.Then-splits c).Start
+
   split : splits c.args.flags.now ≡ true
   split = sym c.splits.ensures ∙ c.if-splits.true
 
@@ -28,10 +31,10 @@ module _ (c : Then-splits) where
   long : length c.args.out_kinds.now ≡ n
   long = c.requires.out_kinds_len.0 ∙ edges-split _ split ∙ omega (arith, c.requires.cases.0.flagged)
 
-  flags_long : length c.args.out_flags.now ≡ length (split_contour (contour (goal.at.Then-splits c).Start)).edges
+  flags_long : length c.args.out_flags.now ≡ length (split_contour (contour start)).edges
   flags_long =
       c.requires.cases.1 ∙ edges-split _ split
-      ∙ omega (arith, c.requires.cases.0.flagged, split-length (contour (goal.at.Then-splits c).Start), edges-length c.args.kinds.now c.args.points.now)
+      ∙ omega (arith, c.requires.cases.0.flagged, split-length (contour start), edges-length c.args.kinds.now c.args.points.now)
 
 -- it is not
 module _ (c : Else-splits) where
@@ -43,23 +46,34 @@ module _ (c : Else-splits) where
 
 pub split_edges-requires : goal.split_edges-requires
 split_edges-requires c =
+    let then_splits = (goal.at.split_edges-requires c).Then-splits in
     let m = c.requires.cases.0 in
-    let few = split-few c.args.flags.now (split (goal.at.split_edges-requires c).Then-splits) in
-    let inside = first-within c.args.flags.now (omega (arith, few.0)) in record { points_len = (m.places, omega (arith, few.1, m.flagged), rw c.first_corner.ensures (omega (arith, inside, m.flagged))); out_kinds_len = (long (goal.at.split_edges-requires c).Then-splits, c.requires.out_kinds_len.1) }
+    let few = split-few c.args.flags.now (split then_splits) in
+    let inside = first-within c.args.flags.now (omega (arith, few.0)) in record {
+      points_len = (m.places, omega (arith, few.1, m.flagged), rw c.first_corner.ensures (omega (arith, inside, m.flagged)));
+      out_kinds_len
+          = (long then_splits, c.requires.out_kinds_len.1);
+    }
 
 pub returns-then-splits : goal.returns-then-splits
 unfolding split_contour
 returns-then-splits c =
-    rw (layout-split (contour (goal.at.returns-then-splits c).Start) (split (goal.at.returns-then-splits c).Then-splits), ← c.first_corner.ensures)
+    let then_splits = (goal.at.returns-then-splits c).Then-splits in
+    rw (layout-split (contour (goal.at.returns-then-splits c).Start) (split then_splits), ← c.first_corner.ensures)
     (record {
       edges_are = c.split_edges.ensures;
-      flags_are = c.flag_first.ensures ∙ ap first_only (rw (← c.first_corner.ensures) at (flags_long (goal.at.returns-then-splits c).Then-splits));
+      flags_are = c.flag_first.ensures ∙ ap first_only (rw (← c.first_corner.ensures) at (flags_long then_splits));
     })
 
 pub copy_edges-requires : goal.copy_edges-requires
 copy_edges-requires c =
+    let else_splits = (goal.at.copy_edges-requires c).Else-splits in
     let m = c.requires.cases.0 in
-    record { points_len = (m.places, same_edges (goal.at.copy_edges-requires c).Else-splits ∙ m.flagged); out_points_len = omega (arith, same_edges (goal.at.copy_edges-requires c).Else-splits, m.flagged, c.requires.out_kinds_len.1) }
+    record {
+      points_len = (m.places, same_edges else_splits ∙ m.flagged);
+      out_points_len = omega
+          (arith, same_edges else_splits, m.flagged, c.requires.out_kinds_len.1);
+    }
 
 pub copy_flags-requires : goal.copy_flags-requires
 copy_flags-requires c =

@@ -39,13 +39,17 @@ pub slice_bounds-lay_out_contour-start-4 : goal.slice_bounds-lay_out_contour-sta
 slice_bounds-lay_out_contour-start-4 c = slice_bounds-lay_out_contour-count-4 c
 
 pub slice_bounds-lay_out_contour-count-5 : goal.slice_bounds-lay_out_contour-count-5
-slice_bounds-lay_out_contour-count-5 c = omega (arith, slice_bounds-lay_out_contour-count-4 (goal.at.slice_bounds-lay_out_contour-count-5 c).After-lay_out_contour-arg-3-1)
+slice_bounds-lay_out_contour-count-5 c =
+    let after_lay_out_contour_arg = (goal.at.slice_bounds-lay_out_contour-count-5 c).After-lay_out_contour-arg-3-1 in
+    omega (arith, slice_bounds-lay_out_contour-count-4 after_lay_out_contour_arg)
 
 pub slice_bounds-lay_out_contour-start-5 : goal.slice_bounds-lay_out_contour-start-5
 slice_bounds-lay_out_contour-start-5 c = slice_bounds-lay_out_contour-count-5 c
 
 pub slice_bounds-lay_out_contour-count-6 : goal.slice_bounds-lay_out_contour-count-6
-slice_bounds-lay_out_contour-count-6 c = slice_bounds-lay_out_contour-count-4 (goal.at.slice_bounds-lay_out_contour-count-6 c).After-lay_out_contour-arg-3-1
+slice_bounds-lay_out_contour-count-6 c =
+    let after_lay_out_contour_arg = (goal.at.slice_bounds-lay_out_contour-count-6 c).After-lay_out_contour-arg-3-1 in
+    slice_bounds-lay_out_contour-count-4 after_lay_out_contour_arg
 
 pub slice_bounds-lay_out_contour-start-6 : goal.slice_bounds-lay_out_contour-start-6
 slice_bounds-lay_out_contour-start-6 c = slice_bounds-lay_out_contour-count-6 c

@@ -22,9 +22,21 @@ returns-in-Failed c =
 pub returns-then-not-between : goal.returns-then-not-between
 unfolding check first_refusal
 returns-then-not-between c =
-    rw (passed_on (check_outline (o (goal.at.returns-then-not-between c).After-between)) _ refusal all_pass (passed (goal.at.returns-then-not-between c).After-between), ← c.between.ensures, not-true c.between.result c.if-not-between.true-raw)
+    let after_between = (goal.at.returns-then-not-between c).After-between in
+    rw (
+      passed_on (check_outline (o after_between)) _ refusal all_pass (passed after_between),
+      ← c.between.ensures,
+      not-true c.between.result
+          c.if-not-between.true-raw,
+    )
 
 pub returns : goal.returns
 unfolding check first_refusal
 returns c =
-    rw (passed_on (check_outline (o (goal.at.returns c).After-between)) _ refusal all_pass (passed (goal.at.returns c).After-between), ← c.between.ensures, not-false c.between.result c.if-not-between.false-raw)
+    let after_between = (goal.at.returns c).After-between in
+    rw (
+      passed_on (check_outline (o after_between)) _ refusal all_pass (passed after_between),
+      ← c.between.ensures,
+      not-false c.between.result
+          c.if-not-between.false-raw,
+    )

@@ -35,9 +35,10 @@ returns-then-kinds-edges c =
 pub returns-then-points-edges : goal.returns-then-points-edges
 unfolding check_outline first_refusal
 returns-then-points-edges c =
+    let else_edges_gt_max_edges = (goal.at.returns-then-points-edges c).Else-edges-gt-MAX_EDGES in
     let counted = c.total-edges in
     let a = c.args in
-    rw (few (goal.at.returns-then-points-edges c).Else-edges-gt-MAX_EDGES, ← counted.ensures, eq-eqb _ _ c.if-kinds-edges.false, ne_eqb _ _ c.if-points-edges.true)
+    rw (few else_edges_gt_max_edges, ← counted.ensures, eq-eqb _ _ c.if-kinds-edges.false, ne_eqb _ _ c.if-points-edges.true)
 
 module _ (c : Else-points-edges) where
   agree : let a = c.args in
@@ -50,8 +51,10 @@ module _ (c : Else-points-edges) where
 pub returns-then-not-kinds_known : goal.returns-then-not-kinds_known
 unfolding check_outline first_refusal
 returns-then-not-kinds_known c =
+    let else_edges_gt_max_edges = (goal.at.returns-then-not-kinds_known c).Else-edges-gt-MAX_EDGES in
+    let else_points_edges = (goal.at.returns-then-not-kinds_known c).Else-points-edges in
     let known = c.kinds_known in
-    rw (few (goal.at.returns-then-not-kinds_known c).Else-edges-gt-MAX_EDGES, agree (goal.at.returns-then-not-kinds_known c).Else-points-edges, ← known.ensures, not-true known.result c.if-not-kinds_known.true-raw)
+    rw (few else_edges_gt_max_edges, agree else_points_edges, ← known.ensures, not-true known.result c.if-not-kinds_known.true-raw)
 
 module _ (c : Else-not-kinds_known) where
   known : all known_kind c.args.kinds.now ≡ true
@@ -63,11 +66,31 @@ coordinates_fit-requires c = (omega arith, known c)
 pub returns-then-not-coordinates_fit : goal.returns-then-not-coordinates_fit
 unfolding check_outline first_refusal
 returns-then-not-coordinates_fit c =
+    let else_edges_gt_max_edges = (goal.at.returns-then-not-coordinates_fit c).Else-edges-gt-MAX_EDGES in
+    let else_points_edges = (goal.at.returns-then-not-coordinates_fit c).Else-points-edges in
+    let else_not_kinds_known = (goal.at.returns-then-not-coordinates_fit c).Else-not-kinds_known in
     let fits = c.coordinates_fit in
-    rw (few (goal.at.returns-then-not-coordinates_fit c).Else-edges-gt-MAX_EDGES, agree (goal.at.returns-then-not-coordinates_fit c).Else-points-edges, known (goal.at.returns-then-not-coordinates_fit c).Else-not-kinds_known, ← fits.ensures, not-true fits.result c.if-not-coordinates_fit.true-raw)
+    rw (
+      few else_edges_gt_max_edges,
+      agree else_points_edges,
+      known else_not_kinds_known,
+      ← fits.ensures,
+      not-true fits.result
+          c.if-not-coordinates_fit.true-raw,
+    )
 
 pub returns : goal.returns
 unfolding check_outline first_refusal
 returns c =
+    let else_edges_gt_max_edges = (goal.at.returns c).Else-edges-gt-MAX_EDGES in
+    let else_points_edges = (goal.at.returns c).Else-points-edges in
+    let else_not_kinds_known = (goal.at.returns c).Else-not-kinds_known in
     let fits = c.coordinates_fit in
-    rw (few (goal.at.returns c).Else-edges-gt-MAX_EDGES, agree (goal.at.returns c).Else-points-edges, known (goal.at.returns c).Else-not-kinds_known, ← fits.ensures, not-false fits.result c.if-not-coordinates_fit.false-raw)
+    rw (
+      few else_edges_gt_max_edges,
+      agree else_points_edges,
+      known else_not_kinds_known,
+      ← fits.ensures,
+      not-false fits.result
+          c.if-not-coordinates_fit.false-raw,
+    )

@@ -53,7 +53,8 @@ module _ (c : After-places_fit) where
 
 pub returns-then-not-places_fit : goal.returns-then-not-places_fit
 returns-then-not-places_fit c =
-    fit_fail _ _ _ c.loop-i.invariant.1 c.loop-i-test.true (sym (tested (goal.at.returns-then-not-places_fit c).After-places_fit) ∙ not-true _ c.if-not-places_fit.true-raw)
+    let after_places_fit = (goal.at.returns-then-not-places_fit c).After-places_fit in
+    fit_fail _ _ _ c.loop-i.invariant.1 c.loop-i-test.true (sym (tested after_places_fit) ∙ not-true _ c.if-not-places_fit.true-raw)
 
 pub overflow_add-i : goal.overflow_add-i
 overflow_add-i c = omega arith
@@ -63,7 +64,8 @@ loop-i-smaller c = omega arith
 
 pub loop-i-preserved : goal.loop-i-preserved
 loop-i-preserved c =
-    (omega arith, fit_more _ _ _ c.loop-i.invariant.1 c.loop-i-test.true (sym (tested (goal.at.loop-i-preserved c).After-places_fit) ∙ not-false _ c.if-not-places_fit.false-raw))
+    let after_places_fit = (goal.at.loop-i-preserved c).After-places_fit in
+    (omega arith, fit_more _ _ _ c.loop-i.invariant.1 c.loop-i-test.true (sym (tested after_places_fit) ∙ not-false _ c.if-not-places_fit.false-raw))
 
 pub returns : goal.returns
 returns c = fit_end _ _ _ c.loop-i.invariant.1 c.loop-i-test.false

@@ -36,7 +36,8 @@ loop-i-preserved c =
     rw (add-one, c.edge_at.ensures) (drop-cons edges i any_edge (omega (arith, edges-length c.args.kinds.now c.args.points.now))) in (
       omega arith,
       c.write_edge.auto.out_kinds ∙ c.loop-i.invariant.1,
-      rw (c.write_edge.ensures.out_kinds_after, c.write_edge.ensures.out_points_after) (storing_one _ (drop (i + 1) edges) (i + 1) refl (rw next at c.loop-i.invariant.2)),
+      rw (c.write_edge.ensures.out_kinds_after, c.write_edge.ensures.out_points_after)
+          (storing_one _ (drop (i + 1) edges) (i + 1) refl (rw next at c.loop-i.invariant.2)),
     )
 
 pub shape_of-out_kinds : goal.shape_of-out_kinds

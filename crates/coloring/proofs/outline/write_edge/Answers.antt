@@ -18,4 +18,8 @@ pub returns : goal.returns
 returns c =
     let i = c.args.i in
     let eight : 8 * i + 8 - 8 * i ≡ 8 = omega arith in
-    record { out_kinds_after = rw c.to_stored-stored.ensures; out_points_after = rw (eight, c.copy.ensures, c.to_stored-stored.ensures) (over-part (8 * i) 8 _ _ (places-length _)) }
+    record {
+      out_kinds_after = rw c.to_stored-stored.ensures;
+      out_points_after = rw (eight, c.copy.ensures, c.to_stored-stored.ensures)
+          (over-part (8 * i) 8 _ _ (places-length _));
+    }

@@ -45,7 +45,8 @@ loop-i-smaller-then-takes_right c = omega arith
 
 pub loop-i-preserved-then-takes_right : goal.loop-i-preserved-then-takes_right
 loop-i-preserved-then-takes_right c =
-    merged-second _ _ _ _ _ _ c.loop-i.invariant c.loop-i-test.true (took (goal.at.loop-i-preserved-then-takes_right c).After-takes_right c.if-takes_right.true)
+    let after_takes_right = (goal.at.loop-i-preserved-then-takes_right c).After-takes_right in
+    merged-second _ _ _ _ _ _ c.loop-i.invariant c.loop-i-test.true (took after_takes_right c.if-takes_right.true)
 
 pub offset_bounds-left-i : goal.offset_bounds-left-i
 offset_bounds-left-i c = omega arith

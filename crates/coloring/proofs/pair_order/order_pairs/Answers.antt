@@ -49,9 +49,16 @@ slice_bounds-sort_by_distance-end c = sym (work-size (goal.at.slice_bounds-sort_
 
 pub sort_by_distance-requires : goal.sort_by_distance-requires
 sort_by_distance-requires c =
-    record { numbers = subst (Below _) (sym (numbers (goal.at.sort_by_distance-requires c).After-count_up)) (range-below 0 _ _ (omega arith)); room = work-size (goal.at.sort_by_distance-requires c).After-count_up; valid = c.requires.0.valid }
+    let after_count_up = (goal.at.sort_by_distance-requires c).After-count_up in
+    record {
+      numbers = subst (Below _) (sym (numbers after_count_up)) (range-below 0 _ _ (omega arith));
+      room = work-size after_count_up;
+      valid
+          = c.requires.0.valid;
+    }
 
 pub returns : goal.returns
 returns c =
-    let sorted = c.sort_by_distance.ensures ∙ ap (sort_by (distance_of (distances (goal.at.returns c).After-count_up))) (numbers (goal.at.returns c).After-count_up) in
-    in_order _ (distances (goal.at.returns c).After-count_up) _ _ c.requires.0 c.fill_pairs.ensures sorted
+    let after_count_up = (goal.at.returns c).After-count_up in
+    let sorted = c.sort_by_distance.ensures ∙ ap (sort_by (distance_of (distances after_count_up))) (numbers after_count_up) in
+    in_order _ (distances after_count_up) _ _ c.requires.0 c.fill_pairs.ensures sorted

@@ -19,7 +19,8 @@ zeros = replicate 64 0
 
 -- the start of the walk as the code makes it: in the copy, with the row cut out
 start_same : (coloring edge_matrix buffer entries : List ℕ) (a b d : ℕ) → buffer ≡ coloring → entries ≡ row (length coloring) edge_matrix b
-    → d ≡ first_possible_color (7 - 2 ^ get_or coloring a 0) → force entries d b (record { coloring = buffer; queue = [] }) ≡ walk_start coloring edge_matrix a b
+    → d ≡ first_possible_color (7 - 2 ^ get_or coloring a 0) → force entries d b (record { coloring = buffer; queue = [] }) ≡ walk_start coloring edge_matrix
+    a b
 unfolding walk_start
 start_same coloring edge_matrix buffer entries a b d copy cut color = rw (copy, cut, color)
 
@@ -55,43 +56,60 @@ module _ (c : After-first_possible_color-d) where
   size = length-set buffer b d ∙ ap length copy_same
 
 module _ (c : After-row-entries) where
+  abbrev after_first_possible_color_d : After-first_possible_color-d
+  after_first_possible_color_d = (goal.at.After-row-entries c).After-first_possible_color-d
+
   abbrev entries : List ℕ
   entries = c.row-entries.result.now
 
-  ready : Uncoloring (set (buffer (goal.at.After-row-entries c).After-first_possible_color-d) (b (goal.at.After-row-entries c).After-first_possible_color-d) (d (goal.at.After-row-entries c).After-first_possible_color-d)) zeros entries 0 0 (d (goal.at.After-row-entries c).After-first_possible_color-d)
+  ready : Uncoloring (set (buffer after_first_possible_color_d) (b after_first_possible_color_d) (d after_first_possible_color_d)) zeros entries 0 0
+      (d after_first_possible_color_d)
   unfolding ring Waiting
   ready =
       let o = c.requires.0 in
       record {
-        queued = record { few = omega (arith, o.few, size (goal.at.After-row-entries c).After-first_possible_color-d); size = refl; start = omega arith; waits = tt };
+        queued = record { few = omega (arith, o.few, size after_first_possible_color_d); size = refl; start = omega arith; waits = tt };
         row =
             ap length c.row-entries.ensures
-            ∙ row-length (length (coloring (goal.at.After-row-entries c).After-first_possible_color-d)) (b (goal.at.After-row-entries c).After-first_possible_color-d) (edge_matrix (goal.at.After-row-entries c).After-first_possible_color-d) o.entries o.second
-            ∙ sym (size (goal.at.After-row-entries c).After-first_possible_color-d);
-        color = small (goal.at.After-row-entries c).After-first_possible_color-d;
+            ∙ row-length (length (coloring after_first_possible_color_d)) (b after_first_possible_color_d) (edge_matrix after_first_possible_color_d)
+            o.entries o.second
+            ∙ sym (size after_first_possible_color_d);
+        color = small after_first_possible_color_d;
       }
 
 module _ (c : After-uncolor_same_neighbors-waiting) where
+  abbrev after_first_possible_color_d_2 : After-first_possible_color-d
+  after_first_possible_color_d_2 = (goal.at.After-uncolor_same_neighbors-waiting c).After-first_possible_color-d
+
+  abbrev after_row_entries : After-row-entries
+  after_row_entries = (goal.at.After-uncolor_same_neighbors-waiting c).After-row-entries
+
   abbrev begun : Recoloring
   begun = recoloring c.uncolor_same_neighbors-waiting.new.coloring c.uncolor_same_neighbors-waiting.new.queue 0 c.uncolor_same_neighbors-waiting.result
 
-  started : begun ≡ walk_start (coloring (goal.at.After-uncolor_same_neighbors-waiting c).After-first_possible_color-d) (edge_matrix (goal.at.After-uncolor_same_neighbors-waiting c).After-first_possible_color-d) (a (goal.at.After-uncolor_same_neighbors-waiting c).After-first_possible_color-d) (b (goal.at.After-uncolor_same_neighbors-waiting c).After-first_possible_color-d)
+  started : begun ≡ walk_start (coloring after_first_possible_color_d_2) (edge_matrix after_first_possible_color_d_2) (a after_first_possible_color_d_2)
+      (b after_first_possible_color_d_2)
   unfolding force ring
   started =
       c.uncolor_same_neighbors-waiting.ensures
-      ∙ start_same (coloring (goal.at.After-uncolor_same_neighbors-waiting c).After-first_possible_color-d) (edge_matrix (goal.at.After-uncolor_same_neighbors-waiting c).After-first_possible_color-d) (buffer (goal.at.After-uncolor_same_neighbors-waiting c).After-first_possible_color-d) (entries (goal.at.After-uncolor_same_neighbors-waiting c).After-row-entries) (a (goal.at.After-uncolor_same_neighbors-waiting c).After-first_possible_color-d) (b (goal.at.After-uncolor_same_neighbors-waiting c).After-first_possible_color-d) (d (goal.at.After-uncolor_same_neighbors-waiting c).After-first_possible_color-d) (copy_same (goal.at.After-uncolor_same_neighbors-waiting c).After-first_possible_color-d)
-      c.row-entries.ensures (color (goal.at.After-uncolor_same_neighbors-waiting c).After-first_possible_color-d)
+      ∙ start_same (coloring after_first_possible_color_d_2) (edge_matrix after_first_possible_color_d_2) (buffer after_first_possible_color_d_2)
+      (entries after_row_entries) (a after_first_possible_color_d_2) (b after_first_possible_color_d_2) (d after_first_possible_color_d_2)
+      (copy_same after_first_possible_color_d_2)
+      c.row-entries.ensures (color after_first_possible_color_d_2)
 
-  walking_size : length c.uncolor_same_neighbors-waiting.new.coloring ≡ length (coloring (goal.at.After-uncolor_same_neighbors-waiting c).After-first_possible_color-d)
-  walking_size = c.uncolor_same_neighbors-waiting.auto.coloring ∙ size (goal.at.After-uncolor_same_neighbors-waiting c).After-first_possible_color-d
+  walking_size : length c.uncolor_same_neighbors-waiting.new.coloring ≡ length (coloring after_first_possible_color_d_2)
+  walking_size = c.uncolor_same_neighbors-waiting.auto.coloring ∙ size after_first_possible_color_d_2
 
-  walking : Walking c.uncolor_same_neighbors-waiting.new.coloring c.uncolor_same_neighbors-waiting.new.queue (edge_matrix (goal.at.After-uncolor_same_neighbors-waiting c).After-first_possible_color-d) (a (goal.at.After-uncolor_same_neighbors-waiting c).After-first_possible_color-d)
+  walking : Walking c.uncolor_same_neighbors-waiting.new.coloring c.uncolor_same_neighbors-waiting.new.queue (edge_matrix after_first_possible_color_d_2)
+      (a after_first_possible_color_d_2)
       c.uncolor_same_neighbors-waiting.result
   walking =
       let o = c.requires.0 in
-      let lost = same_uncolors (entries (goal.at.After-uncolor_same_neighbors-waiting c).After-row-entries) (d (goal.at.After-uncolor_same_neighbors-waiting c).After-first_possible_color-d) (small (goal.at.After-uncolor_same_neighbors-waiting c).After-first_possible_color-d) (b (goal.at.After-uncolor_same_neighbors-waiting c).After-first_possible_color-d) (recoloring (set (buffer (goal.at.After-uncolor_same_neighbors-waiting c).After-first_possible_color-d) (b (goal.at.After-uncolor_same_neighbors-waiting c).After-first_possible_color-d) (d (goal.at.After-uncolor_same_neighbors-waiting c).After-first_possible_color-d)) zeros 0 0) in
+      let lost = same_uncolors (entries after_row_entries) (d after_first_possible_color_d_2) (small after_first_possible_color_d_2)
+      (b after_first_possible_color_d_2)
+      (recoloring (set (buffer after_first_possible_color_d_2) (b after_first_possible_color_d_2) (d after_first_possible_color_d_2)) zeros 0 0) in
       record {
-        queued = (ring-kept (ready (goal.at.After-uncolor_same_neighbors-waiting c).After-row-entries) lost _ _ _ c.uncolor_same_neighbors-waiting.ensures c.uncolor_same_neighbors-waiting.auto.queue).queued;
+        queued = (ring-kept (ready after_row_entries) lost _ _ _ c.uncolor_same_neighbors-waiting.ensures c.uncolor_same_neighbors-waiting.auto.queue).queued;
         entries = rw walking_size o.entries;
         inside = omega (arith, walking_size, o.first);
       }
@@ -101,7 +119,9 @@ row-entries-requires c = let o = c.requires.0 in (o.entries, o.second, o.few)
 
 pub uncolor_same_neighbors-waiting-requires : goal.uncolor_same_neighbors-waiting-requires
 uncolor_same_neighbors-waiting-requires c =
-    (ready (goal.at.uncolor_same_neighbors-waiting-requires c).After-row-entries, omega (arith, size (goal.at.uncolor_same_neighbors-waiting-requires c).After-first_possible_color-d, c.requires.0.second))
+    let after_row_entries_2 = (goal.at.uncolor_same_neighbors-waiting-requires c).After-row-entries in
+    let after_first_possible_color_d_3 = (goal.at.uncolor_same_neighbors-waiting-requires c).After-first_possible_color-d in
+    (ready after_row_entries_2, omega (arith, size after_first_possible_color_d_3, c.requires.0.second))
 
 pub walk-requires : goal.walk-requires
 walk-requires c = walking (goal.at.walk-requires c).After-uncolor_same_neighbors-waiting
@@ -113,4 +133,7 @@ shape_of-buffer c =
 pub returns : goal.returns
 unfolding defined.recolor
 returns c =
-    c.walk.ensures ∙ ap (walk_from (edge_matrix (goal.at.returns c).After-first_possible_color-d) (a (goal.at.returns c).After-first_possible_color-d) (get_or (coloring (goal.at.returns c).After-first_possible_color-d) (a (goal.at.returns c).After-first_possible_color-d) 0)) (started (goal.at.returns c).After-uncolor_same_neighbors-waiting)
+    let after_first_possible_color_d_3 = (goal.at.returns c).After-first_possible_color-d in
+    let after_uncolor_same_neighbors_waiting = (goal.at.returns c).After-uncolor_same_neighbors-waiting in
+    c.walk.ensures ∙ ap (walk_from (edge_matrix after_first_possible_color_d_3) (a after_first_possible_color_d_3)
+    (get_or (coloring after_first_possible_color_d_3) (a after_first_possible_color_d_3) 0)) (started after_uncolor_same_neighbors_waiting)

@@ -23,16 +23,17 @@ module _ (c : After-uncolor_one-count) where
 
 pub loop-i-preserved : goal.loop-i-preserved
 loop-i-preserved c =
+    let after_uncolor_one_count = (goal.at.loop-i-preserved c).After-uncolor_one-count in
     let one = c.uncolor_one-count in
     let inv = c.loop-i.invariant in
     let small = inv.0.color in
     let args = c.args in
     let entries = args.entries.now in (
-      ring-kept inv.0 (one_uncolors entries args.c small c.loop-i.i (so_far (goal.at.loop-i-preserved c).After-uncolor_one-count)) one.new.coloring one.new.queue one.result one.ensures
+      ring-kept inv.0 (one_uncolors entries args.c small c.loop-i.i (so_far after_uncolor_one_count)) one.new.coloring one.new.queue one.result one.ensures
           one.auto.queue,
       one.auto.coloring ∙ inv.1,
       one.auto.queue ∙ inv.2,
-      rw one.ensures (sym (uncolor_step entries args.c small c.loop-i.i args.to (so_far (goal.at.loop-i-preserved c).After-uncolor_one-count) (omega arith)) ∙ inv.3),
+      rw one.ensures (sym (uncolor_step entries args.c small c.loop-i.i args.to (so_far after_uncolor_one_count) (omega arith)) ∙ inv.3),
     )
 
 pub shape_of-coloring : goal.shape_of-coloring

@@ -6,7 +6,8 @@ use borrow.Author.Tests.{eqb-true, eqb-false}
 use Rattle.coloring.specs.Recolor.{uncolored}
 use Rattle.coloring.proofs.recolor.UncolorLaws.{ring-room, put_one, skip_entry, skip_color}
 use Rattle.coloring.proofs.recolor.uncolor_one.Goals as goal
-use Rattle.coloring.proofs.recolor.uncolor_one.Goals.{Then-coloring-i, else-entries-i-ne0-via-else-entries-i-ne0, else-entries-i-ne0-via-then-entries-i-ne0+else-coloring-i}
+use Rattle.coloring.proofs.recolor.uncolor_one.Goals.{Then-coloring-i, else-entries-i-ne0-via-else-entries-i-ne0}
+use Rattle.coloring.proofs.recolor.uncolor_one.Goals.{else-entries-i-ne0-via-then-entries-i-ne0+else-coloring-i}
 
 room : (c : Then-coloring-i) → c.args.waiting < 64
 room c =

@@ -23,11 +23,12 @@ module _ (c : After-slice_known-4-1) where
 
 pub uncolor_from-requires : goal.uncolor_from-requires
 uncolor_from-requires c =
+    let after_slice_known = (goal.at.uncolor_from-requires c).After-slice_known-4-1 in
     let args = c.args in
     let ready = c.requires.0 in
     let run = c.uncolor_from-count in
-    let lost = from_uncolors args.entries.now args.c ready.color (suc args.v) (left (goal.at.uncolor_from-requires c).After-slice_known-4-1) (given (goal.at.uncolor_from-requires c).After-slice_known-4-1) in
-    (ring-kept ready lost run.new.coloring run.new.queue run.result (moved (goal.at.uncolor_from-requires c).After-slice_known-4-1) run.auto.queue, omega arith)
+    let lost = from_uncolors args.entries.now args.c ready.color (suc args.v) (left after_slice_known) (given after_slice_known) in
+    (ring-kept ready lost run.new.coloring run.new.queue run.result (moved after_slice_known) run.auto.queue, omega arith)
 
 pub returns : goal.returns
 unfolding uncolor_same_neighbors

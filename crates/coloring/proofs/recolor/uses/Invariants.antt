@@ -7,7 +7,8 @@ use Rattle.coloring.specs.Recolor as defined
 use Rattle.coloring.proofs.recolor.uses.Given as goal
 
 abbrev pub invariant-loop-i : goal.invariant-loop-i
-invariant-loop-i l = (l.i ≤ length l.coloring) × ((l.found || defined.uses l.c (drop l.i l.coloring) (drop l.i l.entries)) ≡ defined.uses l.c l.coloring l.entries)
+invariant-loop-i l = (l.i ≤ length l.coloring) ×
+    ((l.found || defined.uses l.c (drop l.i l.coloring) (drop l.i l.entries)) ≡ defined.uses l.c l.coloring l.entries)
 
 abbrev pub decreases-loop-i : goal.decreases-loop-i
 decreases-loop-i l = length l.coloring - l.i

@@ -14,7 +14,9 @@ use Rattle.coloring.proofs.recolor.FreeColorLaws.{possible-below, forced-here, f
 use Rattle.coloring.proofs.recolor.WalkLaws.{left, left_free, free_of, step_of, forced, walk_begins, walk-done}
 use Rattle.coloring.proofs.recolor.WalkLaws.{walk_stops, walk_first, walk_free, walk_uncolors, walk_forces, less_forced, forced_same}
 use Rattle.coloring.proofs.recolor.walk.Goals as goal
-use Rattle.coloring.proofs.recolor.walk.Goals.{After-row-entries, After-slice_known-in-walk-1, After-uncolor_same_neighbors-waiting, After-vertex_possible_colors-possible, At-walk, Joined-joined, else-joined, else-walk-test, then-joined, then-walk-test+then-step-ge-MAX_RECOLOR_STEPS}
+use Rattle.coloring.proofs.recolor.walk.Goals.{After-row-entries, After-slice_known-in-walk-1, After-uncolor_same_neighbors-waiting}
+use Rattle.coloring.proofs.recolor.walk.Goals.{After-vertex_possible_colors-possible, At-walk, Joined-joined, else-joined, else-walk-test, then-joined}
+use Rattle.coloring.proofs.recolor.walk.Goals.{then-walk-test+then-step-ge-MAX_RECOLOR_STEPS}
 
 module _ (c : After-slice_known-in-walk-1) where
   abbrev n : ℕ
@@ -33,29 +35,42 @@ module _ (c : After-slice_known-in-walk-1) where
   first = walk_first c.walk.invariant some
 
 module _ (c : After-row-entries) where
+  abbrev after_slice_known_in_walk : After-slice_known-in-walk-1
+  after_slice_known_in_walk = (goal.at.After-row-entries c).After-slice_known-in-walk-1
+
   abbrev entries : List ℕ
   entries = c.row-entries.result.now
 
-  cut : entries ≡ row (n (goal.at.After-row-entries c).After-slice_known-in-walk-1) (edge_matrix (goal.at.After-row-entries c).After-slice_known-in-walk-1) (spline (goal.at.After-row-entries c).After-slice_known-in-walk-1)
+  cut : entries ≡ row (n after_slice_known_in_walk) (edge_matrix after_slice_known_in_walk) (spline after_slice_known_in_walk)
   cut = c.row-entries.ensures
 
-  cut-size : length entries ≡ n (goal.at.After-row-entries c).After-slice_known-in-walk-1
-  cut-size = ap length cut ∙ row-length (n (goal.at.After-row-entries c).After-slice_known-in-walk-1) (spline (goal.at.After-row-entries c).After-slice_known-in-walk-1) (edge_matrix (goal.at.After-row-entries c).After-slice_known-in-walk-1) c.requires.entries (first (goal.at.After-row-entries c).After-slice_known-in-walk-1)
+  cut-size : length entries ≡ n after_slice_known_in_walk
+  cut-size = ap length cut ∙ row-length (n after_slice_known_in_walk) (spline after_slice_known_in_walk) (edge_matrix after_slice_known_in_walk)
+      c.requires.entries (first after_slice_known_in_walk)
 
   -- the step whose colour is forced, by the row as the code has it
   abbrev step : ℕ
   step = forced_step (joined entries c.args.a) c.args.c c.walk.step
 
 module _ (c : After-vertex_possible_colors-possible) where
+  abbrev after_slice_known_in_walk_2 : After-slice_known-in-walk-1
+  after_slice_known_in_walk_2 = (goal.at.After-vertex_possible_colors-possible c).After-slice_known-in-walk-1
+
+  abbrev after_row_entries : After-row-entries
+  after_row_entries = (goal.at.After-vertex_possible_colors-possible c).After-row-entries
+
   abbrev possible : ℕ
-  possible = free_of (n (goal.at.After-vertex_possible_colors-possible c).After-slice_known-in-walk-1) (edge_matrix (goal.at.After-vertex_possible_colors-possible c).After-slice_known-in-walk-1) c.walk.coloring (spline (goal.at.After-vertex_possible_colors-possible c).After-slice_known-in-walk-1)
+  possible = free_of (n after_slice_known_in_walk_2) (edge_matrix after_slice_known_in_walk_2) c.walk.coloring (spline after_slice_known_in_walk_2)
 
   free : c.vertex_possible_colors-possible.result ≡ possible
-  free = c.vertex_possible_colors-possible.ensures ∙ ap (vertex_possible_colors c.walk.coloring) (cut (goal.at.After-vertex_possible_colors-possible c).After-row-entries)
+  free = c.vertex_possible_colors-possible.ensures ∙ ap (vertex_possible_colors c.walk.coloring) (cut after_row_entries)
 
 -- the test of the inner loop: whether the colour meets a's
 module _ (c : Joined-joined) where
-  met : c.if-joined.t-44 ≡ (joined (entries (goal.at.Joined-joined c).After-row-entries) c.args.a && eqb (c.loop-color.step % 3) c.args.c)
+  abbrev after_row_entries_2 : After-row-entries
+  after_row_entries_2 = (goal.at.Joined-joined c).After-row-entries
+
+  met : c.if-joined.t-44 ≡ (joined (entries after_row_entries_2) c.args.a && eqb (c.loop-color.step % 3) c.args.c)
   unfolding joined
   met =
       elim c.if-joined.branch [
@@ -64,21 +79,33 @@ module _ (c : Joined-joined) where
       ]
 
   -- the loop is left at the forced step
-  broke : c.if-joined.t-44 ≡ false → c.loop-color.step ≡ step (goal.at.Joined-joined c).After-row-entries
+  broke : c.if-joined.t-44 ≡ false → c.loop-color.step ≡ step after_row_entries_2
   unfolding joined
-  broke e = sym (forced-here (joined (entries (goal.at.Joined-joined c).After-row-entries) c.args.a) c.args.c c.loop-color.step (sym met ∙ e)) ∙ c.loop-color.invariant.1
+  broke e = sym (forced-here (joined (entries after_row_entries_2) c.args.a) c.args.c c.loop-color.step (sym met ∙ e)) ∙ c.loop-color.invariant.1
 
   -- else the next step is the forced one
   next : c.if-joined.t-44 ≡ true
-      → (step (goal.at.Joined-joined c).After-row-entries ≡ suc c.loop-color.step)
-      × (forced_step (joined (entries (goal.at.Joined-joined c).After-row-entries) c.args.a) c.args.c (c.loop-color.step + 1) ≡ step (goal.at.Joined-joined c).After-row-entries)
+      → (step after_row_entries_2 ≡ suc c.loop-color.step)
+      × (forced_step (joined (entries after_row_entries_2) c.args.a) c.args.c (c.loop-color.step + 1) ≡ step after_row_entries_2)
   unfolding joined
   next e =
-      let r = forced-next (joined (entries (goal.at.Joined-joined c).After-row-entries) c.args.a) c.args.c c.loop-color.step (sym met ∙ e) in
-      let same : step (goal.at.Joined-joined c).After-row-entries ≡ suc c.loop-color.step = sym c.loop-color.invariant.1 ∙ r.0 in
+      let r = forced-next (joined (entries after_row_entries_2) c.args.a) c.args.c c.loop-color.step (sym met ∙ e) in
+      let same : step after_row_entries_2 ≡ suc c.loop-color.step = sym c.loop-color.invariant.1 ∙ r.0 in
       (same, r.1 ∙ sym same)
 
 module _ (c : After-uncolor_same_neighbors-waiting) where
+  abbrev after_slice_known_in_walk_3 : After-slice_known-in-walk-1
+  after_slice_known_in_walk_3 = (goal.at.After-uncolor_same_neighbors-waiting c).After-slice_known-in-walk-1
+
+  abbrev joined_joined : Joined-joined
+  joined_joined = (goal.at.After-uncolor_same_neighbors-waiting c).Joined-joined
+
+  abbrev after_row_entries_3 : After-row-entries
+  after_row_entries_3 = (goal.at.After-uncolor_same_neighbors-waiting c).After-row-entries
+
+  abbrev after_vertex_possible_colors_possible : After-vertex_possible_colors-possible
+  after_vertex_possible_colors_possible = (goal.at.After-uncolor_same_neighbors-waiting c).After-vertex_possible_colors-possible
+
   abbrev now_coloring : List ℕ
   now_coloring = c.uncolor_same_neighbors-waiting.new.coloring
 
@@ -90,26 +117,29 @@ module _ (c : After-uncolor_same_neighbors-waiting) where
   popped = ring c.walk.queue ((c.walk.head + 1) % 64) (c.walk.waiting - 1)
 
   abbrev forced-step : ℕ
-  forced-step = step_of (n (goal.at.After-uncolor_same_neighbors-waiting c).After-slice_known-in-walk-1) (edge_matrix (goal.at.After-uncolor_same_neighbors-waiting c).After-slice_known-in-walk-1) c.args.a c.args.c (spline (goal.at.After-uncolor_same_neighbors-waiting c).After-slice_known-in-walk-1) c.walk.step
+  forced-step = step_of (n after_slice_known_in_walk_3) (edge_matrix after_slice_known_in_walk_3) c.args.a c.args.c (spline after_slice_known_in_walk_3)
+      c.walk.step
 
   reached : c.loop-color.step ≡ forced-step
   reached =
-      broke (goal.at.After-uncolor_same_neighbors-waiting c).Joined-joined (not-true _ c.if-not-color-c.true-raw)
-      ∙ ap (λ (l : List ℕ). forced_step (joined l c.args.a) c.args.c c.walk.step) (cut (goal.at.After-uncolor_same_neighbors-waiting c).After-row-entries)
+      broke joined_joined (not-true _ c.if-not-color-c.true-raw)
+      ∙ ap (λ (l : List ℕ). forced_step (joined l c.args.a) c.args.c c.walk.step) (cut after_row_entries_3)
 
   next-step : c.loop-color.step + 1 ≡ suc forced-step
   next-step = add-one c.loop-color.step ∙ ap suc reached
 
-  none : possible (goal.at.After-uncolor_same_neighbors-waiting c).After-vertex_possible_colors-possible ≡ 0
-  none = sym (free (goal.at.After-uncolor_same_neighbors-waiting c).After-vertex_possible_colors-possible) ∙ c.if-possible-ne0.false
+  none : possible after_vertex_possible_colors_possible ≡ 0
+  none = sym (free after_vertex_possible_colors_possible) ∙ c.if-possible-ne0.false
 
   moved : recoloring now_coloring now_queue ((c.walk.head + 1) % 64) c.uncolor_same_neighbors-waiting.result
-      ≡ forced (n (goal.at.After-uncolor_same_neighbors-waiting c).After-slice_known-in-walk-1) (edge_matrix (goal.at.After-uncolor_same_neighbors-waiting c).After-slice_known-in-walk-1) (spline (goal.at.After-uncolor_same_neighbors-waiting c).After-slice_known-in-walk-1) (forced-step % 3) c.walk.coloring popped
+      ≡ forced (n after_slice_known_in_walk_3) (edge_matrix after_slice_known_in_walk_3) (spline after_slice_known_in_walk_3) (forced-step % 3)
+      c.walk.coloring popped
   unfolding force
   moved =
       c.uncolor_same_neighbors-waiting.ensures
-      ∙ forced_same (n (goal.at.After-uncolor_same_neighbors-waiting c).After-slice_known-in-walk-1) (edge_matrix (goal.at.After-uncolor_same_neighbors-waiting c).After-slice_known-in-walk-1) (spline (goal.at.After-uncolor_same_neighbors-waiting c).After-slice_known-in-walk-1) c.walk.coloring popped (entries (goal.at.After-uncolor_same_neighbors-waiting c).After-row-entries) forced-step
-      c.loop-color.step (cut (goal.at.After-uncolor_same_neighbors-waiting c).After-row-entries) reached
+      ∙ forced_same (n after_slice_known_in_walk_3) (edge_matrix after_slice_known_in_walk_3) (spline after_slice_known_in_walk_3) c.walk.coloring popped
+      (entries after_row_entries_3) forced-step
+      c.loop-color.step (cut after_row_entries_3) reached
 
 -- the ring has as many places as before
 ring-kept : (c : At-walk) → length c.walk.queue ≡ length c.args.queue.now
@@ -138,18 +168,30 @@ overflow_sub-waiting c = omega arith
 
 pub first_possible_color-requires : goal.first_possible_color-requires
 first_possible_color-requires c =
-    omega (arith, free (goal.at.first_possible_color-requires c).After-vertex_possible_colors-possible, possible-below c.walk.coloring (row (n (goal.at.first_possible_color-requires c).After-slice_known-in-walk-1) (edge_matrix (goal.at.first_possible_color-requires c).After-slice_known-in-walk-1) (spline (goal.at.first_possible_color-requires c).After-slice_known-in-walk-1)))
+    let after_vertex_possible_colors_possible_2 = (goal.at.first_possible_color-requires c).After-vertex_possible_colors-possible in
+    let after_slice_known_in_walk_4 = (goal.at.first_possible_color-requires c).After-slice_known-in-walk-1 in
+    omega (
+      arith,
+      free after_vertex_possible_colors_possible_2,
+      possible-below c.walk.coloring
+          (row (n after_slice_known_in_walk_4) (edge_matrix after_slice_known_in_walk_4) (spline after_slice_known_in_walk_4)),
+    )
 
 pub bounds-coloring-i : goal.bounds-coloring-i
 bounds-coloring-i c = omega (arith, first (goal.at.bounds-coloring-i c).After-slice_known-in-walk-1, c.walk.invariant.going.size)
 
 pub walk-smaller-then-possible-ne0 : goal.walk-smaller-then-possible-ne0
-walk-smaller-then-possible-ne0 c = left_free (n (goal.at.walk-smaller-then-possible-ne0 c).After-slice_known-in-walk-1) c.walk.step _ _ (omega (arith, some (goal.at.walk-smaller-then-possible-ne0 c).After-slice_known-in-walk-1))
+walk-smaller-then-possible-ne0 c =
+    let after_slice_known_in_walk_4 = (goal.at.walk-smaller-then-possible-ne0 c).After-slice_known-in-walk-1 in
+    left_free (n after_slice_known_in_walk_4) c.walk.step _ _ (omega (arith, some after_slice_known_in_walk_4))
 
 pub walk-preserved-then-possible-ne0 : goal.walk-preserved-then-possible-ne0
 walk-preserved-then-possible-ne0 c =
-    let color = c.first_possible_color.ensures ∙ ap first_possible_color (free (goal.at.walk-preserved-then-possible-ne0 c).After-vertex_possible_colors-possible) in
-    rw color (walk_free c.walk.invariant (some (goal.at.walk-preserved-then-possible-ne0 c).After-slice_known-in-walk-1) c.if-step-ge-MAX_RECOLOR_STEPS.false (λ e. c.if-possible-ne0.true (free (goal.at.walk-preserved-then-possible-ne0 c).After-vertex_possible_colors-possible ∙ e)))
+    let after_vertex_possible_colors_possible_2 = (goal.at.walk-preserved-then-possible-ne0 c).After-vertex_possible_colors-possible in
+    let after_slice_known_in_walk_4 = (goal.at.walk-preserved-then-possible-ne0 c).After-slice_known-in-walk-1 in
+    let color = c.first_possible_color.ensures ∙ ap first_possible_color (free after_vertex_possible_colors_possible_2) in
+    rw color (walk_free c.walk.invariant (some after_slice_known_in_walk_4) c.if-step-ge-MAX_RECOLOR_STEPS.false
+    (λ e. c.if-possible-ne0.true (free after_vertex_possible_colors_possible_2 ∙ e)))
 
 pub bounds-entries-a : goal.bounds-entries-a
 bounds-entries-a c = omega (arith, cut-size (goal.at.bounds-entries-a c).After-row-entries, c.requires.inside)
@@ -161,7 +203,13 @@ loop-color-init c = ((step_rises _ _ _).0, refl)
 pub overflow_add-step : goal.overflow_add-step
 unfolding joined
 overflow_add-step c =
-    omega (arith, c.loop-color.invariant.0, (step_rises (joined (entries (goal.at.overflow_add-step c).After-row-entries) c.args.a) c.args.c c.walk.step).1, c.if-step-ge-MAX_RECOLOR_STEPS.false)
+    let after_row_entries_4 = (goal.at.overflow_add-step c).After-row-entries in
+    omega (
+      arith,
+      c.loop-color.invariant.0,
+      (step_rises (joined (entries after_row_entries_4) c.args.a) c.args.c c.walk.step).1,
+      c.if-step-ge-MAX_RECOLOR_STEPS.false,
+    )
 
 pub loop-color-smaller : goal.loop-color-smaller
 unfolding joined
@@ -177,22 +225,30 @@ pub bounds-coloring-i-in-walk : goal.bounds-coloring-i-in-walk
 bounds-coloring-i-in-walk c = omega (arith, first (goal.at.bounds-coloring-i-in-walk c).After-slice_known-in-walk-1, c.walk.invariant.going.size)
 
 pub uncolor_same_neighbors-waiting-requires : goal.uncolor_same_neighbors-waiting-requires
-uncolor_same_neighbors-waiting-requires c = (
-  rw (cut (goal.at.uncolor_same_neighbors-waiting-requires c).After-row-entries) (walk_uncolors c.walk.invariant (some (goal.at.uncolor_same_neighbors-waiting-requires c).After-slice_known-in-walk-1) c.requires.entries (c.loop-color.step % 3) (omega arith)),
-  rw length-set (omega (arith, first (goal.at.uncolor_same_neighbors-waiting-requires c).After-slice_known-in-walk-1, c.walk.invariant.going.size)),
-)
+uncolor_same_neighbors-waiting-requires c =
+    let after_row_entries_4 = (goal.at.uncolor_same_neighbors-waiting-requires c).After-row-entries in
+    let after_slice_known_in_walk_4 = (goal.at.uncolor_same_neighbors-waiting-requires c).After-slice_known-in-walk-1 in (
+      rw (cut after_row_entries_4) (walk_uncolors c.walk.invariant (some after_slice_known_in_walk_4) c.requires.entries (c.loop-color.step % 3) (omega arith)),
+      rw length-set (omega (arith, first after_slice_known_in_walk_4, c.walk.invariant.going.size)),
+    )
 
 pub walk-smaller : goal.walk-smaller
 walk-smaller c =
-    rw (next-step (goal.at.walk-smaller c).After-uncolor_same_neighbors-waiting)
-    (less_forced c.walk.invariant (some (goal.at.walk-smaller c).After-slice_known-in-walk-1) c.if-step-ge-MAX_RECOLOR_STEPS.false (none (goal.at.walk-smaller c).After-uncolor_same_neighbors-waiting) (now_coloring (goal.at.walk-smaller c).After-uncolor_same_neighbors-waiting) (now_queue (goal.at.walk-smaller c).After-uncolor_same_neighbors-waiting)
-    c.uncolor_same_neighbors-waiting.result (moved (goal.at.walk-smaller c).After-uncolor_same_neighbors-waiting))
+    let after_uncolor_same_neighbors_waiting = (goal.at.walk-smaller c).After-uncolor_same_neighbors-waiting in
+    let after_slice_known_in_walk_4 = (goal.at.walk-smaller c).After-slice_known-in-walk-1 in
+    rw (next-step after_uncolor_same_neighbors_waiting)
+    (less_forced c.walk.invariant (some after_slice_known_in_walk_4) c.if-step-ge-MAX_RECOLOR_STEPS.false (none after_uncolor_same_neighbors_waiting)
+    (now_coloring after_uncolor_same_neighbors_waiting) (now_queue after_uncolor_same_neighbors_waiting)
+    c.uncolor_same_neighbors-waiting.result (moved after_uncolor_same_neighbors_waiting))
 
 pub walk-preserved : goal.walk-preserved
 walk-preserved c =
-    rw (next-step (goal.at.walk-preserved c).After-uncolor_same_neighbors-waiting)
-    (walk_forces c.walk.invariant (some (goal.at.walk-preserved c).After-slice_known-in-walk-1) c.if-step-ge-MAX_RECOLOR_STEPS.false (none (goal.at.walk-preserved c).After-uncolor_same_neighbors-waiting) (now_coloring (goal.at.walk-preserved c).After-uncolor_same_neighbors-waiting) (now_queue (goal.at.walk-preserved c).After-uncolor_same_neighbors-waiting)
-    c.uncolor_same_neighbors-waiting.result (moved (goal.at.walk-preserved c).After-uncolor_same_neighbors-waiting) c.uncolor_same_neighbors-waiting.auto.queue)
+    let after_uncolor_same_neighbors_waiting = (goal.at.walk-preserved c).After-uncolor_same_neighbors-waiting in
+    let after_slice_known_in_walk_4 = (goal.at.walk-preserved c).After-slice_known-in-walk-1 in
+    rw (next-step after_uncolor_same_neighbors_waiting)
+    (walk_forces c.walk.invariant (some after_slice_known_in_walk_4) c.if-step-ge-MAX_RECOLOR_STEPS.false (none after_uncolor_same_neighbors_waiting)
+    (now_coloring after_uncolor_same_neighbors_waiting) (now_queue after_uncolor_same_neighbors_waiting)
+    c.uncolor_same_neighbors-waiting.result (moved after_uncolor_same_neighbors_waiting) c.uncolor_same_neighbors-waiting.auto.queue)
 
 pub shape_of-coloring-then-waiting-eq0 : goal.shape_of-coloring-then-waiting-eq0
 shape_of-coloring-then-waiting-eq0 c = c.walk.invariant.going.size

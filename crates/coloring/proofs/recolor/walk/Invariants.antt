@@ -14,7 +14,8 @@ abbrev pub decreases-loop-color : goal.decreases-loop-color
 decreases-loop-color l = forced_step l.joined l.c l.initial.step - l.step
 
 abbrev pub invariant-walk : goal.invariant-walk
-invariant-walk l = WalkInvariant l.n l.edge_matrix l.a l.c (walk_from l.edge_matrix l.a l.c (recoloring l.initial.coloring l.initial.queue 0 l.first)) l.coloring l.queue l.head l.waiting l.step
+invariant-walk l = WalkInvariant l.n l.edge_matrix l.a l.c (walk_from l.edge_matrix l.a l.c (recoloring l.initial.coloring l.initial.queue 0 l.first))
+    l.coloring l.queue l.head l.waiting l.step
 
 abbrev pub decreases-walk : goal.decreases-walk
 decreases-walk l = left l.n l.step l.waiting

@@ -55,27 +55,34 @@ module _ (c : After-count_shape-counts) where
 
 -- they have their values, or there is a refusal
 module _ (c : After-spline_values-checked) where
+  abbrev start : Start
+  start = (goal.at.After-spline_values-checked c).Start
+
+  abbrev after_count_shape_counts : After-count_shape-counts
+  after_count_shape_counts = (goal.at.After-spline_values-checked c).After-count_shape-counts
+
   abbrev marking : Marking
   marking = c.args.settings.marking
 
-  answer : checked_answer c.spline_values-checked.result ≡ first_refusal (check_marking marking (spline_total (map layout (found (goal.at.After-spline_values-checked c).Start))) c.args.distances.now)
+  answer : checked_answer c.spline_values-checked.result ≡ first_refusal (check_marking marking (spline_total (map layout (found start))) c.args.distances.now)
   answer =
       let total =
-      splines-counted c.args.lengths.now (edges (goal.at.After-spline_values-checked c).Start) c.args.flags.now c.count_shape-counts.result (flagged (goal.at.After-spline_values-checked c).Start) c.count_shape-counts.ensures.0 in
-      c.spline_values-checked.ensures.answer ∙ ap (λ (n : ℕ). first_refusal (check_marking marking n c.args.distances.now)) (long (goal.at.After-spline_values-checked c).After-count_shape-counts ∙ sym total)
+      splines-counted c.args.lengths.now (edges start) c.args.flags.now c.count_shape-counts.result (flagged start) c.count_shape-counts.ensures.0 in
+      c.spline_values-checked.ensures.answer ∙ ap (λ (n : ℕ). first_refusal (check_marking marking n c.args.distances.now))
+      (long after_count_shape_counts ∙ sym total)
 
   abbrev values : List ℕ
   values = c.spline_values-checked.new.values
 
-  size : length values ≡ count (goal.at.After-spline_values-checked c).After-count_shape-counts
-  size = c.spline_values-checked.auto.values ∙ long (goal.at.After-spline_values-checked c).After-count_shape-counts
+  size : length values ≡ count after_count_shape_counts
+  size = c.spline_values-checked.auto.values ∙ long after_count_shape_counts
 
   -- the array with them, and its first part
-  within : count (goal.at.After-spline_values-checked c).After-count_shape-counts ≤ length (values ++ drop (count (goal.at.After-spline_values-checked c).After-count_shape-counts) zeros)
+  within : count after_count_shape_counts ≤ length (values ++ drop (count after_count_shape_counts) zeros)
   within = rw (length-append, size) (omega arith)
 
-  front : take (count (goal.at.After-spline_values-checked c).After-count_shape-counts) (values ++ drop (count (goal.at.After-spline_values-checked c).After-count_shape-counts) zeros) ≡ values
-  front = take_at values (drop (count (goal.at.After-spline_values-checked c).After-count_shape-counts) zeros) (count (goal.at.After-spline_values-checked c).After-count_shape-counts) size
+  front : take (count after_count_shape_counts) (values ++ drop (count after_count_shape_counts) zeros) ≡ values
+  front = take_at values (drop (count after_count_shape_counts) zeros) (count after_count_shape_counts) size
 
 pub count_shape-counts-requires : goal.count_shape-counts-requires
 count_shape-counts-requires c =
@@ -89,28 +96,38 @@ pub slice_bounds-spline_values-end : goal.slice_bounds-spline_values-end
 slice_bounds-spline_values-end c = sym (long (goal.at.slice_bounds-spline_values-end c).After-count_shape-counts)
 
 pub spline_values-checked-requires : goal.spline_values-checked-requires
-spline_values-checked-requires c = record { cut = c.requires; values_len = long (goal.at.spline_values-checked-requires c).After-count_shape-counts ∙ c.count_shape-counts.ensures.0.splines_are }
+spline_values-checked-requires c =
+    let after_count_shape_counts_2 = (goal.at.spline_values-checked-requires c).After-count_shape-counts in
+    record { cut = c.requires; values_len = long after_count_shape_counts_2 ∙ c.count_shape-counts.ensures.0.splines_are }
 
 pub returns-in-Failed : goal.returns-in-Failed
 returns-in-Failed c =
-    values_failed c.args.settings c.args.distances.now (given (goal.at.returns-in-Failed c).Start) (old (goal.at.returns-in-Failed c).Start) (sym (answer (goal.at.returns-in-Failed c).After-spline_values-checked) ∙ ap checked_answer c.in-Failed.is)
+    let start_2 = (goal.at.returns-in-Failed c).Start in
+    let after_spline_values_checked = (goal.at.returns-in-Failed c).After-spline_values-checked in
+    values_failed c.args.settings c.args.distances.now (given start_2) (old start_2)
+    (sym (answer after_spline_values_checked) ∙ ap checked_answer c.in-Failed.is)
 
 pub slice_bounds-values-end-2 : goal.slice_bounds-values-end-2
 slice_bounds-values-end-2 c = within (goal.at.slice_bounds-values-end-2 c).After-spline_values-checked
 
 pub slice_bounds-paint_shape-end : goal.slice_bounds-paint_shape-end
 slice_bounds-paint_shape-end c =
-    sym (ap length (front (goal.at.slice_bounds-paint_shape-end c).After-spline_values-checked) ∙ size (goal.at.slice_bounds-paint_shape-end c).After-spline_values-checked)
+    let after_spline_values_checked = (goal.at.slice_bounds-paint_shape-end c).After-spline_values-checked in
+    sym (ap length (front after_spline_values_checked) ∙ size after_spline_values_checked)
 
 pub paint_shape-requires : goal.paint_shape-requires
 paint_shape-requires c =
-    record { cut = c.requires; counted = (c.count_shape-counts.ensures.0, ap length (front (goal.at.paint_shape-requires c).After-spline_values-checked) ∙ size (goal.at.paint_shape-requires c).After-spline_values-checked) }
+    let after_spline_values_checked = (goal.at.paint_shape-requires c).After-spline_values-checked in
+    record { cut = c.requires; counted = (c.count_shape-counts.ensures.0, ap length (front after_spline_values_checked) ∙ size after_spline_values_checked) }
 
 pub returns : goal.returns
 returns c =
+    let after_spline_values_checked = (goal.at.returns c).After-spline_values-checked in
+    let start_2 = (goal.at.returns c).Start in
     let passed = c.in_default.is in
     let split =
-    values-laid (marking (goal.at.returns c).After-spline_values-checked) c.args.distances.now (found (goal.at.returns c).Start) (cut-flagged c.args.lengths.now (edges (goal.at.returns c).Start) c.args.flags.now (flagged (goal.at.returns c).Start)) in
+    values-laid (marking after_spline_values_checked) c.args.distances.now (found start_2)
+    (cut-flagged c.args.lengths.now (edges start_2) c.args.flags.now (flagged start_2)) in
     (rw c.count_shape-counts.ensures.1 at c.paint_shape.ensures)
-    ∙ values-passed c.args.settings c.args.distances.now (given (goal.at.returns c).Start) (old (goal.at.returns c).Start) (sym (answer (goal.at.returns c).After-spline_values-checked) ∙ ap checked_answer passed)
-    (front (goal.at.returns c).After-spline_values-checked ∙ c.spline_values-checked.ensures.bytes passed ∙ sym split)
+    ∙ values-passed c.args.settings c.args.distances.now (given start_2) (old start_2) (sym (answer after_spline_values_checked) ∙ ap checked_answer passed)
+    (front after_spline_values_checked ∙ c.spline_values-checked.ensures.bytes passed ∙ sym split)

@@ -66,14 +66,18 @@ part_edges-edges-requires c = (omega arith, room (goal.at.part_edges-edges-requi
 
 pub overflow_add-edges : goal.overflow_add-edges
 overflow_add-edges c =
-    omega (arith, c.part_edges-edges.ensures, step (goal.at.overflow_add-edges c).In-loop-i result_edges, c.loop-i.invariant.1, few-edges (goal.at.overflow_add-edges c).Start)
+    let in_loop_i = (goal.at.overflow_add-edges c).In-loop-i in
+    let start = (goal.at.overflow_add-edges c).Start in
+    omega (arith, c.part_edges-edges.ensures, step in_loop_i result_edges, c.loop-i.invariant.1, few-edges start)
 
 pub part_splines-splines-requires : goal.part_splines-splines-requires
 part_splines-splines-requires c = (omega arith, room (goal.at.part_splines-splines-requires c).In-loop-i)
 
 pub overflow_add-splines : goal.overflow_add-splines
 overflow_add-splines c =
-    omega (arith, c.part_splines-splines.ensures, step (goal.at.overflow_add-splines c).In-loop-i spline_count, c.loop-i.invariant.2, few-splines (goal.at.overflow_add-splines c).Start)
+    let in_loop_i = (goal.at.overflow_add-splines c).In-loop-i in
+    let start = (goal.at.overflow_add-splines c).Start in
+    omega (arith, c.part_splines-splines.ensures, step in_loop_i spline_count, c.loop-i.invariant.2, few-splines start)
 
 pub overflow_add-i : goal.overflow_add-i
 overflow_add-i c = omega arith
@@ -83,14 +87,16 @@ loop-i-smaller c = omega arith
 
 pub loop-i-preserved : goal.loop-i-preserved
 loop-i-preserved c =
+    let in_loop_i = (goal.at.loop-i-preserved c).In-loop-i in
     let s = c.loop-i in (
       next-passed _ _ _ _ s.invariant.0 c.loop-i-test.true,
-      omega (arith, c.part_edges-edges.ensures, step (goal.at.loop-i-preserved c).In-loop-i result_edges, s.invariant.1),
-      omega (arith, c.part_splines-splines.ensures, step (goal.at.loop-i-preserved c).In-loop-i spline_count, s.invariant.2),
+      omega (arith, c.part_edges-edges.ensures, step in_loop_i result_edges, s.invariant.1),
+      omega (arith, c.part_splines-splines.ensures, step in_loop_i spline_count, s.invariant.2),
     )
 
 pub returns : goal.returns
 returns c =
+    let start = (goal.at.returns c).Start in
     let s = c.loop-i in
     let a = c.args in
     let edges = left_end result_edges a.lengths.now a.flags.now s.i s.at c.loop-i-test.false in
@@ -99,8 +105,8 @@ returns c =
         contours_are = refl;
         edges_are = omega (arith, s.invariant.1);
         splines_are = omega (arith, s.invariant.2);
-        edges_few = omega (arith, s.invariant.1, few-edges (goal.at.returns c).Start);
-        splines-few = omega (arith, s.invariant.2, few-splines (goal.at.returns c).Start);
+        edges_few = omega (arith, s.invariant.1, few-edges start);
+        splines-few = omega (arith, s.invariant.2, few-splines start);
       },
       refl,
     )

@@ -35,27 +35,39 @@ written c =
     painted a.settings.division (middle_value a.settings.marking) a.values.now (laid_out a.lengths.now (edges c) a.flags.now)
 
 module _ (c : After-has_room-room) where
+  abbrev start : Start
+  start = (goal.at.After-has_room-room c).Start
+
   -- the answer on room is that for the result
-  fit : result_fits (written (goal.at.After-has_room-room c).Start) (old (goal.at.After-has_room-room c).Start) ≡ c.has_room-room.result
+  fit : result_fits (written start) (old start) ≡ c.has_room-room.result
   fit =
       let a = c.args in
-      sized_fits (old (goal.at.After-has_room-room c).Start) (counted-sized a.lengths.now (edges (goal.at.After-has_room-room c).Start) a.flags.now a.counts (flagged (goal.at.After-has_room-room c).Start) c.requires.counted.0 _ _ _)
+      sized_fits (old start) (counted-sized a.lengths.now (edges start) a.flags.now a.counts (flagged start) c.requires.counted.0 _ _ _)
       ∙ sym c.has_room-room.ensures
 
 -- there is room
 module _ (c : Else-not-room) where
+  abbrev start_2 : Start
+  start_2 = (goal.at.Else-not-room c).Start
+
+  abbrev after_has_room_room : After-has_room-room
+  after_has_room_room = (goal.at.Else-not-room c).After-has_room-room
+
   abbrev counts : Counts
   counts = c.args.counts
 
-  fitting : result_fits (written (goal.at.Else-not-room c).Start) (old (goal.at.Else-not-room c).Start) ≡ true
-  fitting = fit (goal.at.Else-not-room c).After-has_room-room ∙ not-false c.has_room-room.result c.if-not-room.false-raw
+  fitting : result_fits (written start_2) (old start_2) ≡ true
+  fitting = fit after_has_room_room ∙ not-false c.has_room-room.result c.if-not-room.false-raw
 
   room : (counts.contours ≤ length c.args.out_lengths.now) × (counts.edges ≤ length c.args.out_kinds.now)
       × (8 * counts.edges ≤ length c.args.out_points.now) × (counts.edges ≤ length c.args.out_colors.now)
-  room = room_fits _ _ (old (goal.at.Else-not-room c).Start) (sym c.has_room-room.ensures ∙ not-false c.has_room-room.result c.if-not-room.false-raw)
+  room = room_fits _ _ (old start_2) (sym c.has_room-room.ensures ∙ not-false c.has_room-room.result c.if-not-room.false-raw)
 
 -- the edges are laid out
 module _ (c : After-lay_out) where
+  abbrev else_not_room : Else-not-room
+  else_not_room = (goal.at.After-lay_out c).Else-not-room
+
   -- the buffers after it
   abbrev out_lengths : List ℕ
   out_lengths = c.lay_out.new.out_lengths
@@ -64,7 +76,7 @@ module _ (c : After-lay_out) where
   out_flags = c.lay_out.new.out_flags
 
   contours-within : c.args.counts.contours ≤ length out_lengths
-  contours-within = omega (arith, c.lay_out.auto.out_lengths, (room (goal.at.After-lay_out c).Else-not-room).0)
+  contours-within = omega (arith, c.lay_out.auto.out_lengths, (room else_not_room).0)
 
   edges-within : c.args.counts.edges ≤ length out_flags
   edges-within = omega (arith, c.lay_out.auto.out_flags, length-replicate 508 false, c.requires.counted.0.edges_few)
@@ -74,7 +86,9 @@ has_room-room-requires c =
     c.requires.counted.0.edges_few
 
 pub returns-then-not-room : goal.returns-then-not-room
-returns-then-not-room c = sym (deliver-short _ _ _ (fit (goal.at.returns-then-not-room c).After-has_room-room ∙ not-true c.has_room-room.result c.if-not-room.true-raw))
+returns-then-not-room c =
+    let after_has_room_room_2 = (goal.at.returns-then-not-room c).After-has_room-room in
+    sym (deliver-short _ _ _ (fit after_has_room_room_2 ∙ not-true c.has_room-room.result c.if-not-room.true-raw))
 
 pub lay_out-requires : goal.lay_out-requires
 lay_out-requires c =
@@ -95,7 +109,8 @@ slice_bounds-paint_contours-end c =
 
 pub slice_bounds-paint_contours-end-2 : goal.slice_bounds-paint_contours-end-2
 slice_bounds-paint_contours-end-2 c =
-    sym (length-take-le _ (out_lengths (goal.at.slice_bounds-paint_contours-end-2 c).After-lay_out) (contours-within (goal.at.slice_bounds-paint_contours-end-2 c).After-lay_out))
+    let after_lay_out = (goal.at.slice_bounds-paint_contours-end-2 c).After-lay_out in
+    sym (length-take-le _ (out_lengths after_lay_out) (contours-within after_lay_out))
 
 pub slice_bounds-out_flags-end : goal.slice_bounds-out_flags-end
 slice_bounds-out_flags-end c =
@@ -103,7 +118,8 @@ slice_bounds-out_flags-end c =
 
 pub slice_bounds-paint_contours-end-3 : goal.slice_bounds-paint_contours-end-3
 slice_bounds-paint_contours-end-3 c =
-    sym (length-take-le _ (out_flags (goal.at.slice_bounds-paint_contours-end-3 c).After-lay_out) (edges-within (goal.at.slice_bounds-paint_contours-end-3 c).After-lay_out))
+    let after_lay_out = (goal.at.slice_bounds-paint_contours-end-3 c).After-lay_out in
+    sym (length-take-le _ (out_flags after_lay_out) (edges-within after_lay_out))
 
 pub slice_bounds-paint_contours-end-4 : goal.slice_bounds-paint_contours-end-4
 slice_bounds-paint_contours-end-4 c = (room (goal.at.slice_bounds-paint_contours-end-4 c).Else-not-room).3
@@ -114,17 +130,21 @@ slice_bounds-paint_contours-end-5 c =
 
 pub paint_contours-requires : goal.paint_contours-requires
 paint_contours-requires c =
+    let start_3 = (goal.at.paint_contours-requires c).Start in
+    let else_not_room_2 = (goal.at.paint_contours-requires c).Else-not-room in
     let a = c.args in
     let out = c.lay_out.ensures in
-    let long = front_length a.lengths.now (edges (goal.at.paint_contours-requires c).Start) a.flags.now a.counts (flagged (goal.at.paint_contours-requires c).Start) c.requires.counted.0 out in
-    let whole = front_total a.lengths.now (edges (goal.at.paint_contours-requires c).Start) a.flags.now a.counts (flagged (goal.at.paint_contours-requires c).Start) c.requires.counted.0 out in
-    let splines = front_splines a.lengths.now (edges (goal.at.paint_contours-requires c).Start) a.flags.now a.counts (flagged (goal.at.paint_contours-requires c).Start) c.requires.counted.0 out in
-    let colors = length-take-le a.counts.edges a.out_colors.now (room (goal.at.paint_contours-requires c).Else-not-room).3 in
+    let long = front_length a.lengths.now (edges start_3) a.flags.now a.counts (flagged start_3) c.requires.counted.0 out in
+    let whole = front_total a.lengths.now (edges start_3) a.flags.now a.counts (flagged start_3) c.requires.counted.0 out in
+    let splines = front_splines a.lengths.now (edges start_3) a.flags.now a.counts (flagged start_3) c.requires.counted.0 out in
+    let colors = length-take-le a.counts.edges a.out_colors.now (room else_not_room_2).3 in
     record { lengths_value = (whole, omega (arith, long, c.requires.counted.0.edges_few), colors ∙ sym long); values_len = c.requires.counted.1 ∙ splines }
 
 pub returns : goal.returns
 returns c =
+    let start_3 = (goal.at.returns c).Start in
+    let else_not_room_2 = (goal.at.returns c).Else-not-room in
     let a = c.args in
-    painted-delivered a.lengths.now (edges (goal.at.returns c).Start) a.flags.now a.counts (flagged (goal.at.returns c).Start) c.requires.counted.0 c.lay_out.ensures
-    a.settings.division (middle_value a.settings.marking) a.values.now a.out_colors.now (fitting (goal.at.returns c).Else-not-room) c.middle_value.ensures
+    painted-delivered a.lengths.now (edges start_3) a.flags.now a.counts (flagged start_3) c.requires.counted.0 c.lay_out.ensures
+    a.settings.division (middle_value a.settings.marking) a.values.now a.out_colors.now (fitting else_not_room_2) c.middle_value.ensures
     c.paint_contours.ensures refl

@@ -27,8 +27,9 @@ module _ (c : Else-distances-gt-MAX_DISTANCES) where
 pub returns-then-distances-pair_count : goal.returns-then-distances-pair_count
 unfolding first_refusal
 returns-then-distances-pair_count c =
+    let else_distances_gt_max_distances = (goal.at.returns-then-distances-pair_count c).Else-distances-gt-MAX_DISTANCES in
     let a = c.args in
-    rw (few (goal.at.returns-then-distances-pair_count c).Else-distances-gt-MAX_DISTANCES, ← c.pair_count.ensures, ne_eqb (length a.distances.now) c.pair_count.result c.if-distances-pair_count.true)
+    rw (few else_distances_gt_max_distances, ← c.pair_count.ensures, ne_eqb (length a.distances.now) c.pair_count.result c.if-distances-pair_count.true)
 
 -- the distances are as many as the pairs
 module _ (c : Else-distances-pair_count) where
@@ -38,9 +39,25 @@ module _ (c : Else-distances-pair_count) where
 pub returns-then-not-distances_valid : goal.returns-then-not-distances_valid
 unfolding first_refusal
 returns-then-not-distances_valid c =
-    rw (few (goal.at.returns-then-not-distances_valid c).Else-distances-gt-MAX_DISTANCES, count (goal.at.returns-then-not-distances_valid c).Else-distances-pair_count, ← c.distances_valid.ensures, not-true c.distances_valid.result c.if-not-distances_valid.true-raw)
+    let else_distances_gt_max_distances = (goal.at.returns-then-not-distances_valid c).Else-distances-gt-MAX_DISTANCES in
+    let else_distances_pair_count = (goal.at.returns-then-not-distances_valid c).Else-distances-pair_count in
+    rw (
+      few else_distances_gt_max_distances,
+      count else_distances_pair_count,
+      ← c.distances_valid.ensures,
+      not-true c.distances_valid.result
+          c.if-not-distances_valid.true-raw,
+    )
 
 pub returns : goal.returns
 unfolding first_refusal
 returns c =
-    rw (few (goal.at.returns c).Else-distances-gt-MAX_DISTANCES, count (goal.at.returns c).Else-distances-pair_count, ← c.distances_valid.ensures, not-false c.distances_valid.result c.if-not-distances_valid.false-raw)
+    let else_distances_gt_max_distances = (goal.at.returns c).Else-distances-gt-MAX_DISTANCES in
+    let else_distances_pair_count = (goal.at.returns c).Else-distances-pair_count in
+    rw (
+      few else_distances_gt_max_distances,
+      count else_distances_pair_count,
+      ← c.distances_valid.ensures,
+      not-false c.distances_valid.result
+          c.if-not-distances_valid.false-raw,
+    )

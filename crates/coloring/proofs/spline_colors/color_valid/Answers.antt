@@ -37,35 +37,38 @@ module _ (s : Start) where
 
 -- the places of the pairs, and of their order
 module _ (c : After-order_pairs) where
+  abbrev start : Start
+  start = (goal.at.After-order_pairs c).Start
+
   abbrev codes : List ℕ
   codes = c.order_pairs.new.codes
 
   abbrev order : List ℕ
   order = c.order_pairs.new.order
 
-  codes-size : length codes ≡ m (goal.at.After-order_pairs c).Start
-  codes-size = c.order_pairs.auto.codes ∙ part-size (goal.at.After-order_pairs c).Start
+  codes-size : length codes ≡ m start
+  codes-size = c.order_pairs.auto.codes ∙ part-size start
 
-  order-size : length order ≡ m (goal.at.After-order_pairs c).Start
-  order-size = c.order_pairs.auto.order ∙ part-size (goal.at.After-order_pairs c).Start
+  order-size : length order ≡ m start
+  order-size = c.order_pairs.auto.order ∙ part-size start
 
   -- a list of m places, and the rest of the array
-  within : (l : List ℕ) → length l ≡ m (goal.at.After-order_pairs c).Start → m (goal.at.After-order_pairs c).Start ≤ length (l ++ drop (m (goal.at.After-order_pairs c).Start) zeros)
+  within : (l : List ℕ) → length l ≡ m start → m start ≤ length (l ++ drop (m start) zeros)
   within l e = rw (length-append, e) (omega arith)
 
-  front : (l : List ℕ) → length l ≡ m (goal.at.After-order_pairs c).Start → take (m (goal.at.After-order_pairs c).Start) (l ++ drop (m (goal.at.After-order_pairs c).Start) zeros) ≡ l
-  front l e = take_at l (drop (m (goal.at.After-order_pairs c).Start) zeros) (m (goal.at.After-order_pairs c).Start) e
+  front : (l : List ℕ) → length l ≡ m start → take (m start) (l ++ drop (m start) zeros) ≡ l
+  front l e = take_at l (drop (m start) zeros) (m start) e
 
   ordered :
-      Ordered (n (goal.at.After-order_pairs c).Start) (take (n (goal.at.After-order_pairs c).Start * n (goal.at.After-order_pairs c).Start) (replicate 4096 0))
-      (take (m (goal.at.After-order_pairs c).Start) (codes ++ drop (m (goal.at.After-order_pairs c).Start) zeros)) (take (m (goal.at.After-order_pairs c).Start) (order ++ drop (m (goal.at.After-order_pairs c).Start) zeros))
+      Ordered (n start) (take (n start * n start) (replicate 4096 0))
+      (take (m start) (codes ++ drop (m start) zeros)) (take (m start) (order ++ drop (m start) zeros))
       c.args.distances.now
   ordered =
       record {
         given = c.requires;
         in_order = rw (front codes codes-size, front order order-size) c.order_pairs.ensures;
         same_count = ap length (front codes codes-size) ∙ codes-size;
-        none = take-replicate (n (goal.at.After-order_pairs c).Start * n (goal.at.After-order_pairs c).Start) 4096 (square (goal.at.After-order_pairs c).Start);
+        none = take-replicate (n start * n start) 4096 (square start);
       }
 
 pub overflow_mul-size : goal.overflow_mul-size
@@ -85,30 +88,36 @@ slice_bounds-order_pairs-end-2 c = sym (part-size (goal.at.slice_bounds-order_pa
 
 pub order_pairs-requires : goal.order_pairs-requires
 order_pairs-requires c =
-    (c.requires, part-size (goal.at.order_pairs-requires c).Start, part-size (goal.at.order_pairs-requires c).Start)
+    let start_2 = (goal.at.order_pairs-requires c).Start in
+    (c.requires, part-size start_2, part-size start_2)
 
 pub slice_bounds-edge_matrix-end : goal.slice_bounds-edge_matrix-end
 slice_bounds-edge_matrix-end c = square (goal.at.slice_bounds-edge_matrix-end c).Start
 
 pub slice_bounds-color_in_order-end : goal.slice_bounds-color_in_order-end
 slice_bounds-color_in_order-end c =
-    sym (length-take-le (n (goal.at.slice_bounds-color_in_order-end c).Start * n (goal.at.slice_bounds-color_in_order-end c).Start) (replicate 4096 0) (square (goal.at.slice_bounds-color_in_order-end c).Start))
+    let start_2 = (goal.at.slice_bounds-color_in_order-end c).Start in
+    sym (length-take-le (n start_2 * n start_2) (replicate 4096 0) (square start_2))
 
 pub slice_bounds-codes-end-2 : goal.slice_bounds-codes-end-2
 slice_bounds-codes-end-2 c =
-    within (goal.at.slice_bounds-codes-end-2 c).After-order_pairs (codes (goal.at.slice_bounds-codes-end-2 c).After-order_pairs) (codes-size (goal.at.slice_bounds-codes-end-2 c).After-order_pairs)
+    let after_order_pairs = (goal.at.slice_bounds-codes-end-2 c).After-order_pairs in
+    within after_order_pairs (codes after_order_pairs) (codes-size after_order_pairs)
 
 pub slice_bounds-color_in_order-end-2 : goal.slice_bounds-color_in_order-end-2
 slice_bounds-color_in_order-end-2 c =
-    sym (ap length (front (goal.at.slice_bounds-color_in_order-end-2 c).After-order_pairs (codes (goal.at.slice_bounds-color_in_order-end-2 c).After-order_pairs) (codes-size (goal.at.slice_bounds-color_in_order-end-2 c).After-order_pairs)) ∙ codes-size (goal.at.slice_bounds-color_in_order-end-2 c).After-order_pairs)
+    let after_order_pairs = (goal.at.slice_bounds-color_in_order-end-2 c).After-order_pairs in
+    sym (ap length (front after_order_pairs (codes after_order_pairs) (codes-size after_order_pairs)) ∙ codes-size after_order_pairs)
 
 pub slice_bounds-order-end-2 : goal.slice_bounds-order-end-2
 slice_bounds-order-end-2 c =
-    within (goal.at.slice_bounds-order-end-2 c).After-order_pairs (order (goal.at.slice_bounds-order-end-2 c).After-order_pairs) (order-size (goal.at.slice_bounds-order-end-2 c).After-order_pairs)
+    let after_order_pairs = (goal.at.slice_bounds-order-end-2 c).After-order_pairs in
+    within after_order_pairs (order after_order_pairs) (order-size after_order_pairs)
 
 pub slice_bounds-color_in_order-end-3 : goal.slice_bounds-color_in_order-end-3
 slice_bounds-color_in_order-end-3 c =
-    sym (ap length (front (goal.at.slice_bounds-color_in_order-end-3 c).After-order_pairs (order (goal.at.slice_bounds-color_in_order-end-3 c).After-order_pairs) (order-size (goal.at.slice_bounds-color_in_order-end-3 c).After-order_pairs)) ∙ order-size (goal.at.slice_bounds-color_in_order-end-3 c).After-order_pairs)
+    let after_order_pairs = (goal.at.slice_bounds-color_in_order-end-3 c).After-order_pairs in
+    sym (ap length (front after_order_pairs (order after_order_pairs) (order-size after_order_pairs)) ∙ order-size after_order_pairs)
 
 pub color_in_order-requires : goal.color_in_order-requires
 color_in_order-requires c = ordered (goal.at.color_in_order-requires c).After-order_pairs

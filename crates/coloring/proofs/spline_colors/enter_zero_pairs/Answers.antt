@@ -60,8 +60,9 @@ overflow_cast-b c = omega arith
 
 pub enter_pair-requires : goal.enter_pair-requires
 enter_pair-requires c =
+    let in_loop_k = (goal.at.enter_pair-requires c).In-loop-k in
     let pairs = two-numbers _ _ _ _ c.requires.in_order in
-    let two = two_read _ (codes (goal.at.enter_pair-requires c).In-loop-k) (order (goal.at.enter_pair-requires c).In-loop-k) pairs (k (goal.at.enter_pair-requires c).In-loop-k) _ c.loop-k-test.true c.code_at-code.ensures in
+    let two = two_read _ (codes in_loop_k) (order in_loop_k) pairs (k in_loop_k) _ c.loop-k-test.true c.code_at-code.ensures in
     rw c.loop-k.invariant.size (digits_lt two.first two.second, digits_lt two.second two.first)
 
 pub overflow_add-k : goal.overflow_add-k
@@ -72,8 +73,9 @@ loop-k-smaller c = omega arith
 
 pub loop-k-preserved : goal.loop-k-preserved
 loop-k-preserved c =
+    let in_loop_k = (goal.at.loop-k-preserved c).In-loop-k in
     let zero = is_zero _ _ c.distance_at.ensures c.if-distance_at.false in
-    enter_next _ _ _ _ _ _ (k (goal.at.loop-k-preserved c).In-loop-k) c.loop-k.invariant c.loop-k-test.true zero _ _ c.code_at-code.ensures c.enter_pair.ensures
+    enter_next _ _ _ _ _ _ (k in_loop_k) c.loop-k.invariant c.loop-k-test.true zero _ _ c.code_at-code.ensures c.enter_pair.ensures
 
 pub shape_of-edge_matrix : goal.shape_of-edge_matrix
 shape_of-edge_matrix c =

@@ -9,7 +9,8 @@ use Rattle.coloring.proofs.spline_colors.OrderLaws.{Offers}
 use Rattle.coloring.proofs.spline_colors.offer_pairs.Given as goal
 
 abbrev pub invariant-loop-k : goal.invariant-loop-k
-invariant-loop-k l = Offers (length l.initial.coloring) l.codes l.order (run (table_of l.initial.coloring l.initial.edge_matrix) (map (pair_at l.codes) (drop l.from l.order))).table
+invariant-loop-k l = Offers (length l.initial.coloring) l.codes l.order
+    (run (table_of l.initial.coloring l.initial.edge_matrix) (map (pair_at l.codes) (drop l.from l.order))).table
     (table_of l.coloring l.edge_matrix) l.k
 
 abbrev pub decreases-loop-k : goal.decreases-loop-k

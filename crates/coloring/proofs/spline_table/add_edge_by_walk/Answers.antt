@@ -25,6 +25,9 @@ module _ (start : Start) where
   copy_size = length-take-le n zeros start.requires.few
 
 module _ (c : After-recolor) where
+  abbrev start_2 : Start
+  start_2 = (goal.at.After-recolor c).Start
+
   abbrev after : List ℕ
   after = c.recolor.new.buffer
 
@@ -39,13 +42,13 @@ module _ (c : After-recolor) where
       ap left (sym e)
       ∙ ap (λ (v : Walk). settled v c.args.coloring.now c.args.edge_matrix.now c.args.a c.args.b) c.recolor.ensures
 
-  after-size : length after ≡ n (goal.at.After-recolor c).Start
-  after-size = c.recolor.auto.buffer ∙ copy_size (goal.at.After-recolor c).Start
+  after-size : length after ≡ n start_2
+  after-size = c.recolor.auto.buffer ∙ copy_size start_2
 
-  front : take (n (goal.at.After-recolor c).Start) (after ++ drop (n (goal.at.After-recolor c).Start) zeros) ≡ after
-  front = take_at after (drop (n (goal.at.After-recolor c).Start) zeros) (n (goal.at.After-recolor c).Start) after-size
+  front : take (n start_2) (after ++ drop (n start_2) zeros) ≡ after
+  front = take_at after (drop (n start_2) zeros) (n start_2) after-size
 
-  front_size : length (take (n (goal.at.After-recolor c).Start) (after ++ drop (n (goal.at.After-recolor c).Start) zeros)) ≡ n (goal.at.After-recolor c).Start
+  front_size : length (take (n start_2) (after ++ drop (n start_2) zeros)) ≡ n start_2
   front_size = ap length front ∙ after-size
 
 pub slice_bounds-recolor-end : goal.slice_bounds-recolor-end
@@ -56,7 +59,9 @@ recolor-requires c = (c.requires, copy_size (goal.at.recolor-requires c).Start)
 
 pub slice_bounds-buffer-end-in-Recolored : goal.slice_bounds-buffer-end-in-Recolored
 slice_bounds-buffer-end-in-Recolored c =
-    omega (arith, length-append (after (goal.at.slice_bounds-buffer-end-in-Recolored c).After-recolor) (drop (n (goal.at.slice_bounds-buffer-end-in-Recolored c).Start) zeros), after-size (goal.at.slice_bounds-buffer-end-in-Recolored c).After-recolor)
+    let after_recolor = (goal.at.slice_bounds-buffer-end-in-Recolored c).After-recolor in
+    let start_3 = (goal.at.slice_bounds-buffer-end-in-Recolored c).Start in
+    omega (arith, length-append (after after_recolor) (drop (n start_3) zeros), after-size after_recolor)
 
 pub copy_from_slice-requires : goal.copy_from_slice-requires
 copy_from_slice-requires c = sym (front_size (goal.at.copy_from_slice-requires c).After-recolor)
@@ -66,9 +71,11 @@ enter_pair-requires c = pair_inside c.requires
 
 pub returns-in-Recolored : goal.returns-in-Recolored
 returns-in-Recolored c =
-    let taken = c.copy_from_slice.ensures.after ∙ front (goal.at.returns-in-Recolored c).After-recolor in
-    ap (λ (l : List ℕ). outcome (kept c.in-Recolored.step) l c.args.edge_matrix.now) taken ∙ by_end (goal.at.returns-in-Recolored c).After-recolor _ c.in-Recolored.is
+    let after_recolor = (goal.at.returns-in-Recolored c).After-recolor in
+    let taken = c.copy_from_slice.ensures.after ∙ front after_recolor in
+    ap (λ (l : List ℕ). outcome (kept c.in-Recolored.step) l c.args.edge_matrix.now) taken ∙ by_end after_recolor _ c.in-Recolored.is
 
 pub returns-in-Stopped : goal.returns-in-Stopped
 returns-in-Stopped c =
-    ap (outcome (declined c.in-Stopped.step) c.args.coloring.now) c.enter_pair.ensures ∙ by_end (goal.at.returns-in-Stopped c).After-recolor _ c.in-Stopped.is
+    let after_recolor = (goal.at.returns-in-Stopped c).After-recolor in
+    ap (outcome (declined c.in-Stopped.step) c.args.coloring.now) c.enter_pair.ensures ∙ by_end after_recolor _ c.in-Stopped.is

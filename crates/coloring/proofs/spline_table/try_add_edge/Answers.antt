@@ -9,13 +9,17 @@ use Rattle.coloring.proofs.recolor.RowLaws.{square_below}
 use Rattle.coloring.proofs.spline_table.OfferLaws.{Unrefused, unrefused_offerable, offer-many, offer-lengths, offer_unsound}
 use Rattle.coloring.proofs.spline_table.OfferLaws.{offer-first, offer-second, offer_equal, offer_rule}
 use Rattle.coloring.proofs.spline_table.try_add_edge.Goals as goal
-use Rattle.coloring.proofs.spline_table.try_add_edge.Goals.{Else-a-b, Start, then-n-a-via-else-n-a+else-n-b+then-a-b, then-n-a-via-else-n-a+then-n-b, then-n-a-via-then-n-a}
+use Rattle.coloring.proofs.spline_table.try_add_edge.Goals.{Else-a-b, Start, then-n-a-via-else-n-a+else-n-b+then-a-b, then-n-a-via-else-n-a+then-n-b}
+use Rattle.coloring.proofs.spline_table.try_add_edge.Goals.{then-n-a-via-then-n-a}
 
 abbrev given : Start → Table
 given start = table_of start.args.coloring.now start.args.edge_matrix.now
 
 module _ (c : Else-a-b) where
-  passes : Unrefused (given (goal.at.Else-a-b c).Start) c.args.a c.args.b
+  abbrev start_2 : Start
+  start_2 = (goal.at.Else-a-b c).Start
+
+  passes : Unrefused (given start_2) c.args.a c.args.b
   passes =
       record {
         few = c.if-n-gt-MAX_SPLINES.false;
@@ -27,13 +31,17 @@ module _ (c : Else-a-b) where
       }
 
 pub returns-then-n-gt-MAX_SPLINES : goal.returns-then-n-gt-MAX_SPLINES
-returns-then-n-gt-MAX_SPLINES c = sym (offer-many (given (goal.at.returns-then-n-gt-MAX_SPLINES c).Start) c.args.a c.args.b c.if-n-gt-MAX_SPLINES.true)
+returns-then-n-gt-MAX_SPLINES c =
+    let start_3 = (goal.at.returns-then-n-gt-MAX_SPLINES c).Start in
+    sym (offer-many (given start_3) c.args.a c.args.b c.if-n-gt-MAX_SPLINES.true)
 
 pub overflow_mul-n : goal.overflow_mul-n
 overflow_mul-n c = omega (arith, square_below c.if-n-gt-MAX_SPLINES.false)
 
 pub returns-then-edge_matrix-n : goal.returns-then-edge_matrix-n
-returns-then-edge_matrix-n c = sym (offer-lengths (given (goal.at.returns-then-edge_matrix-n c).Start) c.args.a c.args.b c.if-n-gt-MAX_SPLINES.false c.if-edge_matrix-n.true)
+returns-then-edge_matrix-n c =
+    let start_3 = (goal.at.returns-then-edge_matrix-n c).Start in
+    sym (offer-lengths (given start_3) c.args.a c.args.b c.if-n-gt-MAX_SPLINES.false c.if-edge_matrix-n.true)
 
 pub returns-then-not-is_sound : goal.returns-then-not-is_sound
 returns-then-not-is_sound c =

@@ -24,7 +24,9 @@ one : (c : Then-count_corners-eq1) → corner_count c.args.flags.now ≡ 1
 one c = sym c.count_corners.ensures ∙ c.if-count_corners-eq1.true
 
 two : (c : Then-count_corners-eq1) → length c.args.values.now ≡ 2
-two c = c.requires.valued ∙ splines-few _ (some (goal.at.Then-count_corners-eq1 c).After-count_corners) (omega (arith, one c)) ∙ ap (λ n. suc n) (one c)
+two c =
+    let after_count_corners = (goal.at.Then-count_corners-eq1 c).After-count_corners in
+    c.requires.valued ∙ splines-few _ (some after_count_corners) (omega (arith, one c)) ∙ ap (λ n. suc n) (one c)
 
 not_one : (c : Else-count_corners-eq1) → eqb (corner_count c.args.flags.now) 1 ≡ false
 not_one c = rw (← c.count_corners.ensures) (ne_eqb _ _ c.if-count_corners-eq1.false)
@@ -45,15 +47,17 @@ bounds-values-1 c = omega (arith, two (goal.at.bounds-values-1 c).Then-count_cor
 
 pub paint_runs-requires : goal.paint_runs-requires
 paint_runs-requires c =
+    let then_count_corners_eq1 = (goal.at.paint_runs-requires c).Then-count_corners-eq1 in
     let pre = c.requires in
-    (rw (c.first_corner.ensures, pre.room) (first-within _ (omega (arith, one (goal.at.paint_runs-requires c).Then-count_corners-eq1))), rw pre.room pre.few)
+    (rw (c.first_corner.ensures, pre.room) (first-within _ (omega (arith, one then_count_corners_eq1))), rw pre.room pre.few)
 
 pub returns-then-count_corners-eq1 : goal.returns-then-count_corners-eq1
 returns-then-count_corners-eq1 c =
+    let then_count_corners_eq1 = (goal.at.returns-then-count_corners-eq1 c).Then-count_corners-eq1 in
     let values = c.args.values.now in
-    let h = two (goal.at.returns-then-count_corners-eq1 c).Then-count_corners-eq1 in
+    let h = two then_count_corners_eq1 in
     rw (
-      paint-one _ _ _ _ (eq-eqb _ _ (one (goal.at.returns-then-count_corners-eq1 c).Then-count_corners-eq1)),
+      paint-one _ _ _ _ (eq-eqb _ _ (one then_count_corners_eq1)),
       get_d_any values 0 c.args.middle 0 (omega arith),
       get_d_any values 1 c.args.middle 0 (omega arith),
     )
@@ -64,6 +68,11 @@ spread-requires c = (values_some (goal.at.spread-requires c).Else-count_corners-
 
 pub returns : goal.returns
 returns c =
+    let else_count_corners_eq1 = (goal.at.returns c).Else-count_corners-eq1 in
     let values = c.args.values.now in
-    rw (paint-spread _ _ _ _ (not_one (goal.at.returns c).Else-count_corners-eq1), get_d_any values (length values - 1) c.args.middle 0 (omega (arith, values_some (goal.at.returns c).Else-count_corners-eq1)))
+    rw (
+      paint-spread _ _ _ _ (not_one else_count_corners_eq1),
+      get_d_any values (length values - 1) c.args.middle 0
+          (omega (arith, values_some else_count_corners_eq1)),
+    )
     c.spread.ensures

@@ -52,12 +52,15 @@ module _ (c : In-loop-i) where
   next = left_step spline_count c.args.lengths.now c.args.flags.now c.loop-i.i c.loop-i.at c.loop-i-test.true
 
 module _ (c : After-part_splines) where
+  abbrev in_loop_i : In-loop-i
+  in_loop_i = (goal.at.After-part_splines c).In-loop-i
+
   -- its splines, and their values
-  counted : c.part_splines.result ≡ spline_count (part (goal.at.After-part_splines c).In-loop-i)
-  counted = rw (whole (goal.at.After-part_splines c).In-loop-i) at c.part_splines.ensures
+  counted : c.part_splines.result ≡ spline_count (part in_loop_i)
+  counted = rw (whole in_loop_i) at c.part_splines.ensures
 
   fit : c.loop-i.from + c.part_splines.result ≤ length c.args.values.now
-  fit = omega (arith, counted, c.loop-i.invariant.splines, next (goal.at.After-part_splines c).In-loop-i)
+  fit = omega (arith, counted, c.loop-i.invariant.splines, next in_loop_i)
 
 pub loop-i-init : goal.loop-i-init
 loop-i-init c =
@@ -84,7 +87,13 @@ overflow_add-to c = omega (arith, fit c, c.well_formed)
 
 pub paint_part-requires : goal.paint_part-requires
 paint_part-requires c =
-    let pre = c.requires in record { at_le_end = (omega arith, room (goal.at.paint_part-requires c).In-loop-i, pre.lengths_value.1, c.loop-i.invariant.long); to_value = (ap (λ k. c.loop-i.from + k) c.part_splines.ensures, fit (goal.at.paint_part-requires c).After-part_splines) }
+    let in_loop_i_2 = (goal.at.paint_part-requires c).In-loop-i in
+    let after_part_splines = (goal.at.paint_part-requires c).After-part_splines in
+    let pre = c.requires in record {
+      at_le_end = (omega arith, room in_loop_i_2, pre.lengths_value.1, c.loop-i.invariant.long);
+      to_value
+          = (ap (λ k. c.loop-i.from + k) c.part_splines.ensures, fit after_part_splines);
+    }
 
 pub overflow_add-i : goal.overflow_add-i
 overflow_add-i c =

@@ -20,9 +20,11 @@ turned bits k =
 
 turns : (color : EdgeColor) (value : ℕ) → value < 2 → from_bits (turned (bits_of color) (1 + value)) ≡ turn_left (1 + value) color
 unfolding turn_left
-turns color zero h = elim color as (λ k. from_bits (turned (bits_of k) (1 + 0)) ≡ turn_left (1 + 0) k) [ Black ↦ refl | Red ↦ refl | Green ↦ refl | Yellow ↦ refl | Blue ↦ refl | Magenta ↦ refl | Cyan ↦ refl | White ↦ refl ]
+turns color zero h = elim color as (λ k. from_bits (turned (bits_of k) (1 + 0)) ≡ turn_left (1 + 0) k)
+    [ Black ↦ refl | Red ↦ refl | Green ↦ refl | Yellow ↦ refl | Blue ↦ refl | Magenta ↦ refl | Cyan ↦ refl | White ↦ refl ]
 turns color (suc zero) h =
-    elim color as (λ k. from_bits (turned (bits_of k) (1 + 1)) ≡ turn_left (1 + 1) k) [ Black ↦ refl | Red ↦ refl | Green ↦ refl | Yellow ↦ refl | Blue ↦ refl | Magenta ↦ refl | Cyan ↦ refl | White ↦ refl ]
+    elim color as (λ k. from_bits (turned (bits_of k) (1 + 1)) ≡ turn_left (1 + 1) k)
+    [ Black ↦ refl | Red ↦ refl | Green ↦ refl | Yellow ↦ refl | Blue ↦ refl | Magenta ↦ refl | Cyan ↦ refl | White ↦ refl ]
 turns color (suc (suc value)) h = absurd (omega arith)
 
 switches : (pen : Pen) (draw : Draw) (bits : ℕ) (color : EdgeColor)

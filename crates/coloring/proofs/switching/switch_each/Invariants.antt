@@ -6,7 +6,8 @@ use Rattle.coloring.proofs.switching.DrawLaws.{Drawing}
 use Rattle.coloring.proofs.switching.switch_each.Given as goal
 
 abbrev pub invariant-loop-i : goal.invariant-loop-i
-invariant-loop-i l = (l.i ≤ length l.initial.colors) × Drawing (switch_each (length l.initial.colors) l.initial.pen) (length l.initial.colors) l.i l.colors (switch_each (length l.initial.colors - l.i) l.pen)
+invariant-loop-i l = (l.i ≤ length l.initial.colors) × Drawing (switch_each (length l.initial.colors) l.initial.pen) (length l.initial.colors) l.i l.colors
+    (switch_each (length l.initial.colors - l.i) l.pen)
 
 abbrev pub decreases-loop-i : goal.decreases-loop-i
 decreases-loop-i l = length l.initial.colors - l.i

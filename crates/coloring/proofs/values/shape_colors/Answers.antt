@@ -60,9 +60,12 @@ module _ (c : In-loop-i) where
   whole = omega arith
 
 module _ (c : After-part_splines) where
+  abbrev in_loop_i : In-loop-i
+  in_loop_i = (goal.at.After-part_splines c).In-loop-i
+
   -- its splines, and places for them
-  counted : c.part_splines.result ≡ spline_count (part (goal.at.After-part_splines c).In-loop-i)
-  counted = rw (whole (goal.at.After-part_splines c).In-loop-i) at c.part_splines.ensures
+  counted : c.part_splines.result ≡ spline_count (part in_loop_i)
+  counted = rw (whole in_loop_i) at c.part_splines.ensures
 
   fit : c.loop-i.to + c.part_splines.result ≤ length c.loop-i.colors
   fit =
@@ -94,7 +97,13 @@ overflow_add-next c = omega (arith, fit c, c.loop-i.invariant.long, c.well_forme
 
 pub part_colors-pen-requires : goal.part_colors-pen-requires
 part_colors-pen-requires c =
-    record { part = record { matching = c.requires.cut.matching; start = omega arith; inside = room (goal.at.part_colors-pen-requires c).In-loop-i }; next_value = (ap (λ k. c.loop-i.to + k) c.part_splines.ensures, fit (goal.at.part_colors-pen-requires c).After-part_splines) }
+    let in_loop_i_2 = (goal.at.part_colors-pen-requires c).In-loop-i in
+    let after_part_splines = (goal.at.part_colors-pen-requires c).After-part_splines in
+    record {
+      part = record { matching = c.requires.cut.matching; start = omega arith; inside = room in_loop_i_2 };
+      next_value
+          = (ap (λ k. c.loop-i.to + k) c.part_splines.ensures, fit after_part_splines);
+    }
 
 pub overflow_add-i : goal.overflow_add-i
 overflow_add-i c =
@@ -105,9 +114,11 @@ loop-i-smaller c = omega arith
 
 pub loop-i-preserved : goal.loop-i-preserved
 loop-i-preserved c =
+    let after_part_splines = (goal.at.loop-i-preserved c).After-part_splines in
+    let in_loop_i_2 = (goal.at.loop-i-preserved c).In-loop-i in
     let s = c.loop-i in
-    coloring-next _ _ _ _ _ _ _ _ _ _ _ _ s.invariant c.loop-i-test.true (counted (goal.at.loop-i-preserved c).After-part_splines) c.part_colors-pen.auto.colors
-    (rw (whole (goal.at.loop-i-preserved c).In-loop-i) at c.part_colors-pen.ensures)
+    coloring-next _ _ _ _ _ _ _ _ _ _ _ _ s.invariant c.loop-i-test.true (counted after_part_splines) c.part_colors-pen.auto.colors
+    (rw (whole in_loop_i_2) at c.part_colors-pen.ensures)
 
 pub shape_of-colors : goal.shape_of-colors
 shape_of-colors c = c.loop-i.invariant.long

@@ -29,7 +29,8 @@ pub record Coloring (strategy : Strategy) (lengths : List ℕ) (xs : List EdgeSe
       ≡ take to colors ++ color_bytes strategy pen (cornered (drop i lengths) (drop at xs) (drop at flags))
 
 abbrev pub invariant-loop-i : goal.invariant-loop-i
-invariant-loop-i l = Coloring l.strategy l.lengths (edges_of l.kinds l.points) l.flags l.initial.pen (length l.kinds) (length l.initial.colors) l.colors l.pen l.at l.to l.i
+invariant-loop-i l = Coloring l.strategy l.lengths (edges_of l.kinds l.points) l.flags l.initial.pen (length l.kinds) (length l.initial.colors) l.colors
+    l.pen l.at l.to l.i
 
 abbrev pub decreases-loop-i : goal.decreases-loop-i
 decreases-loop-i l = length l.lengths - l.i

@@ -25,22 +25,31 @@ size c =
 
 pub returns-then-count_corners-lt2 : goal.returns-then-count_corners-lt2
 returns-then-count_corners-lt2 c =
-    rw (colors-few c.args.strategy c.args.pen (contour (goal.at.returns-then-count_corners-lt2 c).Start) (few (goal.at.returns-then-count_corners-lt2 c).Then-count_corners-lt2), ← c.requires.1)
+    let start = (goal.at.returns-then-count_corners-lt2 c).Start in
+    let then_count_corners_lt2 = (goal.at.returns-then-count_corners-lt2 c).Then-count_corners-lt2 in
+    rw (colors-few c.args.strategy c.args.pen (contour start) (few then_count_corners_lt2), ← c.requires.1)
     c.switch_each.ensures
 
 pub simple_colors-requires : goal.simple_colors-requires
-simple_colors-requires c = omega (arith, size (goal.at.simple_colors-requires c).Else-count_corners-lt2, many (goal.at.simple_colors-requires c).Else-count_corners-lt2)
+simple_colors-requires c =
+    let else_count_corners_lt2 = (goal.at.simple_colors-requires c).Else-count_corners-lt2 in
+    omega (arith, size else_count_corners_lt2, many else_count_corners_lt2)
 
 pub ink_trap_colors-requires : goal.ink_trap_colors-requires
 ink_trap_colors-requires c =
-    (c.requires.0, many (goal.at.ink_trap_colors-requires c).Else-count_corners-lt2, size (goal.at.ink_trap_colors-requires c).Else-count_corners-lt2)
+    let else_count_corners_lt2 = (goal.at.ink_trap_colors-requires c).Else-count_corners-lt2 in
+    (c.requires.0, many else_count_corners_lt2, size else_count_corners_lt2)
 
 pub returns-in-Simple : goal.returns-in-Simple
 returns-in-Simple c =
-    rw (colors_simple c.args.strategy c.args.pen (contour (goal.at.returns-in-Simple c).Start) c.in-Simple.is (many (goal.at.returns-in-Simple c).Else-count_corners-lt2), ← size (goal.at.returns-in-Simple c).Else-count_corners-lt2)
+    let start = (goal.at.returns-in-Simple c).Start in
+    let else_count_corners_lt2 = (goal.at.returns-in-Simple c).Else-count_corners-lt2 in
+    rw (colors_simple c.args.strategy c.args.pen (contour start) c.in-Simple.is (many else_count_corners_lt2), ← size else_count_corners_lt2)
     c.simple_colors.ensures
 
 pub returns-in-InkTrap : goal.returns-in-InkTrap
 returns-in-InkTrap c =
-    rw (colors_ink_trap c.args.strategy c.args.pen (contour (goal.at.returns-in-InkTrap c).Start) c.in-InkTrap.is (many (goal.at.returns-in-InkTrap c).Else-count_corners-lt2))
+    let start = (goal.at.returns-in-InkTrap c).Start in
+    let else_count_corners_lt2 = (goal.at.returns-in-InkTrap c).Else-count_corners-lt2 in
+    rw (colors_ink_trap c.args.strategy c.args.pen (contour start) c.in-InkTrap.is (many else_count_corners_lt2))
     c.ink_trap_colors.ensures

@@ -28,7 +28,8 @@ use Rattle.coloring.proofs.values.spline_values.Goals.{After-slice_known-1}
 -- the answer and the bytes for n splines of the contours found
 module _ (distances : List Float) (found : List Cornered) (n : ℕ) (sized : n ≡ spline_total found) where
   abbrev Valued : Marking → Checked → List ℕ → Type 0
-  Valued marking r values = (checked_answer r ≡ first_refusal (check_marking marking n distances)) × (r ≡ Passed → values ≡ spline_values marking distances found)
+  Valued marking r values = (checked_answer r ≡ first_refusal (check_marking marking n distances)) ×
+      (r ≡ Passed → values ≡ spline_values marking distances found)
 
   module _ {marking : Marking} {values : List ℕ} where
     by_colors : {strategy : Strategy} {seed : ℕ} → marking ≡ Colors strategy seed
@@ -64,25 +65,29 @@ module _ (c : After-slice_known-1) where
 
 pub returns-then-values-gt-MAX_SPLINES : goal.returns-then-values-gt-MAX_SPLINES
 returns-then-values-gt-MAX_SPLINES c =
+    let after_slice_known = (goal.at.returns-then-values-gt-MAX_SPLINES c).After-slice_known-1 in
     let v =
-    too_many c.args.distances.now (found (goal.at.returns-then-values-gt-MAX_SPLINES c).After-slice_known-1) _ (size (goal.at.returns-then-values-gt-MAX_SPLINES c).After-slice_known-1) c.in-Numbers.is c.if-values-gt-MAX_SPLINES.true in
+    too_many c.args.distances.now (found after_slice_known) _ (size after_slice_known) c.in-Numbers.is c.if-values-gt-MAX_SPLINES.true in
     record { answer = v.0; bytes = v.1 }
 
 pub returns-in-Colors : goal.returns-in-Colors
 returns-in-Colors c =
+    let after_slice_known = (goal.at.returns-in-Colors c).After-slice_known-1 in
     let v =
-    by_colors c.args.distances.now (found (goal.at.returns-in-Colors c).After-slice_known-1) _ (size (goal.at.returns-in-Colors c).After-slice_known-1) c.in-Colors.is c.shape_colors.ensures in
+    by_colors c.args.distances.now (found after_slice_known) _ (size after_slice_known) c.in-Colors.is c.shape_colors.ensures in
     record { answer = v.0; bytes = v.1 }
 
 pub returns-else-values-gt-MAX_SPLINES : goal.returns-else-values-gt-MAX_SPLINES
 returns-else-values-gt-MAX_SPLINES c =
+    let after_slice_known = (goal.at.returns-else-values-gt-MAX_SPLINES c).After-slice_known-1 in
     let v =
-    by_numbers c.args.distances.now (found (goal.at.returns-else-values-gt-MAX_SPLINES c).After-slice_known-1) _ (size (goal.at.returns-else-values-gt-MAX_SPLINES c).After-slice_known-1) c.in-Numbers.is c.if-values-gt-MAX_SPLINES.false c.count_up.ensures in
+    by_numbers c.args.distances.now (found after_slice_known) _ (size after_slice_known) c.in-Numbers.is c.if-values-gt-MAX_SPLINES.false c.count_up.ensures in
     record { answer = v.0; bytes = v.1 }
 
 pub returns-in-Distances : goal.returns-in-Distances
 returns-in-Distances c =
+    let after_slice_known = (goal.at.returns-in-Distances c).After-slice_known-1 in
     let v =
-    by_distances c.args.distances.now (found (goal.at.returns-in-Distances c).After-slice_known-1) _ (size (goal.at.returns-in-Distances c).After-slice_known-1) _ c.in-Distances.is refl c.color_splines-checked.ensures
+    by_distances c.args.distances.now (found after_slice_known) _ (size after_slice_known) _ c.in-Distances.is refl c.color_splines-checked.ensures
     c.color_numbers.ensures in
     record { answer = v.0; bytes = v.1 }

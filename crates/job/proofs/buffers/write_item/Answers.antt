@@ -22,25 +22,34 @@ module _ (c : Start) where
       (buffers c.args.lengths.now c.args.kinds.now c.args.points.now c.args.distances.now)) e c.requires
 
 module _ (c : In-Edge) where
+  abbrev start : Start
+  start = (goal.at.In-Edge c).Start
+
   abbrev kind : Kind
   kind = c.in-Edge.kind
 
   edge-room : RecordFits (Edge kind) c.args.n c.args.bytes.now
       (buffers c.args.lengths.now c.args.kinds.now c.args.points.now c.args.distances.now)
-  edge-room = room (goal.at.In-Edge c).Start (Edge kind) c.in-Edge.is
+  edge-room = room start (Edge kind) c.in-Edge.is
 
   -- the place of the last contour
   last-room : (1 ≤ c.args.n.contours) × (c.args.n.contours - 1 < length c.args.lengths.now)
   last-room = (omega (arith, edge-room.0), omega (arith, edge-room.0, edge-room.1))
 
 module _ (c : After-body_size-end) where
-  end_is : 2 + c.body_size-end.result ≡ 2 + 16 * controls (kind (goal.at.After-body_size-end c).In-Edge)
+  abbrev in_edge : In-Edge
+  in_edge = (goal.at.After-body_size-end c).In-Edge
+
+  end_is : 2 + c.body_size-end.result ≡ 2 + 16 * controls (kind in_edge)
   end_is = ap (λ (k : ℕ). 2 + k) c.body_size-end.ensures
 
 module _ (c : In-Distances) where
+  abbrev start_2 : Start
+  start_2 = (goal.at.In-Distances c).Start
+
   distances_room : RecordFits (Distances c.in-Distances.count) c.args.n c.args.bytes.now
       (buffers c.args.lengths.now c.args.kinds.now c.args.points.now c.args.distances.now)
-  distances_room = room (goal.at.In-Distances c).Start (Distances c.in-Distances.count) c.in-Distances.is
+  distances_room = room start_2 (Distances c.in-Distances.count) c.in-Distances.is
 
 pub offset_bounds-lengths-contours : goal.offset_bounds-lengths-contours
 offset_bounds-lengths-contours c = omega (arith, room (goal.at.offset_bounds-lengths-contours c).Start Contour c.in-Contour.is)
@@ -94,10 +103,11 @@ pub slice_bounds-write_floats-start : goal.slice_bounds-write_floats-start
 slice_bounds-write_floats-start c = omega (arith, distances_room (goal.at.slice_bounds-write_floats-start c).In-Distances)
 
 pub write_floats-requires : goal.write_floats-requires
-write_floats-requires c = (
-  simp (length-take, length-drop) (omega (arith, distances_room (goal.at.write_floats-requires c).In-Distances)),
-  omega (arith, distances_room (goal.at.write_floats-requires c).In-Distances),
-)
+write_floats-requires c =
+    let in_distances = (goal.at.write_floats-requires c).In-Distances in (
+      simp (length-take, length-drop) (omega (arith, distances_room in_distances)),
+      omega (arith, distances_room in_distances),
+    )
 
 pub returns-in-Header : goal.returns-in-Header
 unfolding written
@@ -114,9 +124,11 @@ returns-in-Contour c = rw c.in-Contour.is (record { lengths_are = refl; kinds_ar
 pub returns-in-Edge : goal.returns-in-Edge
 unfolding written
 returns-in-Edge c =
+    let in_edge_2 = (goal.at.returns-in-Edge c).In-Edge in
+    let after_body_size_end = (goal.at.returns-in-Edge c).After-body_size-end in
     let i = c.args.n.edges in
     let eight : 8 * i + 8 - 8 * i ≡ 8 = omega arith in
-    let size : 2 + c.body_size-end.result - 2 ≡ 16 * controls (kind (goal.at.returns-in-Edge c).In-Edge) = omega (arith, end_is (goal.at.returns-in-Edge c).After-body_size-end) in
+    let size : 2 + c.body_size-end.result - 2 ≡ 16 * controls (kind in_edge_2) = omega (arith, end_is after_body_size_end) in
     rw c.in-Edge.is
     (record {
       lengths_are = refl;

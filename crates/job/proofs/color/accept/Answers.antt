@@ -21,7 +21,10 @@ numbers_are c = sym (ap read_answer c.in-Job.is) ∙ c.scan.ensures
 
 pub returns-then-not-by_distance : goal.returns-then-not-by_distance
 unfolding accept_job
-returns-then-not-by_distance c = accept_plain (read_job (file (goal.at.returns-then-not-by_distance c).After-scan)) _ (numbers_are (goal.at.returns-then-not-by_distance c).In-Job)
+returns-then-not-by_distance c =
+    let after_scan = (goal.at.returns-then-not-by_distance c).After-scan in
+    let in_job = (goal.at.returns-then-not-by_distance c).In-Job in
+    accept_plain (read_job (file after_scan)) _ (numbers_are in_job)
     (sym c.by_distance.ensures ∙ not-true c.by_distance.result c.if-not-by_distance.true-raw)
 
 pub returns-in-Edges : goal.returns-in-Edges
@@ -33,7 +36,8 @@ returns-in-Edges c =
 pub returns-in-Refused-check : goal.returns-in-Refused-check
 unfolding accept_job check_file
 returns-in-Refused-check c =
-    accept_refused (read_job (file (goal.at.returns-in-Refused-check c).After-scan)) _ (sym (ap colored_answer c.in-Refused-check.is) ∙ c.check.ensures)
+    let after_scan = (goal.at.returns-in-Refused-check c).After-scan in
+    accept_refused (read_job (file after_scan)) _ (sym (ap colored_answer c.in-Refused-check.is) ∙ c.check.ensures)
 
 pub returns-in-Refused : goal.returns-in-Refused
 unfolding accept_job

@@ -25,7 +25,10 @@ module _ (c : Start) where
 
 -- the job, written into the places
 module _ (c : After-slice_known-12-1) where
-  holding : Holding (file (goal.at.After-slice_known-12-1 c).Start) c.args.n (old (goal.at.After-slice_known-12-1 c).Start) c.fill.new.lengths c.fill.new.kinds c.fill.new.points
+  abbrev start : Start
+  start = (goal.at.After-slice_known-12-1 c).Start
+
+  holding : Holding (file start) c.args.n (old start) c.fill.new.lengths c.fill.new.kinds c.fill.new.points
       c.fill.new.distances
   holding = holding_of _ _ _ c.requires.asks_distances.numbers_are _ _ _ _ c.fill.ensures
 
@@ -39,21 +42,30 @@ pub slice_bounds-collect_splines-end : goal.slice_bounds-collect_splines-end
 slice_bounds-collect_splines-end c = contours-within (holding (goal.at.slice_bounds-collect_splines-end c).After-slice_known-12-1)
 
 pub slice_bounds-collect_splines-end-2 : goal.slice_bounds-collect_splines-end-2
-slice_bounds-collect_splines-end-2 c = sym (length-take-le _ _ (contours-within (holding (goal.at.slice_bounds-collect_splines-end-2 c).After-slice_known-12-1)))
+slice_bounds-collect_splines-end-2 c =
+    let after_slice_known = (goal.at.slice_bounds-collect_splines-end-2 c).After-slice_known-12-1 in
+    sym (length-take-le _ _ (contours-within (holding after_slice_known)))
 
 pub slice_bounds-collect_splines-end-3 : goal.slice_bounds-collect_splines-end-3
 slice_bounds-collect_splines-end-3 c = kinds-within (holding (goal.at.slice_bounds-collect_splines-end-3 c).After-slice_known-12-1)
 
 pub slice_bounds-collect_splines-end-4 : goal.slice_bounds-collect_splines-end-4
-slice_bounds-collect_splines-end-4 c = sym (length-take-le _ _ (kinds-within (holding (goal.at.slice_bounds-collect_splines-end-4 c).After-slice_known-12-1)))
+slice_bounds-collect_splines-end-4 c =
+    let after_slice_known = (goal.at.slice_bounds-collect_splines-end-4 c).After-slice_known-12-1 in
+    sym (length-take-le _ _ (kinds-within (holding after_slice_known)))
 
 pub slice_bounds-collect_splines-end-5 : goal.slice_bounds-collect_splines-end-5
 slice_bounds-collect_splines-end-5 c = places-within (holding (goal.at.slice_bounds-collect_splines-end-5 c).After-slice_known-12-1)
 
 pub slice_bounds-collect_splines-end-6 : goal.slice_bounds-collect_splines-end-6
-slice_bounds-collect_splines-end-6 c = sym (length-take-le _ _ (places-within (holding (goal.at.slice_bounds-collect_splines-end-6 c).After-slice_known-12-1)))
+slice_bounds-collect_splines-end-6 c =
+    let after_slice_known = (goal.at.slice_bounds-collect_splines-end-6 c).After-slice_known-12-1 in
+    sym (length-take-le _ _ (places-within (holding after_slice_known)))
 
 pub returns : goal.returns
 returns c =
+    let after_slice_known = (goal.at.returns c).After-slice_known-12-1 in
+    let start_2 = (goal.at.returns c).Start in
     c.paired.ensures ∙ ap (λ (o : Outcome). paired o.answer c.args.n.distances) c.collect_splines-counted.ensures
-    ∙ held-checked (holding (goal.at.returns c).After-slice_known-12-1) c.float-threshold.result (out (goal.at.returns c).Start) c.requires.holds_results c.requires.asks_distances.asks c.float-threshold.ensures
+    ∙ held-checked (holding after_slice_known) c.float-threshold.result (out start_2) c.requires.holds_results c.requires.asks_distances.asks
+    c.float-threshold.ensures

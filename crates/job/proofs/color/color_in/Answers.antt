@@ -27,14 +27,23 @@ module _ (c : Start) where
 
 -- a file that was read
 module _ (c : In-Job) where
-  numbers_are : gives c.in-Job.n ≡ answer_of (read_job (file (goal.at.In-Job c).Start))
+  abbrev start : Start
+  start = (goal.at.In-Job c).Start
+
+  numbers_are : gives c.in-Job.n ≡ answer_of (read_job (file start))
   numbers_are = sym (ap read_answer c.in-Job.is) ∙ c.scan.ensures
 
 -- its job, written into the places
 module _ (c : After-slice_known-in-Job-4-1) where
-  holding : Holding (file (goal.at.After-slice_known-in-Job-4-1 c).Start) c.in-Job.n (old (goal.at.After-slice_known-in-Job-4-1 c).Start) c.fill.new.lengths c.fill.new.kinds c.fill.new.points
+  abbrev start_2 : Start
+  start_2 = (goal.at.After-slice_known-in-Job-4-1 c).Start
+
+  abbrev in_job : In-Job
+  in_job = (goal.at.After-slice_known-in-Job-4-1 c).In-Job
+
+  holding : Holding (file start_2) c.in-Job.n (old start_2) c.fill.new.lengths c.fill.new.kinds c.fill.new.points
       c.fill.new.distances
-  holding = holding_of _ _ _ (numbers_are (goal.at.After-slice_known-in-Job-4-1 c).In-Job) _ _ _ _ c.fill.ensures
+  holding = holding_of _ _ _ (numbers_are in_job) _ _ _ _ c.fill.ensures
 
 pub fill-requires : goal.fill-requires
 fill-requires c = fits_jobs _ _ _ (numbers_are (goal.at.fill-requires c).In-Job) c.requires
@@ -46,30 +55,42 @@ pub slice_bounds-edge_coloring-end : goal.slice_bounds-edge_coloring-end
 slice_bounds-edge_coloring-end c = contours-within (holding (goal.at.slice_bounds-edge_coloring-end c).After-slice_known-in-Job-4-1)
 
 pub slice_bounds-edge_coloring-end-in-Job : goal.slice_bounds-edge_coloring-end-in-Job
-slice_bounds-edge_coloring-end-in-Job c = sym (length-take-le _ _ (contours-within (holding (goal.at.slice_bounds-edge_coloring-end-in-Job c).After-slice_known-in-Job-4-1)))
+slice_bounds-edge_coloring-end-in-Job c =
+    let after_slice_known_in_job = (goal.at.slice_bounds-edge_coloring-end-in-Job c).After-slice_known-in-Job-4-1 in
+    sym (length-take-le _ _ (contours-within (holding after_slice_known_in_job)))
 
 pub slice_bounds-edge_coloring-end-in-Job-2 : goal.slice_bounds-edge_coloring-end-in-Job-2
 slice_bounds-edge_coloring-end-in-Job-2 c = kinds-within (holding (goal.at.slice_bounds-edge_coloring-end-in-Job-2 c).After-slice_known-in-Job-4-1)
 
 pub slice_bounds-edge_coloring-end-in-Job-3 : goal.slice_bounds-edge_coloring-end-in-Job-3
-slice_bounds-edge_coloring-end-in-Job-3 c = sym (length-take-le _ _ (kinds-within (holding (goal.at.slice_bounds-edge_coloring-end-in-Job-3 c).After-slice_known-in-Job-4-1)))
+slice_bounds-edge_coloring-end-in-Job-3 c =
+    let after_slice_known_in_job = (goal.at.slice_bounds-edge_coloring-end-in-Job-3 c).After-slice_known-in-Job-4-1 in
+    sym (length-take-le _ _ (kinds-within (holding after_slice_known_in_job)))
 
 pub slice_bounds-edge_coloring-end-in-Job-4 : goal.slice_bounds-edge_coloring-end-in-Job-4
 slice_bounds-edge_coloring-end-in-Job-4 c = places-within (holding (goal.at.slice_bounds-edge_coloring-end-in-Job-4 c).After-slice_known-in-Job-4-1)
 
 pub slice_bounds-edge_coloring-end-in-Job-5 : goal.slice_bounds-edge_coloring-end-in-Job-5
-slice_bounds-edge_coloring-end-in-Job-5 c = sym (length-take-le _ _ (places-within (holding (goal.at.slice_bounds-edge_coloring-end-in-Job-5 c).After-slice_known-in-Job-4-1)))
+slice_bounds-edge_coloring-end-in-Job-5 c =
+    let after_slice_known_in_job = (goal.at.slice_bounds-edge_coloring-end-in-Job-5 c).After-slice_known-in-Job-4-1 in
+    sym (length-take-le _ _ (places-within (holding after_slice_known_in_job)))
 
 pub slice_bounds-edge_coloring-end-in-Job-6 : goal.slice_bounds-edge_coloring-end-in-Job-6
-slice_bounds-edge_coloring-end-in-Job-6 c = distances-within (holding (goal.at.slice_bounds-edge_coloring-end-in-Job-6 c).After-slice_known-in-Job-4-1)
+slice_bounds-edge_coloring-end-in-Job-6 c =
+    let after_slice_known_in_job = (goal.at.slice_bounds-edge_coloring-end-in-Job-6 c).After-slice_known-in-Job-4-1 in
+    distances-within (holding after_slice_known_in_job)
 
 pub slice_bounds-edge_coloring-end-in-Job-7 : goal.slice_bounds-edge_coloring-end-in-Job-7
-slice_bounds-edge_coloring-end-in-Job-7 c = sym (length-take-le _ _ (distances-within (holding (goal.at.slice_bounds-edge_coloring-end-in-Job-7 c).After-slice_known-in-Job-4-1)))
+slice_bounds-edge_coloring-end-in-Job-7 c =
+    let after_slice_known_in_job = (goal.at.slice_bounds-edge_coloring-end-in-Job-7 c).After-slice_known-in-Job-4-1 in
+    sym (length-take-le _ _ (distances-within (holding after_slice_known_in_job)))
 
 pub returns-in-Job : goal.returns-in-Job
 returns-in-Job c =
+    let after_slice_known_in_job = (goal.at.returns-in-Job c).After-slice_known-in-Job-4-1 in
+    let start_3 = (goal.at.returns-in-Job c).Start in
     c.edge_coloring.ensures
-    ∙ held-colored (holding (goal.at.returns-in-Job c).After-slice_known-in-Job-4-1) c.job_settings-settings.result (out (goal.at.returns-in-Job c).Start) c.job_settings-settings.ensures
+    ∙ held-colored (holding after_slice_known_in_job) c.job_settings-settings.result (out start_3) c.job_settings-settings.ensures
 
 pub returns-in-Refused : goal.returns-in-Refused
 returns-in-Refused c = color-refused _ _ _ (sym (ap read_answer c.in-Refused.is) ∙ c.scan.ensures)

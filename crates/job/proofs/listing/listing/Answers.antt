@@ -28,7 +28,8 @@ module _ (c : After-text-n) where
 
 pub returns-then-n-out : goal.returns-then-n-out
 returns-then-n-out c =
-    list_short (file (goal.at.returns-then-n-out c).After-text-n) (out (goal.at.returns-then-n-out c).After-text-n) c.text-n.result (counted (goal.at.returns-then-n-out c).After-text-n) c.if-n-out.true
+    let after_text_n = (goal.at.returns-then-n-out c).After-text-n in
+    list_short (file after_text_n) (out after_text_n) c.text-n.result (counted after_text_n) c.if-n-out.true
 
 pub slice_bounds-whole-end : goal.slice_bounds-whole-end
 slice_bounds-whole-end c = short (goal.at.slice_bounds-whole-end c).After-text-n
@@ -42,7 +43,8 @@ put_word-requires c =
 
 pub returns : goal.returns
 returns c =
+    let after_text_n = (goal.at.returns c).After-text-n in
     let fits = c.if-n-out.false in
-    list_fits (file (goal.at.returns c).After-text-n) (out (goal.at.returns c).After-text-n) c.text-n.result (counted (goal.at.returns c).After-text-n) c.put_word.new.out (omega arith)
-    (pasted_over c.put_word.ensures ∙ ap (λ (text : List ℕ). over text (out (goal.at.returns c).After-text-n))
-    (take-over (file_text (file (goal.at.returns c).After-text-n)) _ c.text-n.ensures.holds (counted (goal.at.returns c).After-text-n)))
+    list_fits (file after_text_n) (out after_text_n) c.text-n.result (counted after_text_n) c.put_word.new.out (omega arith)
+    (pasted_over c.put_word.ensures ∙ ap (λ (text : List ℕ). over text (out after_text_n))
+    (take-over (file_text (file after_text_n)) _ c.text-n.ensures.holds (counted after_text_n)))

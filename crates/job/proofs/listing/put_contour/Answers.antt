@@ -34,7 +34,12 @@ bounds-colors-i c = omega arith
 
 pub put_line-next-requires : goal.put_line-next-requires
 put_line-next-requires c =
-    (c.requires.contour_bound.0, omega (arith, c.requires.contour_bound.1), pasting_room (here (goal.at.put_line-next-requires c).In-loop-i) (rest (goal.at.put_line-next-requires c).In-loop-i) (step (goal.at.put_line-next-requires c).In-loop-i) c.loop-i.invariant.2)
+    let in_loop_i = (goal.at.put_line-next-requires c).In-loop-i in (
+      c.requires.contour_bound.0,
+      omega (arith, c.requires.contour_bound.1),
+      pasting_room (here in_loop_i) (rest in_loop_i) (step in_loop_i)
+          c.loop-i.invariant.2,
+    )
 
 pub overflow_add-i : goal.overflow_add-i
 overflow_add-i c = omega arith
@@ -43,11 +48,12 @@ pub loop-i-smaller : goal.loop-i-smaller
 loop-i-smaller c = omega arith
 
 pub loop-i-preserved : goal.loop-i-preserved
-loop-i-preserved c = (
-  omega arith,
-  c.put_line-next.auto.out ∙ c.loop-i.invariant.1,
-  pasting_next (here (goal.at.loop-i-preserved c).In-loop-i) (rest (goal.at.loop-i-preserved c).In-loop-i) (step (goal.at.loop-i-preserved c).In-loop-i) c.loop-i.invariant.2 c.put_line-next.ensures,
-)
+loop-i-preserved c =
+    let in_loop_i = (goal.at.loop-i-preserved c).In-loop-i in (
+      omega arith,
+      c.put_line-next.auto.out ∙ c.loop-i.invariant.1,
+      pasting_next (here in_loop_i) (rest in_loop_i) (step in_loop_i) c.loop-i.invariant.2 c.put_line-next.ensures,
+    )
 
 pub shape_of-out : goal.shape_of-out
 shape_of-out c = c.loop-i.invariant.1

@@ -41,9 +41,10 @@ put-requires-then-n-lt100 c =
 
 pub returns-then-n-lt100 : goal.returns-then-n-lt100
 returns-then-n-lt100 c =
-    rw (two (goal.at.returns-then-n-lt100 c).Then-n-lt100)
+    let then_n_lt100 = (goal.at.returns-then-n-lt100 c).Then-n-lt100 in
+    rw (two then_n_lt100)
     (pasted_then (written c.digit-then-n-lt100.ensures c.put-second.ensures)
-    (written c.digit-then-n-lt100-2.ensures c.put-then-n-lt100.ensures) (omega (arith, ap length (two (goal.at.returns-then-n-lt100 c).Then-n-lt100), c.requires.1)))
+    (written c.digit-then-n-lt100-2.ensures c.put-then-n-lt100.ensures) (omega (arith, ap length (two then_n_lt100), c.requires.1)))
 
 pub put-second-requires-2 : goal.put-second-requires-2
 put-second-requires-2 c = omega (arith, ap length (three (goal.at.put-second-requires-2 c).Else-n-lt100), c.requires.1)

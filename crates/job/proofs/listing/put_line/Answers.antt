@@ -26,17 +26,20 @@ module _ (c : Start) where
 
 -- two fields are written
 module _ (c : After-put_field-third) where
-  fields : Pasted (field (contour (goal.at.After-put_field-third c).Start) space ++ field (place (goal.at.After-put_field-third c).Start) space) c.args.at c.args.out.now c.put_field-third.result
+  abbrev start : Start
+  start = (goal.at.After-put_field-third c).Start
+
+  fields : Pasted (field (contour start) space ++ field (place start) space) c.args.at c.args.out.now c.put_field-third.result
       c.put_field-third.new.out
   fields = pasted_then c.put_field-second.ensures c.put_field-third.ensures
-      (omega (arith, room (goal.at.After-put_field-third c).Start, field-length (contour (goal.at.After-put_field-third c).Start) space, field-length (place (goal.at.After-put_field-third c).Start) space))
+      (omega (arith, room start, field-length (contour start) space, field-length (place start) space))
 
-  fields_length : length (field (contour (goal.at.After-put_field-third c).Start) space ++ field (place (goal.at.After-put_field-third c).Start) space) ≡ length (decimal (contour (goal.at.After-put_field-third c).Start)) + length (decimal (place (goal.at.After-put_field-third c).Start)) + 2
+  fields_length : length (field (contour start) space ++ field (place start) space) ≡ length (decimal (contour start)) + length (decimal (place start)) + 2
   fields_length = omega (
     arith,
-    length-append (field (contour (goal.at.After-put_field-third c).Start) space) (field (place (goal.at.After-put_field-third c).Start) space),
-    field-length (contour (goal.at.After-put_field-third c).Start) space,
-    field-length (place (goal.at.After-put_field-third c).Start) space,
+    length-append (field (contour start) space) (field (place start) space),
+    field-length (contour start) space,
+    field-length (place start) space,
   )
 
   kept : length c.put_field-third.new.out ≡ length c.args.out.now
@@ -44,63 +47,81 @@ module _ (c : After-put_field-third) where
 
 pub put_field-second-requires : goal.put_field-second-requires
 put_field-second-requires c =
-    (c.requires.0, omega (arith, room (goal.at.put_field-second-requires c).Start, field-length (contour (goal.at.put_field-second-requires c).Start) space))
+    let start_2 = (goal.at.put_field-second-requires c).Start in
+    (c.requires.0, omega (arith, room start_2, field-length (contour start_2) space))
 
 pub put_field-third-requires : goal.put_field-third-requires
-put_field-third-requires c = (
-  c.requires.1,
-  omega (
-    arith,
-    room (goal.at.put_field-third-requires c).Start,
-    field-length (contour (goal.at.put_field-third-requires c).Start) space,
-    field-length (place (goal.at.put_field-third-requires c).Start) space,
-    c.put_field-second.ensures.place,
-    c.put_field-second.auto.out,
-  ),
-)
+put_field-third-requires c =
+    let start_2 = (goal.at.put_field-third-requires c).Start in (
+      c.requires.1,
+      omega (
+        arith,
+        room start_2,
+        field-length (contour start_2) space,
+        field-length (place start_2) space,
+        c.put_field-second.ensures.place,
+        c.put_field-second.auto.out,
+      ),
+    )
 
 pub put-fourth-requires : goal.put-fourth-requires
 put-fourth-requires c =
-    omega (arith, room (goal.at.put-fourth-requires c).Start, (fields (goal.at.put-fourth-requires c).After-put_field-third).place, fields_length (goal.at.put-fourth-requires c).After-put_field-third, kept (goal.at.put-fourth-requires c).After-put_field-third)
+    let start_2 = (goal.at.put-fourth-requires c).Start in
+    let after_put_field_third = (goal.at.put-fourth-requires c).After-put_field-third in
+    omega (arith, room start_2, (fields after_put_field_third).place, fields_length after_put_field_third, kept after_put_field_third)
 
 pub put-fifth-requires : goal.put-fifth-requires
 put-fifth-requires c =
-    omega (arith, room (goal.at.put-fifth-requires c).Start, (fields (goal.at.put-fifth-requires c).After-put_field-third).place, fields_length (goal.at.put-fifth-requires c).After-put_field-third, kept (goal.at.put-fifth-requires c).After-put_field-third, c.put-fourth.ensures.place, c.put-fourth.auto.out)
+    let start_2 = (goal.at.put-fifth-requires c).Start in
+    let after_put_field_third = (goal.at.put-fifth-requires c).After-put_field-third in
+    omega (
+      arith,
+      room start_2,
+      (fields after_put_field_third).place,
+      fields_length after_put_field_third,
+      kept after_put_field_third,
+      c.put-fourth.ensures.place,
+      c.put-fourth.auto.out,
+    )
 
 pub put_field-requires : goal.put_field-requires
-put_field-requires c = (
-  omega (arith, c.ranges.color),
-  omega (
-    arith,
-    room (goal.at.put_field-requires c).Start,
-    (fields (goal.at.put_field-requires c).After-put_field-third).place,
-    fields_length (goal.at.put_field-requires c).After-put_field-third,
-    kept (goal.at.put_field-requires c).After-put_field-third,
-    c.put-fourth.ensures.place,
-    c.put-fourth.auto.out,
-    c.put-fifth.ensures.place,
-    c.put-fifth.auto.out,
-    field-length (color (goal.at.put_field-requires c).Start) newline,
-  ),
-)
+put_field-requires c =
+    let start_2 = (goal.at.put_field-requires c).Start in
+    let after_put_field_third = (goal.at.put_field-requires c).After-put_field-third in (
+      omega (arith, c.ranges.color),
+      omega (
+        arith,
+        room start_2,
+        (fields after_put_field_third).place,
+        fields_length after_put_field_third,
+        kept after_put_field_third,
+        c.put-fourth.ensures.place,
+        c.put-fourth.auto.out,
+        c.put-fifth.ensures.place,
+        c.put-fifth.auto.out,
+        field-length (color start_2) newline,
+      ),
+    )
 
 pub returns : goal.returns
 returns c =
+    let start_2 = (goal.at.returns c).Start in
+    let after_put_field_third = (goal.at.returns c).After-put_field-third in
     let old = c.args.out.now in
     let kind = c.letter.result in
-    let first = field (contour (goal.at.returns c).Start) space ++ field (place (goal.at.returns c).Start) space in
+    let first = field (contour start_2) space ++ field (place start_2) space in
     let lettered : Pasted (first ++ (kind ∷ [])) c.args.at old c.put-fourth.result c.put-fourth.new.out =
-    pasted_then (fields (goal.at.returns c).After-put_field-third) c.put-fourth.ensures (omega (arith, room (goal.at.returns c).Start, fields_length (goal.at.returns c).After-put_field-third)) in
+    pasted_then (fields after_put_field_third) c.put-fourth.ensures (omega (arith, room start_2, fields_length after_put_field_third)) in
     let spaced : Pasted ((first ++ (kind ∷ [])) ++ (space ∷ [])) c.args.at old c.put-fifth.result c.put-fifth.new.out =
-    pasted_then lettered c.put-fifth.ensures (omega (arith, room (goal.at.returns c).Start, fields_length (goal.at.returns c).After-put_field-third, length-append first (kind ∷ []))) in
+    pasted_then lettered c.put-fifth.ensures (omega (arith, room start_2, fields_length after_put_field_third, length-append first (kind ∷ []))) in
     let all = pasted_then spaced c.put_field.ensures (omega (
       arith,
-      room (goal.at.returns c).Start,
-      fields_length (goal.at.returns c).After-put_field-third,
+      room start_2,
+      fields_length after_put_field_third,
       length-append first (kind ∷ []),
       length-append (first ++ (kind ∷ [])) (space ∷ []),
-      field-length (color (goal.at.returns c).Start) newline,
+      field-length (color start_2) newline,
     )) in
     subst (λ (x : List ℕ). Pasted x c.args.at old c.put_field.result c.put_field.new.out)
-    (ap (λ (k : ℕ). ((first ++ (k ∷ [])) ++ (space ∷ [])) ++ field (color (goal.at.returns c).Start) newline) c.letter.ensures
-    ∙ line_fields (contour (goal.at.returns c).Start) (place (goal.at.returns c).Start) c.args.kind (color (goal.at.returns c).Start)) all
+    (ap (λ (k : ℕ). ((first ++ (k ∷ [])) ++ (space ∷ [])) ++ field (color start_2) newline) c.letter.ensures
+    ∙ line_fields (contour start_2) (place start_2) c.args.kind (color start_2)) all

@@ -75,17 +75,20 @@ pub slice_bounds-put_contour-start-in-loop-contour : goal.slice_bounds-put_conto
 slice_bounds-put_contour-start-in-loop-contour c = omega arith
 
 pub slice_bounds-put_contour-end-in-loop-contour : goal.slice_bounds-put_contour-end-in-loop-contour
-slice_bounds-put_contour-end-in-loop-contour c = omega (arith, inside (goal.at.slice_bounds-put_contour-end-in-loop-contour c).In-loop-contour, c.requires.lengths_len_bound.3)
+slice_bounds-put_contour-end-in-loop-contour c =
+    let in_loop_contour = (goal.at.slice_bounds-put_contour-end-in-loop-contour c).In-loop-contour in
+    omega (arith, inside in_loop_contour, c.requires.lengths_len_bound.3)
 
 pub put_contour-next-requires : goal.put_contour-next-requires
 put_contour-next-requires c =
+    let in_loop_contour = (goal.at.put_contour-next-requires c).In-loop-contour in
     record {
       contour_bound = (
         omega (arith, c.requires.lengths_len_bound.0),
         simp (length-take, length-drop) (omega (arith, c.requires.lengths_len_bound.1)),
         simp (length-take, length-drop) (omega (arith, c.requires.lengths_len_bound.3)),
       );
-      colors_in_bounds = pasting_room (here (goal.at.put_contour-next-requires c).In-loop-contour) (rest (goal.at.put_contour-next-requires c).In-loop-contour) (step (goal.at.put_contour-next-requires c).In-loop-contour) c.loop-contour.invariant.3;
+      colors_in_bounds = pasting_room (here in_loop_contour) (rest in_loop_contour) (step in_loop_contour) c.loop-contour.invariant.3;
     }
 
 pub overflow_add-contour : goal.overflow_add-contour
@@ -95,12 +98,13 @@ pub loop-contour-smaller : goal.loop-contour-smaller
 loop-contour-smaller c = omega arith
 
 pub loop-contour-preserved : goal.loop-contour-preserved
-loop-contour-preserved c = (
-  omega arith,
-  omega (arith, c.loop-contour.invariant.1, total-step (contour (goal.at.loop-contour-preserved c).In-loop-contour) c.args.lengths.now c.loop-contour-test.true),
-  c.put_contour-next.auto.out ∙ c.loop-contour.invariant.2,
-  pasting_next (here (goal.at.loop-contour-preserved c).In-loop-contour) (rest (goal.at.loop-contour-preserved c).In-loop-contour) (step (goal.at.loop-contour-preserved c).In-loop-contour) c.loop-contour.invariant.3 c.put_contour-next.ensures,
-)
+loop-contour-preserved c =
+    let in_loop_contour = (goal.at.loop-contour-preserved c).In-loop-contour in (
+      omega arith,
+      omega (arith, c.loop-contour.invariant.1, total-step (contour in_loop_contour) c.args.lengths.now c.loop-contour-test.true),
+      c.put_contour-next.auto.out ∙ c.loop-contour.invariant.2,
+      pasting_next (here in_loop_contour) (rest in_loop_contour) (step in_loop_contour) c.loop-contour.invariant.3 c.put_contour-next.ensures,
+    )
 
 pub shape_of-out : goal.shape_of-out
 shape_of-out c = c.loop-contour.invariant.2

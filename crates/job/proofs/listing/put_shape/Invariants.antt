@@ -15,7 +15,8 @@ lines contour lengths kinds colors = shape_lines contour (cut lengths kinds) (cu
 
 abbrev pub invariant-loop-contour : goal.invariant-loop-contour
 invariant-loop-contour l = (l.contour ≤ length l.lengths) × (l.from + total (drop l.contour l.lengths) ≡ length l.kinds) × (length l.out ≡ length l.initial.out)
-    × Pasting (lines 0 l.lengths l.kinds l.colors) l.at l.initial.out (lines l.contour (drop l.contour l.lengths) (drop l.from l.kinds) (drop l.from l.colors)) l.next l.out
+    × Pasting (lines 0 l.lengths l.kinds l.colors) l.at l.initial.out
+    (lines l.contour (drop l.contour l.lengths) (drop l.from l.kinds) (drop l.from l.colors)) l.next l.out
 
 abbrev pub decreases-loop-contour : goal.decreases-loop-contour
 decreases-loop-contour l = length l.lengths - l.contour

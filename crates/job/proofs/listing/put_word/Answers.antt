@@ -31,7 +31,8 @@ bounds-word-i c = omega arith
 
 pub put-next-requires : goal.put-next-requires
 put-next-requires c =
-    let room = pasting_room (here (goal.at.put-next-requires c).In-loop-i) (rest (goal.at.put-next-requires c).In-loop-i) (step (goal.at.put-next-requires c).In-loop-i) c.loop-i.invariant.2 in
+    let in_loop_i = (goal.at.put-next-requires c).In-loop-i in
+    let room = pasting_room (here in_loop_i) (rest in_loop_i) (step in_loop_i) c.loop-i.invariant.2 in
     omega arith
 
 pub overflow_add-i : goal.overflow_add-i
@@ -41,11 +42,12 @@ pub loop-i-smaller : goal.loop-i-smaller
 loop-i-smaller c = omega arith
 
 pub loop-i-preserved : goal.loop-i-preserved
-loop-i-preserved c = (
-  omega arith,
-  c.put-next.auto.out ∙ c.loop-i.invariant.1,
-  pasting_next (here (goal.at.loop-i-preserved c).In-loop-i) (rest (goal.at.loop-i-preserved c).In-loop-i) (step (goal.at.loop-i-preserved c).In-loop-i) c.loop-i.invariant.2 c.put-next.ensures,
-)
+loop-i-preserved c =
+    let in_loop_i = (goal.at.loop-i-preserved c).In-loop-i in (
+      omega arith,
+      c.put-next.auto.out ∙ c.loop-i.invariant.1,
+      pasting_next (here in_loop_i) (rest in_loop_i) (step in_loop_i) c.loop-i.invariant.2 c.put-next.ensures,
+    )
 
 pub shape_of-out : goal.shape_of-out
 shape_of-out c = c.loop-i.invariant.1

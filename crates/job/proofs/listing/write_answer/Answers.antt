@@ -27,20 +27,32 @@ new c = result c.color.new.out_lengths c.color.new.out_kinds c.color.new.out_poi
 
 -- a file that was coloured
 module _ (c : In-Edges) where
+  abbrev start : Start
+  start = (goal.at.In-Edges c).Start
+
+  abbrev after_color : After-color
+  after_color = (goal.at.In-Edges c).After-color
+
   abbrev counts : Counts
   counts = c.in-Edges.counts
 
-  at_front : Front (file (goal.at.In-Edges c).Start) counts.contours counts.edges counts.stand_ins (new (goal.at.In-Edges c).After-color)
+  at_front : Front (file start) counts.contours counts.edges counts.stand_ins (new after_color)
   at_front =
-      front (file (goal.at.In-Edges c).Start) (old (goal.at.In-Edges c).Start) c.requires.holds_results counts (new (goal.at.In-Edges c).After-color)
-      (ap (λ (r : Colored). outcome (colored_answer r) (new (goal.at.In-Edges c).After-color)) (sym c.in-Edges.is) ∙ c.color.ensures)
+      front (file start) (old start) c.requires.holds_results counts (new after_color)
+      (ap (λ (r : Colored). outcome (colored_answer r) (new after_color)) (sym c.in-Edges.is) ∙ c.color.ensures)
 
 -- a file that was refused
 module _ (c : In-Refused) where
-  refused : file_text (file (goal.at.In-Refused c).Start) ≡ refusal_line (refusal_number c.in-Refused.refusal)
+  abbrev start_2 : Start
+  start_2 = (goal.at.In-Refused c).Start
+
+  abbrev after_color_2 : After-color
+  after_color_2 = (goal.at.In-Refused c).After-color
+
+  refused : file_text (file start_2) ≡ refusal_line (refusal_number c.in-Refused.refusal)
   refused =
-      refused_text (file (goal.at.In-Refused c).Start) (old (goal.at.In-Refused c).Start) c.requires.holds_results (refusal_number c.in-Refused.refusal) (new (goal.at.In-Refused c).After-color)
-      (ap (λ (r : Colored). outcome (colored_answer r) (new (goal.at.In-Refused c).After-color)) (sym c.in-Refused.is) ∙ c.color.ensures)
+      refused_text (file start_2) (old start_2) c.requires.holds_results (refusal_number c.in-Refused.refusal) (new after_color_2)
+      (ap (λ (r : Colored). outcome (colored_answer r) (new after_color_2)) (sym c.in-Refused.is) ∙ c.color.ensures)
 
 pub slice_bounds-write_listing-end : goal.slice_bounds-write_listing-end
 slice_bounds-write_listing-end c = (at_front c).lengths-within
@@ -62,11 +74,19 @@ slice_bounds-write_listing-end-in-Edges-5 c = sym (length-take-le _ _ (at_front 
 
 pub write_listing-requires : goal.write_listing-requires
 write_listing-requires c =
-    record { lengths_len_bound = (at_front (goal.at.write_listing-requires c).In-Edges).listable; stand_ins_in_bounds = omega (arith, ap length (at_front (goal.at.write_listing-requires c).In-Edges).text, text_few (file (goal.at.write_listing-requires c).Start), c.requires.max_text_in_bounds) }
+    let in_edges = (goal.at.write_listing-requires c).In-Edges in
+    let start_3 = (goal.at.write_listing-requires c).Start in
+    record {
+      lengths_len_bound = (at_front in_edges).listable;
+      stand_ins_in_bounds = omega
+          (arith, ap length (at_front in_edges).text, text_few (file start_3), c.requires.max_text_in_bounds);
+    }
 
 pub write_refusal-requires : goal.write_refusal-requires
 write_refusal-requires c =
-    omega (arith, ap length (refused (goal.at.write_refusal-requires c).In-Refused), text_few (file (goal.at.write_refusal-requires c).Start), c.requires.max_text_in_bounds)
+    let in_refused = (goal.at.write_refusal-requires c).In-Refused in
+    let start_3 = (goal.at.write_refusal-requires c).Start in
+    omega (arith, ap length (refused in_refused), text_few (file start_3), c.requires.max_text_in_bounds)
 
 pub returns-in-Edges : goal.returns-in-Edges
 returns-in-Edges c =

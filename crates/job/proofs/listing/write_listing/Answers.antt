@@ -36,7 +36,8 @@ put_shape-lines-requires c =
 
 pub put_word_line-counted-requires : goal.put_word_line-counted-requires
 put_word_line-counted-requires c =
-    (c.requires.lengths_len_bound.1, omega (arith, room (goal.at.put_word_line-counted-requires c).Start, c.put_shape-lines.ensures.place, c.put_shape-lines.auto.out))
+    let start = (goal.at.put_word_line-counted-requires c).Start in
+    (c.requires.lengths_len_bound.1, omega (arith, room start, c.put_shape-lines.ensures.place, c.put_shape-lines.auto.out))
 
 pub put_word_line-requires : goal.put_word_line-requires
 put_word_line-requires c = (
@@ -53,9 +54,10 @@ put_word_line-requires c = (
 
 pub returns : goal.returns
 returns c =
+    let start = (goal.at.returns c).Start in
     let old = c.args.out.now in
-    let two : Pasted (lines (goal.at.returns c).Start ++ edges (goal.at.returns c).Start) 0 old c.put_word_line-counted.result c.put_word_line-counted.new.out = pasted_then c.put_shape-lines.ensures
-    c.put_word_line-counted.ensures (omega (arith, room (goal.at.returns c).Start)) in
+    let two : Pasted (lines start ++ edges start) 0 old c.put_word_line-counted.result c.put_word_line-counted.new.out = pasted_then c.put_shape-lines.ensures
+    c.put_word_line-counted.ensures (omega (arith, room start)) in
     subst (λ (x : List ℕ). Pasted x 0 old c.put_word_line.result c.put_word_line.new.out)
-    (listing_parts c.args.lengths.now c.args.kinds.now c.args.colors.now c.args.stand_ins (whole (goal.at.returns c).Start))
-    (pasted_then two c.put_word_line.ensures (omega (arith, room (goal.at.returns c).Start, length-append (lines (goal.at.returns c).Start) (edges (goal.at.returns c).Start))))
+    (listing_parts c.args.lengths.now c.args.kinds.now c.args.colors.now c.args.stand_ins (whole start))
+    (pasted_then two c.put_word_line.ensures (omega (arith, room start, length-append (lines start) (edges start))))

@@ -22,7 +22,12 @@ is_accepted c = sym c.accepted.ensures ∙ not-false c.accepted.result c.if-not-
 
 pub returns-then-not-accepted : goal.returns-then-not-accepted
 returns-then-not-accepted c =
-    record { value = sym (place-refused (file (goal.at.returns-then-not-accepted c).After-accepted) c.args.number (sym c.accepted.ensures ∙ not-true c.accepted.result c.if-not-accepted.true-raw)); inside = record { ordered = omega arith; within = omega arith } }
+    let after_accepted = (goal.at.returns-then-not-accepted c).After-accepted in
+    record {
+      value = sym (place-refused (file after_accepted) c.args.number
+          (sym c.accepted.ensures ∙ not-true c.accepted.result c.if-not-accepted.true-raw));
+      inside = record { ordered = omega arith; within = omega arith };
+    }
 
 pub contour_span-requires : goal.contour_span-requires
 contour_span-requires c = ap succeeds (accepted_same (file (goal.at.contour_span-requires c).After-accepted) (is_accepted c)) ∙ is_accepted c

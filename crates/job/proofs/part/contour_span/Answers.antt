@@ -28,8 +28,11 @@ module _ (c : After-read_record) where
 
 -- a record
 module _ (c : In-Item) where
-  as_read : Read-as (read_record (p (goal.at.In-Item c).After-read_record).state (drop (p (goal.at.In-Item c).After-read_record).at (file (goal.at.In-Item c).After-read_record))) c.in-Item.item c.in-Item.size
-  as_read = found_item _ _ _ (sym (ap found_answer c.in-Item.is) ∙ read (goal.at.In-Item c).After-read_record)
+  abbrev after_read_record : After-read_record
+  after_read_record = (goal.at.In-Item c).After-read_record
+
+  as_read : Read-as (read_record (p after_read_record).state (drop (p after_read_record).at (file after_read_record))) c.in-Item.item c.in-Item.size
+  as_read = found_item _ _ _ (sym (ap found_answer c.in-Item.is) ∙ read after_read_record)
 
 pub loop-item-init : goal.loop-item-init
 loop-item-init c = rw c.begin-p.ensures (seeking_begin _ _)
@@ -51,16 +54,22 @@ loop-item-smaller c = rw c.advance-p.ensures (less_on _ _ c.loop-item.invariant.
 
 pub loop-item-preserved : goal.loop-item-preserved
 loop-item-preserved c =
-    rw (c.advance-p.ensures, c.sought-q.ensures) (seeking_next (file (goal.at.loop-item-preserved c).After-read_record) (number (goal.at.loop-item-preserved c).After-read_record) (p (goal.at.loop-item-preserved c).After-read_record) c.loop-item.q c.loop-item.invariant _ _ (as_read (goal.at.loop-item-preserved c).In-Item))
+    let after_read_record_2 = (goal.at.loop-item-preserved c).After-read_record in
+    let in_item = (goal.at.loop-item-preserved c).In-Item in
+    rw (c.advance-p.ensures, c.sought-q.ensures)
+    (seeking_next (file after_read_record_2) (number after_read_record_2) (p after_read_record_2) c.loop-item.q c.loop-item.invariant _ _ (as_read in_item))
 
 pub returns-in-End : goal.returns-in-End
 returns-in-End c =
+    let after_read_record_2 = (goal.at.returns-in-End c).After-read_record in
     rw c.span_of.ensures (record {
-      value = seeking_end (file (goal.at.returns-in-End c).After-read_record) (number (goal.at.returns-in-End c).After-read_record) (p (goal.at.returns-in-End c).After-read_record) c.loop-item.q c.loop-item.invariant (found_end _ (sym (ap found_answer c.in-End.is) ∙ read (goal.at.returns-in-End c).After-read_record));
-      inside = seeking_inside (file (goal.at.returns-in-End c).After-read_record) (number (goal.at.returns-in-End c).After-read_record) (p (goal.at.returns-in-End c).After-read_record) c.loop-item.q c.loop-item.invariant;
+      value = seeking_end (file after_read_record_2) (number after_read_record_2) (p after_read_record_2) c.loop-item.q c.loop-item.invariant
+          (found_end _ (sym (ap found_answer c.in-End.is) ∙ read after_read_record_2));
+      inside = seeking_inside (file after_read_record_2) (number after_read_record_2) (p after_read_record_2) c.loop-item.q c.loop-item.invariant;
     })
 
 pub returns-in-Fails : goal.returns-in-Fails
 returns-in-Fails c =
-    let fault = found-fails _ _ (sym (ap found_answer c.in-Fails.is) ∙ read (goal.at.returns-in-Fails c).After-read_record) in
-    absurd (seeking_fault (file (goal.at.returns-in-Fails c).After-read_record) (p (goal.at.returns-in-Fails c).After-read_record) c.loop-item.invariant.at c.requires _ fault)
+    let after_read_record_2 = (goal.at.returns-in-Fails c).After-read_record in
+    let fault = found-fails _ _ (sym (ap found_answer c.in-Fails.is) ∙ read after_read_record_2) in
+    absurd (seeking_fault (file after_read_record_2) (p after_read_record_2) c.loop-item.invariant.at c.requires _ fault)

@@ -53,7 +53,9 @@ pub within-requires : goal.within-requires
 within-requires c = tt
 
 pub returns-then-not-within : goal.returns-then-not-within
-returns-then-not-within c = sym (c.loop-i.invariant.1 ∙ all_stops _ _ _ _ (here (goal.at.returns-then-not-within c).After-within) (sym (tested (goal.at.returns-then-not-within c).After-within) ∙ not-true _ c.if-not-within.true-raw))
+returns-then-not-within c =
+    let after_within = (goal.at.returns-then-not-within c).After-within in
+    sym (c.loop-i.invariant.1 ∙ all_stops _ _ _ _ (here after_within) (sym (tested after_within) ∙ not-true _ c.if-not-within.true-raw))
 
 pub overflow_add-i : goal.overflow_add-i
 overflow_add-i c = omega arith
@@ -62,11 +64,12 @@ pub loop-i-smaller : goal.loop-i-smaller
 loop-i-smaller c = omega arith
 
 pub loop-i-preserved : goal.loop-i-preserved
-loop-i-preserved c = (
-  omega arith,
-  c.loop-i.invariant.1 ∙ all-next _ _ _ _ (here (goal.at.loop-i-preserved c).After-within) (sym (tested (goal.at.loop-i-preserved c).After-within) ∙ not-false _ c.if-not-within.false-raw)
-      ∙ rw add-one,
-)
+loop-i-preserved c =
+    let after_within = (goal.at.loop-i-preserved c).After-within in (
+      omega arith,
+      c.loop-i.invariant.1 ∙ all-next _ _ _ _ (here after_within) (sym (tested after_within) ∙ not-false _ c.if-not-within.false-raw)
+          ∙ rw add-one,
+    )
 
 pub returns : goal.returns
 unfolding all

@@ -26,8 +26,11 @@ module _ (c : After-read_record) where
 
 -- a record
 module _ (c : In-Item) where
-  as_read : Read-as (read_record (p (goal.at.In-Item c).After-read_record).state (drop (p (goal.at.In-Item c).After-read_record).at (file (goal.at.In-Item c).After-read_record))) c.in-Item.item c.in-Item.size
-  as_read = found_item _ _ _ (sym (ap found_answer c.in-Item.is) ∙ read (goal.at.In-Item c).After-read_record)
+  abbrev after_read_record : After-read_record
+  after_read_record = (goal.at.In-Item c).After-read_record
+
+  as_read : Read-as (read_record (p after_read_record).state (drop (p after_read_record).at (file after_read_record))) c.in-Item.item c.in-Item.size
+  as_read = found_item _ _ _ (sym (ap found_answer c.in-Item.is) ∙ read after_read_record)
 
 pub loop-item-init : goal.loop-item-init
 loop-item-init c = rw c.begin-p.ensures (reached_begin _)
@@ -52,10 +55,12 @@ loop-item-preserved c = rw c.advance-p.ensures (reached_on _ _ c.loop-item.invar
 
 pub returns-in-End : goal.returns-in-End
 returns-in-End c =
-    let at_end = found_end _ (sym (ap found_answer c.in-End.is) ∙ read (goal.at.returns-in-End c).After-read_record) in
-    ap gives c.loop-item.invariant.numbers_are ∙ ap answer_of (reached_end (file (goal.at.returns-in-End c).After-read_record) (p (goal.at.returns-in-End c).After-read_record) c.loop-item.invariant at_end)
+    let after_read_record_2 = (goal.at.returns-in-End c).After-read_record in
+    let at_end = found_end _ (sym (ap found_answer c.in-End.is) ∙ read after_read_record_2) in
+    ap gives c.loop-item.invariant.numbers_are ∙ ap answer_of (reached_end (file after_read_record_2) (p after_read_record_2) c.loop-item.invariant at_end)
 
 pub returns-in-Fails : goal.returns-in-Fails
 returns-in-Fails c =
-    let fault = found-fails _ _ (sym (ap found_answer c.in-Fails.is) ∙ read (goal.at.returns-in-Fails c).After-read_record) in
-    ap answer_of (reached_fault (file (goal.at.returns-in-Fails c).After-read_record) (p (goal.at.returns-in-Fails c).After-read_record) c.loop-item.invariant _ fault)
+    let after_read_record_2 = (goal.at.returns-in-Fails c).After-read_record in
+    let fault = found-fails _ _ (sym (ap found_answer c.in-Fails.is) ∙ read after_read_record_2) in
+    ap answer_of (reached_fault (file after_read_record_2) (p after_read_record_2) c.loop-item.invariant _ fault)

@@ -30,29 +30,39 @@ module _ (c : After-read_record) where
 
 -- a record
 module _ (c : In-Item) where
-  as_read : Read-as (read_record (p (goal.at.In-Item c).After-read_record).state (drop (p (goal.at.In-Item c).After-read_record).at (file (goal.at.In-Item c).After-read_record))) c.in-Item.item c.in-Item.size
-  as_read = found_item _ _ _ (sym (ap found_answer c.in-Item.is) ∙ read (goal.at.In-Item c).After-read_record)
+  abbrev after_read_record : After-read_record
+  after_read_record = (goal.at.In-Item c).After-read_record
 
-  has_room : RecordFits c.in-Item.item (p (goal.at.In-Item c).After-read_record).state.numbers (drop (p (goal.at.In-Item c).After-read_record).at (file (goal.at.In-Item c).After-read_record))
+  as_read : Read-as (read_record (p after_read_record).state (drop (p after_read_record).at (file after_read_record))) c.in-Item.item c.in-Item.size
+  as_read = found_item _ _ _ (sym (ap found_answer c.in-Item.is) ∙ read after_read_record)
+
+  has_room : RecordFits c.in-Item.item (p after_read_record).state.numbers (drop (p after_read_record).at (file after_read_record))
       (buffers c.loop-item.lengths c.loop-item.kinds c.loop-item.points c.loop-item.distances)
   has_room =
-      filling_room (file (goal.at.In-Item c).After-read_record) (old (goal.at.In-Item c).After-read_record) c.requires (p (goal.at.In-Item c).After-read_record) c.loop-item.lengths c.loop-item.kinds c.loop-item.points
+      filling_room (file after_read_record) (old after_read_record) c.requires (p after_read_record) c.loop-item.lengths c.loop-item.kinds c.loop-item.points
       c.loop-item.distances
       c.loop-item.invariant _ _ as_read
 
 -- the record, written
 module _ (c : After-write_item) where
-  next : Filling (file (goal.at.After-write_item c).After-read_record) (old (goal.at.After-write_item c).After-read_record) (advanced (p (goal.at.After-write_item c).After-read_record) c.in-Item.item c.in-Item.size)
+  abbrev after_read_record_2 : After-read_record
+  after_read_record_2 = (goal.at.After-write_item c).After-read_record
+
+  abbrev in_item : In-Item
+  in_item = (goal.at.After-write_item c).In-Item
+
+  next : Filling (file after_read_record_2) (old after_read_record_2) (advanced (p after_read_record_2) c.in-Item.item c.in-Item.size)
       c.write_item.new.lengths c.write_item.new.kinds c.write_item.new.points c.write_item.new.distances
   next =
       let item = c.in-Item.item in
-      filling_next (file (goal.at.After-write_item c).After-read_record) (old (goal.at.After-write_item c).After-read_record) c.requires (p (goal.at.After-write_item c).After-read_record) c.loop-item.lengths c.loop-item.kinds c.loop-item.points c.loop-item.distances
-      c.loop-item.invariant item _ (as_read (goal.at.After-write_item c).In-Item)
+      filling_next (file after_read_record_2) (old after_read_record_2) c.requires (p after_read_record_2) c.loop-item.lengths c.loop-item.kinds
+      c.loop-item.points c.loop-item.distances
+      c.loop-item.invariant item _ (as_read in_item)
       c.write_item.new.lengths c.write_item.new.kinds c.write_item.new.points c.write_item.new.distances
-      (subst (λ (x : List ℕ). Hold (written item (p (goal.at.After-write_item c).After-read_record).state.numbers x
+      (subst (λ (x : List ℕ). Hold (written item (p after_read_record_2).state.numbers x
       (buffers c.loop-item.lengths c.loop-item.kinds c.loop-item.points c.loop-item.distances)) c.write_item.new.lengths
       c.write_item.new.kinds c.write_item.new.points c.write_item.new.distances)
-      (part-after (p (goal.at.After-write_item c).After-read_record).at (file (goal.at.After-write_item c).After-read_record)) c.write_item.ensures)
+      (part-after (p after_read_record_2).at (file after_read_record_2)) c.write_item.ensures)
       c.write_item.auto.lengths c.write_item.auto.kinds c.write_item.auto.points c.write_item.auto.distances
 
 pub loop-item-init : goal.loop-item-init
@@ -78,9 +88,11 @@ slice_bounds-write_item-end c = omega arith
 
 pub write_item-requires : goal.write_item-requires
 write_item-requires c =
-    subst (λ (x : List ℕ). RecordFits c.in-Item.item (p (goal.at.write_item-requires c).After-read_record).state.numbers x
+    let after_read_record_3 = (goal.at.write_item-requires c).After-read_record in
+    let in_item_2 = (goal.at.write_item-requires c).In-Item in
+    subst (λ (x : List ℕ). RecordFits c.in-Item.item (p after_read_record_3).state.numbers x
     (buffers c.loop-item.lengths c.loop-item.kinds c.loop-item.points c.loop-item.distances))
-    (sym (part-after (p (goal.at.write_item-requires c).After-read_record).at (file (goal.at.write_item-requires c).After-read_record))) (has_room (goal.at.write_item-requires c).In-Item)
+    (sym (part-after (p after_read_record_3).at (file after_read_record_3))) (has_room in_item_2)
 
 pub advance-p-requires : goal.advance-p-requires
 advance-p-requires c =
@@ -107,7 +119,9 @@ shape_of-distances-in-End c = c.loop-item.invariant.distances-kept
 
 pub returns-in-End : goal.returns-in-End
 returns-in-End c =
-    filling_end (file (goal.at.returns-in-End c).After-read_record) (old (goal.at.returns-in-End c).After-read_record) c.requires (p (goal.at.returns-in-End c).After-read_record) _ _ _ _ c.loop-item.invariant (found_end _ (sym (ap found_answer c.in-End.is) ∙ read (goal.at.returns-in-End c).After-read_record))
+    let after_read_record_3 = (goal.at.returns-in-End c).After-read_record in
+    filling_end (file after_read_record_3) (old after_read_record_3) c.requires (p after_read_record_3) _ _ _ _ c.loop-item.invariant
+    (found_end _ (sym (ap found_answer c.in-End.is) ∙ read after_read_record_3))
 
 pub shape_of-lengths-in-Fails : goal.shape_of-lengths-in-Fails
 shape_of-lengths-in-Fails c = c.loop-item.invariant.lengths-kept
@@ -123,5 +137,6 @@ shape_of-distances-in-Fails c = c.loop-item.invariant.distances-kept
 
 pub returns-in-Fails : goal.returns-in-Fails
 returns-in-Fails c =
-    let fault = found-fails _ _ (sym (ap found_answer c.in-Fails.is) ∙ read (goal.at.returns-in-Fails c).After-read_record) in
-    absurd (filling_fault (file (goal.at.returns-in-Fails c).After-read_record) (old (goal.at.returns-in-Fails c).After-read_record) c.requires (p (goal.at.returns-in-Fails c).After-read_record) _ _ _ _ c.loop-item.invariant _ fault)
+    let after_read_record_3 = (goal.at.returns-in-Fails c).After-read_record in
+    let fault = found-fails _ _ (sym (ap found_answer c.in-Fails.is) ∙ read after_read_record_3) in
+    absurd (filling_fault (file after_read_record_3) (old after_read_record_3) c.requires (p after_read_record_3) _ _ _ _ c.loop-item.invariant _ fault)

@@ -24,38 +24,54 @@ module _ (c : Start) where
 
 -- the file's job
 module _ (c : In-Job) where
+  abbrev start : Start
+  start = (goal.at.In-Job c).Start
+
   abbrev numbers : Numbers
   numbers = c.in-Job.n
 
-  job : As-job (accept_job (file (goal.at.In-Job c).Start)) numbers
+  job : As-job (accept_job (file start)) numbers
   job = answer_job _ _ (sym (ap read_answer c.in-Job.is) ∙ c.accept.ensures)
 
   -- which is the job that it reads as
-  same : read_job (file (goal.at.In-Job c).Start) ≡ accept_job (file (goal.at.In-Job c).Start)
-  same = accept_same (file (goal.at.In-Job c).Start) numbers job
+  same : read_job (file start) ≡ accept_job (file start)
+  same = accept_same (file start) numbers job
 
 -- whether there is room
 room : (c : After-has_room) (b : Bool) → c.has_room.result ≡ b → has_room (numbers (goal.at.After-has_room c).In-Job) (old (goal.at.After-has_room c).Start) ≡ b
 room c b e = sym c.has_room.ensures ∙ e
 
 pub has_room-requires : goal.has_room-requires
-has_room-requires c = answer-few (file (goal.at.has_room-requires c).Start) (numbers (goal.at.has_room-requires c).In-Job) (rw (same (goal.at.has_room-requires c).In-Job) (job (goal.at.has_room-requires c).In-Job))
+has_room-requires c =
+    let start_2 = (goal.at.has_room-requires c).Start in
+    let in_job = (goal.at.has_room-requires c).In-Job in
+    answer-few (file start_2) (numbers in_job) (rw (same in_job) (job in_job))
 
 pub returns-then-not-has_room : goal.returns-then-not-has_room
 returns-then-not-has_room c =
-    delivers_short (accept_job (file (goal.at.returns-then-not-has_room c).Start)) (numbers (goal.at.returns-then-not-has_room c).In-Job) (job (goal.at.returns-then-not-has_room c).In-Job) (old (goal.at.returns-then-not-has_room c).Start)
-    (room (goal.at.returns-then-not-has_room c).After-has_room false (not-true c.has_room.result c.if-not-has_room.true-raw))
+    let start_2 = (goal.at.returns-then-not-has_room c).Start in
+    let in_job = (goal.at.returns-then-not-has_room c).In-Job in
+    let after_has_room = (goal.at.returns-then-not-has_room c).After-has_room in
+    delivers_short (accept_job (file start_2)) (numbers in_job) (job in_job) (old start_2)
+    (room after_has_room false (not-true c.has_room.result c.if-not-has_room.true-raw))
 
 pub fill-requires : goal.fill-requires
 fill-requires c =
-    rw (same (goal.at.fill-requires c).In-Job) (fits_buffers (accept_job (file (goal.at.fill-requires c).Start)) (numbers (goal.at.fill-requires c).In-Job) (job (goal.at.fill-requires c).In-Job) (old (goal.at.fill-requires c).Start)
-    (room (goal.at.fill-requires c).After-has_room true (not-false c.has_room.result c.if-not-has_room.false-raw)))
+    let in_job = (goal.at.fill-requires c).In-Job in
+    let start_2 = (goal.at.fill-requires c).Start in
+    let after_has_room = (goal.at.fill-requires c).After-has_room in
+    rw (same in_job) (fits_buffers (accept_job (file start_2)) (numbers in_job) (job in_job) (old start_2)
+    (room after_has_room true (not-false c.has_room.result c.if-not-has_room.false-raw)))
 
 pub returns-else-not-has_room : goal.returns-else-not-has_room
 returns-else-not-has_room c =
-    delivers_job (accept_job (file (goal.at.returns-else-not-has_room c).Start)) (numbers (goal.at.returns-else-not-has_room c).In-Job) (job (goal.at.returns-else-not-has_room c).In-Job) (old (goal.at.returns-else-not-has_room c).Start) _ _ _ _
-    (room (goal.at.returns-else-not-has_room c).After-has_room true (not-false c.has_room.result c.if-not-has_room.false-raw)) (rw (same (goal.at.returns-else-not-has_room c).In-Job) at c.fill.ensures)
+    let start_2 = (goal.at.returns-else-not-has_room c).Start in
+    let in_job = (goal.at.returns-else-not-has_room c).In-Job in
+    let after_has_room = (goal.at.returns-else-not-has_room c).After-has_room in
+    delivers_job (accept_job (file start_2)) (numbers in_job) (job in_job) (old start_2) _ _ _ _
+    (room after_has_room true (not-false c.has_room.result c.if-not-has_room.false-raw)) (rw (same in_job) at c.fill.ensures)
 
 pub returns-in-Refused : goal.returns-in-Refused
 returns-in-Refused c =
-    delivers_refused (accept_job (file (goal.at.returns-in-Refused c).Start)) (old (goal.at.returns-in-Refused c).Start) _ (answer-refused _ _ (sym (ap read_answer c.in-Refused.is) ∙ c.accept.ensures))
+    let start_2 = (goal.at.returns-in-Refused c).Start in
+    delivers_refused (accept_job (file start_2)) (old start_2) _ (answer-refused _ _ (sym (ap read_answer c.in-Refused.is) ∙ c.accept.ensures))

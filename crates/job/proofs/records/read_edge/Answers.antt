@@ -16,7 +16,9 @@ tested c = c.words_within.ensures ∙ ap (λ (k : ℕ). all is_coordinate (words
     c.controls.ensures
 
 pub returns-then-words_within : goal.returns-then-words_within
-returns-then-words_within c = edge-found _ _ _ (sym (tested (goal.at.returns-then-words_within c).After-words_within) ∙ c.if-words_within.true) (omega (arith, c.requires))
+returns-then-words_within c =
+    let after_words_within = (goal.at.returns-then-words_within c).After-words_within in
+    edge-found _ _ _ (sym (tested after_words_within) ∙ c.if-words_within.true) (omega (arith, c.requires))
 
 pub returns : goal.returns
 unfolding read_edge

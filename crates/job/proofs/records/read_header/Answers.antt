@@ -38,11 +38,14 @@ returns-then-number-gt3 c = rw (le-leb 1 _ c.if-number-lt1.false, lt-leb _ 3 c.i
 
 pub returns-then-not-is_threshold : goal.returns-then-not-is_threshold
 unfolding read_header
-returns-then-not-is_threshold c = rw (low (goal.at.returns-then-not-is_threshold c).After-is_threshold, high (goal.at.returns-then-not-is_threshold c).After-is_threshold, ← tested (goal.at.returns-then-not-is_threshold c).After-is_threshold, not-true c.is_threshold.result c.if-not-is_threshold.true-raw)
+returns-then-not-is_threshold c =
+    let after_is_threshold = (goal.at.returns-then-not-is_threshold c).After-is_threshold in
+    rw (low after_is_threshold, high after_is_threshold, ← tested after_is_threshold, not-true c.is_threshold.result c.if-not-is_threshold.true-raw)
 
 pub returns : goal.returns
 returns c =
+    let after_is_threshold = (goal.at.returns c).After-is_threshold in
     let within = sym c.is_threshold.ensures ∙ not-false c.is_threshold.result c.if-not-is_threshold.false-raw in
     rw c.strategy_of-strategy.ensures
-    (header-found (body (goal.at.returns c).After-is_threshold) _ c.number-seed.result c.number-threshold.result (low (goal.at.returns c).After-is_threshold) (high (goal.at.returns c).After-is_threshold) (omega arith)
+    (header-found (body after_is_threshold) _ c.number-seed.result c.number-threshold.result (low after_is_threshold) (high after_is_threshold) (omega arith)
     c.number-seed.ensures c.number-threshold.ensures within)

@@ -22,11 +22,16 @@ returns-then-not-allowed c = rw (← c.allowed.ensures, not-true c.allowed.resul
 
 pub returns-then-not-below_maximum : goal.returns-then-not-below_maximum
 unfolding read_marked
-returns-then-not-below_maximum c = rw (may (goal.at.returns-then-not-below_maximum c).Else-not-allowed, ← c.below_maximum.ensures, not-true c.below_maximum.result c.if-not-below_maximum.true-raw)
+returns-then-not-below_maximum c =
+    let else_not_allowed = (goal.at.returns-then-not-below_maximum c).Else-not-allowed in
+    rw (may else_not_allowed, ← c.below_maximum.ensures, not-true c.below_maximum.result c.if-not-below_maximum.true-raw)
 
 pub returns-then-bytes-size : goal.returns-then-bytes-size
 unfolding read_marked
-returns-then-bytes-size c = rw (may (goal.at.returns-then-bytes-size c).Else-not-allowed, room (goal.at.returns-then-bytes-size c).Else-not-below_maximum, ← c.body_size-size.ensures, lt-leb _ _ c.if-bytes-size.true)
+returns-then-bytes-size c =
+    let else_not_allowed = (goal.at.returns-then-bytes-size c).Else-not-allowed in
+    let else_not_below_maximum = (goal.at.returns-then-bytes-size c).Else-not-below_maximum in
+    rw (may else_not_allowed, room else_not_below_maximum, ← c.body_size-size.ensures, lt-leb _ _ c.if-bytes-size.true)
 
 pub slice_bounds-read_body-end : goal.slice_bounds-read_body-end
 slice_bounds-read_body-end c = rw length-take (omega arith)
@@ -36,9 +41,11 @@ read_body-requires c = rw length-take (omega (arith, c.body_size-size.ensures))
 
 pub returns : goal.returns
 returns c =
+    let else_not_allowed = (goal.at.returns c).Else-not-allowed in
+    let else_not_below_maximum = (goal.at.returns c).Else-not-below_maximum in
     let size = c.body_size-size.result in
     c.read_body.ensures
     ∙ ap found_of
     (ap (read_body c.args.mark (take size c.args.bytes.now)) (part-after size c.args.bytes.now)
-    ∙ sym (marked-body c.args.s c.args.mark c.args.bytes.now size (may (goal.at.returns c).Else-not-allowed) (room (goal.at.returns c).Else-not-below_maximum)
+    ∙ sym (marked-body c.args.s c.args.mark c.args.bytes.now size (may else_not_allowed) (room else_not_below_maximum)
     c.body_size-size.ensures c.if-bytes-size.false))
