@@ -26,7 +26,7 @@ use Rattle.job.specs.declared.records.Item.{Item}
 use Rattle.job.specs.declared.progress.Progress.{Progress}
 use Rattle.job.specs.declared.progress.Numbers.{Numbers}
 use Rattle.job.specs.Records.{Record, header, balanced, contour, edge, distances, Step, next, ends, fails, at_start, headed, kind_of, inside}
-use Rattle.job.specs.Records.{among, closing, by_distance, record_mark, coordinates, bytes_of, below_maximum, start, record_size, item_of, phase_after}
+use Rattle.job.specs.Records.{among, closing, by_distance, record_mark, coordinates, bytes_of, below_maximum, record_size, item_of, phase_after}
 use Rattle.job.specs.Records.{counted, read_record, after, records_from}
 use Rattle.job.specs.Job.{Holdable, doubles, records_of, record_bytes, file_of, threshold_of, Job}
 use Rattle.job.specs.Job.{no_job, with_edge, with_record, job_from, read_job}

@@ -20,7 +20,7 @@ use borrow.Author.Tests.{le-leb}
 use Rattle.job.specs.declared.records.Item.TheVariants as item
 use Rattle.job.specs.Patterns.{number, words, floats, is_threshold, is_coordinate, is_distance}
 use Rattle.job.specs.Records.{Record, header, balanced, contour, edge, distances, next, fails, step_if, known_strategy, strategy_of}
-use Rattle.job.specs.Records.{record_mark, coordinates, bytes_of, record_size, controls, allowed, below_maximum, header_size, body_size}
+use Rattle.job.specs.Records.{record_mark, bytes_of, record_size, controls, allowed, below_maximum, header_size, body_size}
 use Rattle.job.specs.Records.{mark_of, read_body, read_marked, read_record}
 use Rattle.job.specs.Records.{finds, finished, faulty, found_of, read_header, read_edge, read_distances, read_end, kind_of, edge_of}
 use Rattle.job.proofs.patterns.PatternLaws.{floats-length, float_bytes_length}

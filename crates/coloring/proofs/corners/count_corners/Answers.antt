@@ -1,6 +1,5 @@
 use native.Mathlib.Omega.{arith}
 use mathlib.Core.Path.{ap}
-use mathlib.Core.Logic.{⊎_elim}
 use lib.ListN.{length}
 use Rattle.coloring.specs.Corners.{corners_of, corner_count}
 use Rattle.coloring.proofs.corners.FlagLaws.{places_corner, places-none, places_end}

@@ -1,5 +1,5 @@
 -- `result_edges` meets its contract, by its test.
-use Rattle.coloring.specs.Layout.{splits, result_edges}
+use Rattle.coloring.specs.Layout.{result_edges}
 use Rattle.coloring.proofs.layout.result_edges.Goals as goal
 
 pub returns-then-splits : goal.returns-then-splits

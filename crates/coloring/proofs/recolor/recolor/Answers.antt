@@ -7,7 +7,6 @@ use native.Mathlib.Omega.{arith}
 use lib.ListN.{length, get_or, set, replicate, length-set}
 use Rattle.coloring.specs.Recolor.{Recoloring, row, first_possible_color, force, walk_from, walk_start, ring, recoloring, Waiting, Uncoloring, Walking}
 use Rattle.coloring.specs.Recolor as defined
-use Rattle.coloring.proofs.Lists.{copied}
 use Rattle.coloring.proofs.recolor.RowLaws.{row-length}
 use Rattle.coloring.proofs.recolor.FreeColorLaws.{others}
 use Rattle.coloring.proofs.recolor.UncolorLaws.{same_uncolors, ring-kept}

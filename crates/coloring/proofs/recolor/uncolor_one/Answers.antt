@@ -1,8 +1,7 @@
 -- `uncolor_one` meets its contract: a spline that still has its colour finds a place in the ring.
 use native.Mathlib.Omega.{arith}
-use mathlib.Core.Logic.{⊎_elim}
 use Prim.Native.Nat.{◌<◌}
-use borrow.Author.Tests.{eqb-true, eqb-false}
+use borrow.Author.Tests.{eqb-true}
 use Rattle.coloring.specs.Recolor.{uncolored}
 use Rattle.coloring.proofs.recolor.UncolorLaws.{ring-room, put_one, skip_entry, skip_color}
 use Rattle.coloring.proofs.recolor.uncolor_one.Goals as goal

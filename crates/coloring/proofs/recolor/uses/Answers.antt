@@ -1,7 +1,6 @@
 use mathlib.Core.Path.{refl, sym, ap, ◌∙◌}
 use mathlib.Core.Bool.{◌||◌, or_assoc, or-false}
 use native.Mathlib.Omega.{arith}
-use Rattle.coloring.specs.Recolor as defined
 use Rattle.coloring.proofs.recolor.FreeColorLaws.{uses-step, uses_end}
 use Rattle.coloring.proofs.recolor.uses.Goals as goal
 

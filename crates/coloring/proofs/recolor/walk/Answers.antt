@@ -1,5 +1,4 @@
 use mathlib.Core.Path.{◌≡◌, refl, sym, ap, ◌∙◌}
-use mathlib.Core.Logic.{⊎_elim}
 use mathlib.Core.Bool.{true, false, ◌&&◌}
 use mathlib.Core.List.{List}
 use Prim.Native.Nat.{ℕ, suc, ◌<◌, ◌-◌, ◌+◌, ◌%◌}
@@ -11,7 +10,7 @@ use borrow.Author.Tests.{not-true, not-false}
 use Rattle.coloring.specs.Recolor.{joined, forced_step, row, force, vertex_possible_colors, first_possible_color, ring, recoloring}
 use Rattle.coloring.proofs.recolor.RowLaws.{row-length}
 use Rattle.coloring.proofs.recolor.FreeColorLaws.{possible-below, forced-here, forced-next, step_rises}
-use Rattle.coloring.proofs.recolor.WalkLaws.{left, left_free, free_of, step_of, forced, walk_begins, walk-done}
+use Rattle.coloring.proofs.recolor.WalkLaws.{left_free, free_of, step_of, forced, walk_begins, walk-done}
 use Rattle.coloring.proofs.recolor.WalkLaws.{walk_stops, walk_first, walk_free, walk_uncolors, walk_forces, less_forced, forced_same}
 use Rattle.coloring.proofs.recolor.walk.Goals as goal
 use Rattle.coloring.proofs.recolor.walk.Goals.{After-row-entries, After-slice_known-in-walk-1, After-uncolor_same_neighbors-waiting}

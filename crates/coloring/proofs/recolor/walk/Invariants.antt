@@ -3,7 +3,7 @@
 -- began.
 use mathlib.Core.Path.{◌≡◌}
 use Prim.Native.Nat.{◌≤◌, ◌-◌}
-use Rattle.coloring.specs.Recolor.{joined, forced_step, walk_from, recoloring}
+use Rattle.coloring.specs.Recolor.{forced_step, walk_from, recoloring}
 use Rattle.coloring.proofs.recolor.WalkLaws.{left, WalkInvariant}
 use Rattle.coloring.proofs.recolor.walk.Given as goal
 

@@ -9,7 +9,6 @@ use lib.Seq.{length-take-le, take_at}
 use Rattle.coloring.specs.Recolor.{Walk, ended}
 use Rattle.coloring.specs.SplineTable.{kept, declined, Offered, outcome, settled, walked_on}
 use Rattle.coloring.specs.declared.recolor.Walked.{Walked}
-use Rattle.coloring.proofs.Lists.{copied}
 use Rattle.coloring.proofs.recolor.RowLaws.{pair_inside}
 use Rattle.coloring.proofs.spline_table.add_edge_by_walk.Goals as goal
 use Rattle.coloring.proofs.spline_table.add_edge_by_walk.Goals.{After-recolor, Start}

@@ -1,9 +1,8 @@
 -- `try_add_edge` meets its contract: the refusals in their order, each with the buffers as they came, and then the
 -- rule.
 use mathlib.Core.Path.{sym, ◌∙◌}
-use mathlib.Core.Logic.{⊎_elim}
 use native.Mathlib.Omega.{arith}
-use borrow.Author.Tests.{leb-true, leb-false, eqb-true, eqb-false, not-true, not-false}
+use borrow.Author.Tests.{leb-false, eqb-false, not-true, not-false}
 use Rattle.coloring.specs.SplineTable.{Table, table_of}
 use Rattle.coloring.proofs.recolor.RowLaws.{square_below}
 use Rattle.coloring.proofs.spline_table.OfferLaws.{Unrefused, unrefused_offerable, offer-many, offer-lengths, offer_unsound}

@@ -1,6 +1,5 @@
 use native.Mathlib.Omega.{arith}
 use mathlib.Core.Path.{sym, ◌∙◌}
-use mathlib.Core.Logic.{⊎_elim}
 use Prim.Native.Nat.{◌<◌}
 use lib.ListN.{length, drop, length-set}
 use Rattle.coloring.proofs.Writing.{over-all, over-next, over_nothing}

@@ -4,7 +4,7 @@ use mathlib.Core.List.{List, [], ◌∷◌, ◌++◌}
 use Prim.Native.Nat.{ℕ, ◌+◌, ◌≤◌}
 use native.Mathlib.Omega.{arith}
 use lib.ListN.{length, length-append}
-use Rattle.job.specs.Listing.{decimal, letter, space, newline, field, Pasted}
+use Rattle.job.specs.Listing.{decimal, space, newline, field, Pasted}
 use Rattle.job.proofs.listing.ListingLaws.{line-length, line_fields, field-length}
 use Rattle.job.proofs.listing.PasteLaws.{pasted_then}
 use Rattle.job.proofs.listing.put_line.Goals as goal
