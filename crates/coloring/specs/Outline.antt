@@ -185,10 +185,11 @@ outline lengths kinds points = record { lengths = lengths; kinds = kinds; points
 abbrev pub result : List ℕ → List ℕ → List Float → List ℕ → Result
 result lengths kinds points colors = record { lengths = lengths; kinds = kinds; points = points; colors = colors }
 
--- a buffer that a function is given, with what it holds at entry and at exit
+-- a buffer that a function reads, with what it holds at entry and at exit
 abbrev pub Buffer : Type 0 → Type 0
 Buffer A = Both (Bor (List A)) (Bor (List A))
 
+-- and one that it writes
 abbrev pub MutBuffer : Type 0 → Type 0
 MutBuffer A = Both (MutBor (List A)) (MutBor (List A))
 

@@ -103,7 +103,7 @@ fn lay_out_contour(
     out_points: &mut [f64],
     out_flags: &mut [bool],
 )
-    requires cases { Matching kinds.now points.now flags.now × (length out_flags.old ≡ result_edges flags.now) }
+    requires matching { Matching kinds.now points.now flags.now × (length out_flags.old ≡ result_edges flags.now) }
     requires out_kinds_len { (length out_kinds.old ≡ result_edges flags.now) × (length out_points.old ≡ 8 * length out_kinds.old) }
     ensures { Laid (layout (whole kinds.now points.now flags.now))
         out_kinds.new out_points.new out_flags.new }

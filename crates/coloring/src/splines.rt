@@ -88,7 +88,7 @@ fn paint_part(
     to: usize,
     out: &mut [u8],
 )
-    requires at_le_end { (at ≤ end) × (end ≤ length flags.now) × (length flags.now ≤ max_result_edges) × (length out.old ≡ length flags.now) }
+    requires part { (at ≤ end) × (end ≤ length flags.now) × (length flags.now ≤ max_result_edges) × (length out.old ≡ length flags.now) }
     requires to_value { (to ≡ from + spline_count (take (end - at) (drop at flags.now))) × (to ≤ length values.now) }
     ensures { take end out.new ≡ take at out.old
         ++ paint division middle (take (to - from) (drop from values.now)) (take (end - at) (drop at flags.now)) }
@@ -111,7 +111,7 @@ pub(crate) fn paint_contours(
     values: &[u8],
     out: &mut [u8],
 )
-    requires lengths_value { (total lengths.now ≡ length flags.now) × (length flags.now ≤ max_result_edges) × (length out.old ≡ length flags.now) }
+    requires sizes { (total lengths.now ≡ length flags.now) × (length flags.now ≤ max_result_edges) × (length out.old ≡ length flags.now) }
     requires values_len { length values.now ≡ total (map spline_count (cut lengths.now flags.now)) }
     ensures { out.new ≡ flatten (paint_contours division middle values.now (cut lengths.now flags.now)) }
 {

@@ -88,8 +88,8 @@ fn put_line(out: &mut [u8], at: usize, contour: usize, place: usize, kind: u8, c
 
 // The lines of a contour.
 fn put_contour(out: &mut [u8], at: usize, contour: usize, kinds: &[u8], colors: &[u8]) -> usize
-    requires contour_bound { (contour < 1000) × (length kinds.now < 1000) × (length colors.now ≡ length kinds.now) }
-    requires colors_in_bounds { at + length (contour_lines contour 0 kinds.now colors.now) ≤ length out.old }
+    requires sizes { (contour < 1000) × (length kinds.now < 1000) × (length colors.now ≡ length kinds.now) }
+    requires room { at + length (contour_lines contour 0 kinds.now colors.now) ≤ length out.old }
     ensures { Pasted (contour_lines contour 0 kinds.now colors.now) at out.old result out.new }
 {
     let mut next = at;
@@ -103,9 +103,9 @@ fn put_contour(out: &mut [u8], at: usize, contour: usize, kinds: &[u8], colors: 
 
 // The lines of all contours, whose edges stand one after another.
 fn put_shape(out: &mut [u8], at: usize, lengths: &[u16], kinds: &[u8], colors: &[u8]) -> usize
-    requires lengths_len_bound { (length lengths.now < 1000) × (length kinds.now < 1000)
+    requires sizes { (length lengths.now < 1000) × (length kinds.now < 1000)
         × (total lengths.now ≡ length kinds.now) × (length colors.now ≡ length kinds.now) }
-    requires colors_in_bounds { at + length (shape_lines 0 (cut lengths.now kinds.now) (cut lengths.now colors.now)) ≤ length out.old }
+    requires room { at + length (shape_lines 0 (cut lengths.now kinds.now) (cut lengths.now colors.now)) ≤ length out.old }
     ensures { Pasted
         (shape_lines 0 (cut lengths.now kinds.now) (cut lengths.now colors.now))
         at out.old result out.new }
@@ -152,9 +152,9 @@ fn write_listing(
     stand_ins: usize,
     out: &mut [u8],
 ) -> usize
-    requires lengths_len_bound { (length lengths.now < 1000) × (length kinds.now < 1000) × (stand_ins < 1000)
+    requires sizes { (length lengths.now < 1000) × (length kinds.now < 1000) × (stand_ins < 1000)
         × (total lengths.now ≡ length kinds.now) × (length colors.now ≡ length kinds.now) }
-    requires stand_ins_in_bounds { length (listing (cut lengths.now kinds.now) (cut lengths.now colors.now) stand_ins) ≤ length out.old }
+    requires room { length (listing (cut lengths.now kinds.now) (cut lengths.now colors.now) stand_ins) ≤ length out.old }
     ensures { Pasted
         (listing (cut lengths.now kinds.now) (cut lengths.now colors.now) stand_ins)
         0 out.old result out.new }
@@ -182,7 +182,7 @@ fn write_answer(
     text: &mut [u8],
 ) -> usize
     requires holds_results { HoldsResults (result lengths.old kinds.old points.old colors.old) }
-    requires max_text_in_bounds { max_text ≤ length text.old }
+    requires room { max_text ≤ length text.old }
     ensures { Pasted (file_text file.now) 0 text.old result text.new }
 {
     match color::color(file, lengths, kinds, points, colors) {

@@ -29,12 +29,12 @@ module _ (c : Then-splits) where
   n = 3 * length c.args.kinds.now
 
   long : length c.args.out_kinds.now ≡ n
-  long = c.requires.out_kinds_len.0 ∙ edges-split _ split ∙ omega (arith, c.requires.cases.0.flagged)
+  long = c.requires.out_kinds_len.0 ∙ edges-split _ split ∙ omega (arith, c.requires.matching.0.flagged)
 
   flags_long : length c.args.out_flags.now ≡ length (split_contour (contour start)).edges
   flags_long =
-      c.requires.cases.1 ∙ edges-split _ split
-      ∙ omega (arith, c.requires.cases.0.flagged, split-length (contour start), edges-length c.args.kinds.now c.args.points.now)
+      c.requires.matching.1 ∙ edges-split _ split
+      ∙ omega (arith, c.requires.matching.0.flagged, split-length (contour start), edges-length c.args.kinds.now c.args.points.now)
 
 -- it is not
 module _ (c : Else-splits) where
@@ -47,7 +47,7 @@ module _ (c : Else-splits) where
 pub split_edges-requires : goal.split_edges-requires
 split_edges-requires c =
     let then_splits = (goal.at.split_edges-requires c).Then-splits in
-    let m = c.requires.cases.0 in
+    let m = c.requires.matching.0 in
     let few = split-few c.args.flags.now (split then_splits) in
     let inside = first-within c.args.flags.now (omega (arith, few.0)) in record {
       points_len = (m.places, omega (arith, few.1, m.flagged), rw c.first_corner.ensures (omega (arith, inside, m.flagged)));
@@ -68,7 +68,7 @@ returns-then-splits c =
 pub copy_edges-requires : goal.copy_edges-requires
 copy_edges-requires c =
     let else_splits = (goal.at.copy_edges-requires c).Else-splits in
-    let m = c.requires.cases.0 in
+    let m = c.requires.matching.0 in
     record {
       points_len = (m.places, same_edges else_splits ∙ m.flagged);
       out_points_len = omega
@@ -77,7 +77,7 @@ copy_edges-requires c =
 
 pub copy_flags-requires : goal.copy_flags-requires
 copy_flags-requires c =
-    c.requires.cases.1 ∙ edges_same _ (same (goal.at.copy_flags-requires c).Else-splits)
+    c.requires.matching.1 ∙ edges_same _ (same (goal.at.copy_flags-requires c).Else-splits)
 
 pub returns : goal.returns
 returns c =

@@ -138,7 +138,7 @@ paint_contours-requires c =
     let whole = front_total a.lengths.now (edges start_3) a.flags.now a.counts (flagged start_3) c.requires.counted.0 out in
     let splines = front_splines a.lengths.now (edges start_3) a.flags.now a.counts (flagged start_3) c.requires.counted.0 out in
     let colors = length-take-le a.counts.edges a.out_colors.now (room else_not_room_2).3 in
-    record { lengths_value = (whole, omega (arith, long, c.requires.counted.0.edges_few), colors ∙ sym long); values_len = c.requires.counted.1 ∙ splines }
+    record { sizes = (whole, omega (arith, long, c.requires.counted.0.edges_few), colors ∙ sym long); values_len = c.requires.counted.1 ∙ splines }
 
 pub returns : goal.returns
 returns c =

@@ -65,7 +65,7 @@ module _ (c : After-part_splines) where
 pub loop-i-init : goal.loop-i-init
 loop-i-init c =
     let pre = c.requires in
-    record { passed = none_passed _ _ pre.lengths_value.0; long = pre.lengths_value.2; splines = omega (arith, pre.values_len); bytes = refl }
+    record { passed = none_passed _ _ pre.sizes.0; long = pre.sizes.2; splines = omega (arith, pre.values_len); bytes = refl }
 
 pub offset_bounds-lengths-i : goal.offset_bounds-lengths-i
 offset_bounds-lengths-i c = omega arith
@@ -74,10 +74,10 @@ pub bounds-lengths-i : goal.bounds-lengths-i
 bounds-lengths-i c = omega arith
 
 pub overflow_cast-end : goal.overflow_cast-end
-overflow_cast-end c = omega (arith, room (goal.at.overflow_cast-end c).In-loop-i, c.requires.lengths_value.1)
+overflow_cast-end c = omega (arith, room (goal.at.overflow_cast-end c).In-loop-i, c.requires.sizes.1)
 
 pub overflow_add-end : goal.overflow_add-end
-overflow_add-end c = omega (arith, room (goal.at.overflow_add-end c).In-loop-i, c.requires.lengths_value.1)
+overflow_add-end c = omega (arith, room (goal.at.overflow_add-end c).In-loop-i, c.requires.sizes.1)
 
 pub part_splines-requires : goal.part_splines-requires
 part_splines-requires c = (omega arith, room (goal.at.part_splines-requires c).In-loop-i)
@@ -90,7 +90,7 @@ paint_part-requires c =
     let in_loop_i_2 = (goal.at.paint_part-requires c).In-loop-i in
     let after_part_splines = (goal.at.paint_part-requires c).After-part_splines in
     let pre = c.requires in record {
-      at_le_end = (omega arith, room in_loop_i_2, pre.lengths_value.1, c.loop-i.invariant.long);
+      part = (omega arith, room in_loop_i_2, pre.sizes.1, c.loop-i.invariant.long);
       to_value
           = (ap (λ k. c.loop-i.from + k) c.part_splines.ensures, fit after_part_splines);
     }
@@ -110,7 +110,7 @@ loop-i-preserved c =
 
 pub shape_of-out : goal.shape_of-out
 shape_of-out c =
-    c.loop-i.invariant.long ∙ sym c.requires.lengths_value.2
+    c.loop-i.invariant.long ∙ sym c.requires.sizes.2
 
 pub returns : goal.returns
 unfolding paint_contours flatten

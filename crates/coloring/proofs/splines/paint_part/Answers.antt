@@ -13,9 +13,9 @@ pub paint-requires : goal.paint-requires
 paint-requires c =
     let pre = c.requires in
     record {
-      few = simp (length-take, length-drop) (omega (arith, pre.at_le_end.2));
+      few = simp (length-take, length-drop) (omega (arith, pre.part.2));
       valued = simp (length-take, length-drop) (omega (arith, pre.to_value));
-      room = simp (length-take, length-drop) (omega (arith, pre.at_le_end.3));
+      room = simp (length-take, length-drop) (omega (arith, pre.part.3));
     }
 
 pub returns : goal.returns
@@ -24,4 +24,4 @@ returns c =
     let flags = take (a.end - a.at) (drop a.at a.flags.now) in
     let bytes = paint a.division a.middle (take (a.to - a.from) (drop a.from a.values.now)) flags in
     let long : length bytes ≡ a.end - a.at = paint-length _ _ _ flags ∙ simp (length-take, length-drop) (omega arith) in
-    rw c.paint.ensures (part_front a.at (a.end - a.at) a.end bytes _ a.out.now long (omega (arith, c.requires.at_le_end.3)) (omega arith))
+    rw c.paint.ensures (part_front a.at (a.end - a.at) a.end bytes _ a.out.now long (omega (arith, c.requires.part.3)) (omega arith))

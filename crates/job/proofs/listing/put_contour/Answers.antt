@@ -21,10 +21,10 @@ module _ (c : In-loop-i) where
   rest = contour_lines c.args.contour (i + 1) (drop (i + 1) c.args.kinds.now) (drop (i + 1) c.args.colors.now)
 
   step : contour_lines c.args.contour i (drop i c.args.kinds.now) (drop i c.args.colors.now) ≡ here ++ rest
-  step = contour-step c.args.contour i c.args.kinds.now c.args.colors.now c.loop-i-test.true c.requires.contour_bound.2
+  step = contour-step c.args.contour i c.args.kinds.now c.args.colors.now c.loop-i-test.true c.requires.sizes.2
 
 pub loop-i-init : goal.loop-i-init
-loop-i-init c = (omega arith, refl, pasting_begin _ _ _ c.requires.colors_in_bounds)
+loop-i-init c = (omega arith, refl, pasting_begin _ _ _ c.requires.room)
 
 pub bounds-kinds-i : goal.bounds-kinds-i
 bounds-kinds-i c = omega arith
@@ -35,8 +35,8 @@ bounds-colors-i c = omega arith
 pub put_line-next-requires : goal.put_line-next-requires
 put_line-next-requires c =
     let in_loop_i = (goal.at.put_line-next-requires c).In-loop-i in (
-      c.requires.contour_bound.0,
-      omega (arith, c.requires.contour_bound.1),
+      c.requires.sizes.0,
+      omega (arith, c.requires.sizes.1),
       pasting_room (here in_loop_i) (rest in_loop_i) (step in_loop_i)
           c.loop-i.invariant.2,
     )

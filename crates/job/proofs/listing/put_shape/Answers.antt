@@ -45,7 +45,7 @@ module _ (c : In-loop-contour) where
 
 pub loop-contour-init : goal.loop-contour-init
 loop-contour-init c =
-    (omega arith, omega (arith, c.requires.lengths_len_bound.2), refl, pasting_begin _ _ _ c.requires.colors_in_bounds)
+    (omega arith, omega (arith, c.requires.sizes.2), refl, pasting_begin _ _ _ c.requires.room)
 
 pub offset_bounds-lengths-contour : goal.offset_bounds-lengths-contour
 offset_bounds-lengths-contour c = omega arith
@@ -77,18 +77,18 @@ slice_bounds-put_contour-start-in-loop-contour c = omega arith
 pub slice_bounds-put_contour-end-in-loop-contour : goal.slice_bounds-put_contour-end-in-loop-contour
 slice_bounds-put_contour-end-in-loop-contour c =
     let in_loop_contour = (goal.at.slice_bounds-put_contour-end-in-loop-contour c).In-loop-contour in
-    omega (arith, inside in_loop_contour, c.requires.lengths_len_bound.3)
+    omega (arith, inside in_loop_contour, c.requires.sizes.3)
 
 pub put_contour-next-requires : goal.put_contour-next-requires
 put_contour-next-requires c =
     let in_loop_contour = (goal.at.put_contour-next-requires c).In-loop-contour in
     record {
-      contour_bound = (
-        omega (arith, c.requires.lengths_len_bound.0),
-        simp (length-take, length-drop) (omega (arith, c.requires.lengths_len_bound.1)),
-        simp (length-take, length-drop) (omega (arith, c.requires.lengths_len_bound.3)),
+      sizes = (
+        omega (arith, c.requires.sizes.0),
+        simp (length-take, length-drop) (omega (arith, c.requires.sizes.1)),
+        simp (length-take, length-drop) (omega (arith, c.requires.sizes.3)),
       );
-      colors_in_bounds = pasting_room (here in_loop_contour) (rest in_loop_contour) (step in_loop_contour) c.loop-contour.invariant.3;
+      room = pasting_room (here in_loop_contour) (rest in_loop_contour) (step in_loop_contour) c.loop-contour.invariant.3;
     }
 
 pub overflow_add-contour : goal.overflow_add-contour

@@ -7,7 +7,7 @@ use Rattle.job.proofs.listing.text.Goals as goal
 pub write_answer-requires : goal.write_answer-requires
 write_answer-requires c = record {
   holds_results = record { lengths_fit = omega arith; kinds_fit = omega arith; points_fit = omega arith; colors_fit = omega arith };
-  max_text_in_bounds
+  room
       = omega arith;
 }
 

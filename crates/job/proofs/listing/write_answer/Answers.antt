@@ -77,16 +77,16 @@ write_listing-requires c =
     let in_edges = (goal.at.write_listing-requires c).In-Edges in
     let start_3 = (goal.at.write_listing-requires c).Start in
     record {
-      lengths_len_bound = (at_front in_edges).listable;
-      stand_ins_in_bounds = omega
-          (arith, ap length (at_front in_edges).text, text_few (file start_3), c.requires.max_text_in_bounds);
+      sizes = (at_front in_edges).listable;
+      room = omega
+          (arith, ap length (at_front in_edges).text, text_few (file start_3), c.requires.room);
     }
 
 pub write_refusal-requires : goal.write_refusal-requires
 write_refusal-requires c =
     let in_refused = (goal.at.write_refusal-requires c).In-Refused in
     let start_3 = (goal.at.write_refusal-requires c).Start in
-    omega (arith, ap length (refused in_refused), text_few (file start_3), c.requires.max_text_in_bounds)
+    omega (arith, ap length (refused in_refused), text_few (file start_3), c.requires.room)
 
 pub returns-in-Edges : goal.returns-in-Edges
 returns-in-Edges c =

@@ -24,24 +24,24 @@ module _ (c : Start) where
   last = word_line stand_ins_word c.args.stand_ins
 
   abbrev whole : total c.args.lengths.now ≡ length c.args.kinds.now
-  whole = c.requires.lengths_len_bound.3
+  whole = c.requires.sizes.3
 
   room : length lines + length edges + length last ≤ length c.args.out.now
-  room = omega (arith, c.requires.stand_ins_in_bounds, listing-length c.args.lengths.now c.args.kinds.now c.args.colors.now c.args.stand_ins whole)
+  room = omega (arith, c.requires.room, listing-length c.args.lengths.now c.args.kinds.now c.args.colors.now c.args.stand_ins whole)
 
 pub put_shape-lines-requires : goal.put_shape-lines-requires
 put_shape-lines-requires c =
-    let p = c.requires.lengths_len_bound in
-    record { lengths_len_bound = (p.0, p.1, p.3, p.4); colors_in_bounds = omega (arith, room (goal.at.put_shape-lines-requires c).Start) }
+    let p = c.requires.sizes in
+    record { sizes = (p.0, p.1, p.3, p.4); room = omega (arith, room (goal.at.put_shape-lines-requires c).Start) }
 
 pub put_word_line-counted-requires : goal.put_word_line-counted-requires
 put_word_line-counted-requires c =
     let start = (goal.at.put_word_line-counted-requires c).Start in
-    (c.requires.lengths_len_bound.1, omega (arith, room start, c.put_shape-lines.ensures.place, c.put_shape-lines.auto.out))
+    (c.requires.sizes.1, omega (arith, room start, c.put_shape-lines.ensures.place, c.put_shape-lines.auto.out))
 
 pub put_word_line-requires : goal.put_word_line-requires
 put_word_line-requires c = (
-  c.requires.lengths_len_bound.2,
+  c.requires.sizes.2,
   omega (
     arith,
     room (goal.at.put_word_line-requires c).Start,
