@@ -12,8 +12,7 @@ use crate::edge_coloring::code;
 use coloring::edge_coloring::edge_coloring;
 use coloring::settings::{Division, Marking, Settings, Strategy};
 
-#[unsafe(no_mangle)]
-pub extern "C" fn merelsplum_edge_coloring_simple_balanced(
+pub fn merelsplum_edge_coloring_simple_balanced(
     lengths: &[u16],
     kinds: &[u8],
     points: &[f64],
@@ -46,8 +45,7 @@ pub extern "C" fn merelsplum_edge_coloring_simple_balanced(
     ))
 }
 
-#[unsafe(no_mangle)]
-pub extern "C" fn merelsplum_edge_coloring_ink_trap_balanced(
+pub fn merelsplum_edge_coloring_ink_trap_balanced(
     lengths: &[u16],
     kinds: &[u8],
     points: &[f64],
@@ -80,8 +78,7 @@ pub extern "C" fn merelsplum_edge_coloring_ink_trap_balanced(
     ))
 }
 
-#[unsafe(no_mangle)]
-pub extern "C" fn merelsplum_collect_splines_balanced(
+pub fn merelsplum_collect_splines_balanced(
     lengths: &[u16],
     kinds: &[u8],
     points: &[f64],
@@ -113,8 +110,7 @@ pub extern "C" fn merelsplum_collect_splines_balanced(
     ))
 }
 
-#[unsafe(no_mangle)]
-pub extern "C" fn merelsplum_edge_coloring_by_distance_balanced(
+pub fn merelsplum_edge_coloring_by_distance_balanced(
     lengths: &[u16],
     kinds: &[u8],
     points: &[f64],

@@ -24,8 +24,7 @@ pub(crate) fn collected_code(answer: Colored) -> u64
     }
 }
 
-#[unsafe(no_mangle)]
-pub extern "C" fn merelsplum_collect_splines(
+pub fn merelsplum_collect_splines(
     lengths: &[u16],
     kinds: &[u8],
     points: &[f64],
@@ -51,8 +50,7 @@ pub extern "C" fn merelsplum_collect_splines(
     ))
 }
 
-#[unsafe(no_mangle)]
-pub extern "C" fn merelsplum_edge_coloring_by_distance(
+pub fn merelsplum_edge_coloring_by_distance(
     lengths: &[u16],
     kinds: &[u8],
     points: &[f64],

@@ -18,8 +18,7 @@ fn code(answer: Directed) -> u64
     }
 }
 
-#[unsafe(no_mangle)]
-pub extern "C" fn merelsplum_edge_directions(
+pub fn merelsplum_edge_directions(
     lengths: &[u16],
     kinds: &[u8],
     points: &[f64],

@@ -20,8 +20,7 @@ pub(crate) fn code(answer: Colored) -> u64
     }
 }
 
-#[unsafe(no_mangle)]
-pub extern "C" fn merelsplum_edge_coloring_simple(
+pub fn merelsplum_edge_coloring_simple(
     lengths: &[u16],
     kinds: &[u8],
     points: &[f64],
@@ -49,8 +48,7 @@ pub extern "C" fn merelsplum_edge_coloring_simple(
     ))
 }
 
-#[unsafe(no_mangle)]
-pub extern "C" fn merelsplum_edge_coloring_ink_trap(
+pub fn merelsplum_edge_coloring_ink_trap(
     lengths: &[u16],
     kinds: &[u8],
     points: &[f64],

@@ -48,8 +48,7 @@ fn write_numbers(answer: Read, numbers: &mut [u64; 6])
     }
 }
 
-#[unsafe(no_mangle)]
-pub extern "C" fn merelsplum_job_read(
+pub fn merelsplum_job_read(
     file: &[u8],
     lengths: &mut [u16],
     kinds: &mut [u8],
@@ -65,8 +64,7 @@ pub extern "C" fn merelsplum_job_read(
     read_code(answer)
 }
 
-#[unsafe(no_mangle)]
-pub extern "C" fn merelsplum_job_check(file: &[u8]) -> u64
+pub fn merelsplum_job_check(file: &[u8]) -> u64
     ensures { result ≡ colored_code (check_file file.now) }
 {
     code(color::check(file))
@@ -88,15 +86,13 @@ fn balanced_code(answer: Read) -> u64
     }
 }
 
-#[unsafe(no_mangle)]
-pub extern "C" fn merelsplum_job_balanced(file: &[u8]) -> u64
+pub fn merelsplum_job_balanced(file: &[u8]) -> u64
     ensures { result ≡ balanced_code (answer_of (accept_job file.now)) }
 {
     balanced_code(color::accept(file))
 }
 
-#[unsafe(no_mangle)]
-pub extern "C" fn merelsplum_job_color(
+pub fn merelsplum_job_color(
     file: &[u8],
     out_lengths: &mut [u16],
     out_kinds: &mut [u8],
@@ -120,8 +116,7 @@ fn listed_code(answer: Listed) -> u64
     }
 }
 
-#[unsafe(no_mangle)]
-pub extern "C" fn merelsplum_job_listing(file: &[u8], out: &mut [u8]) -> u64
+pub fn merelsplum_job_listing(file: &[u8], out: &mut [u8]) -> u64
     ensures { handed_buffer result out.new ≡ hand_out_buffer (list_file file.now out.old) }
 {
     listed_code(listing::listing(file, out))
@@ -129,8 +124,7 @@ pub extern "C" fn merelsplum_job_listing(file: &[u8], out: &mut [u8]) -> u64
 
 // The place of a contour's first byte, and 2^32 times the number of its bytes; 0 for a refused file and for a number
 // too large. Nothing is cut off: an accepted file has at most 33,179 bytes.
-#[unsafe(no_mangle)]
-pub extern "C" fn merelsplum_job_contour_part(file: &[u8], contour: usize) -> u64
+pub fn merelsplum_job_contour_part(file: &[u8], contour: usize) -> u64
     ensures { result ≡ place_code (contour_place file.now contour) }
 {
     let span = part::contour_place(file, contour);

@@ -17,8 +17,7 @@ fn code(answer: Offer) -> u64
     }
 }
 
-#[unsafe(no_mangle)]
-pub extern "C" fn merelsplum_try_add_edge(
+pub fn merelsplum_try_add_edge(
     coloring: &mut [u8],
     edge_matrix: &mut [u8],
     a: usize,
