@@ -32,10 +32,7 @@ fn is_part(file: &[u8], contour: usize, s: &[u8]) -> bool {
     if bytes != word(s, 8) {
         return false;
     }
-    check::same(
-        contour_part(file, contour),
-        part(file, start as usize, bytes as usize),
-    )
+    contour_part(file, contour) == part(file, start as usize, bytes as usize)
 }
 
 // Whether the parts of the first contours are as s says, two words each.
@@ -60,7 +57,7 @@ fn is_listing(file: &[u8], s: &[u8]) -> bool {
     if merelsplum_job_listing(file, &mut text) != s.len() as u64 {
         return false;
     }
-    check::same(&text, &expected)
+    text == expected
 }
 
 pub(crate) fn is_right(s: &[u8]) -> bool {

@@ -78,8 +78,7 @@ fn one_if(b: bool) -> u64
 }
 
 // 1 where the call of a record is answered as recorded, and else 0. What is no record is never right.
-#[unsafe(no_mangle)]
-pub extern "C" fn vectors_right(s: &[u8]) -> u64
+pub fn vectors_right(s: &[u8]) -> u64
     ensures { result ≤ cond (is_record s.now) 1 0 }
 {
     if is_record(s) {

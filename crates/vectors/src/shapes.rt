@@ -382,7 +382,7 @@ pub(crate) fn is_points(s: &[u8], points: &[f64]) -> bool
 pub(crate) fn is_bytes(s: &[u8], bytes: &[u8]) -> bool {
     let mut expected = [BYTE; 540];
     load(s, &mut expected);
-    check::same(bytes, &expected)
+    bytes == expected.as_slice()
 }
 
 // Whether four buffers hold the result of l contours, n kinds, m colours and p point places at the place at of s.

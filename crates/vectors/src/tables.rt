@@ -39,7 +39,7 @@ fn is_run(s: &[u8], coloring: &mut [u8], edge_matrix: &mut [u8], count: usize) -
     if !are_offers(part(s, first, 24 * count), coloring, edge_matrix) {
         return false;
     }
-    check::same(coloring, part(s, after, n)) && check::same(edge_matrix, part(s, after + n, m))
+    *coloring == *part(s, after, n) && *edge_matrix == *part(s, after + n, m)
 }
 
 fn colors(s: &[u8]) -> usize
