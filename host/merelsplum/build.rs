@@ -1,4 +1,4 @@
-//! Links the proved library, `libcapi.a`: from the folder `MERELSPLUM_LIB_DIR`, or from where `rt staticlib capi`
+//! Links the proved library, `libcapi.a`: from the folder `MERELSPLUM_LIB_DIR`, or from where `tools/build capi`
 //! writes it.
 
 use std::env;
@@ -9,7 +9,7 @@ fn main() {
     let folder = env::var_os("MERELSPLUM_LIB_DIR").map_or_else(|| repository.join("target/staticlib"), PathBuf::from);
     let library = folder.join("libcapi.a");
     if !library.exists() {
-        println!("cargo::error=run `rt staticlib capi`: {} is not there", library.display());
+        println!("cargo::error=run `tools/build capi`: {} is not there", library.display());
         return;
     }
     println!("cargo:rerun-if-env-changed=MERELSPLUM_LIB_DIR");

@@ -731,7 +731,7 @@ fn channels(file: &[u8]) -> Vec<u8> {
         .stdin(Stdio::piped())
         .stdout(Stdio::piped())
         .spawn()
-        .expect("rt check channels builds it");
+        .expect("tools/build channels makes it");
     // a file above 34,000 bytes may be left unread
     let _ = child.stdin.take().unwrap().write_all(file);
     child.wait_with_output().unwrap().stdout

@@ -142,6 +142,6 @@ fn print_program() {
         let all = whole(count::of_program(&program, &file));
         println!("- `{CHANNELS} < {SQUARE}`, the whole program: {all} instructions");
     } else {
-        eprintln!("speed: {CHANNELS} is not there; rt check channels makes it");
+        eprintln!("speed: {CHANNELS} is not there; tools/build channels makes it");
     }
 }
