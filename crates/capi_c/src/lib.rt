@@ -6,7 +6,8 @@ ghost use Rattle.coloring.specs.declared.settings.Strategy.TheVariants.{Simple, 
 ghost use Rattle.coloring.specs.declared.settings.Marking.TheVariants.{Colors, Numbers, Distances};
 ghost use Rattle.coloring.specs.declared.settings.Division.TheVariants.{Balanced};
 ghost use Rattle.coloring.specs.Outline.{given, at_entry, at_exit};
-ghost use Rattle.coloring.specs.EdgeColoring.{edge_coloring, settings_of, collect_splines, edge_coloring_by_distance, edge_coloring_simple, edge_coloring_ink_trap};
+ghost use Rattle.coloring.specs.EdgeColoring.{edge_coloring, settings_of, collect_splines};
+ghost use Rattle.coloring.specs.EdgeColoring.{edge_coloring_by_distance, edge_coloring_simple, edge_coloring_ink_trap};
 ghost use Rattle.capi.specs.EdgeColoring.{collected_code, colored_code, handed, hand_out};
 ghost use Rattle.coloring.specs.Directions.{edge_directions, buffers_at_entry, buffers_at_exit};
 ghost use Rattle.capi.specs.Answers.{handed_buffer, hand_out_buffer};

@@ -52,8 +52,8 @@ fn is_job(
     points: &[f64],
     distances: &[f64],
 ) -> bool
-    requires at_bound { (at ≤ 300000) × (l ≤ 80) × (n ≤ 264) × (d ≤ 2020) }
-    requires lengths_len_bound { (length lengths.now ≤ 4100) × (length points.now ≤ 4100) × (length distances.now ≤ 4100) }
+    requires places { (at ≤ 300000) × (l ≤ 80) × (n ≤ 264) × (d ≤ 2020) }
+    requires buffers { (length lengths.now ≤ 4100) × (length points.now ≤ 4100) × (length distances.now ≤ 4100) }
 {
     let from = at + 8 * l;
     let places = from + n;

@@ -398,8 +398,8 @@ fn is_result(
     points: &[f64],
     colors: &[u8],
 ) -> bool
-    requires at_bound { (at ≤ 300000) × (l ≤ 80) × (n ≤ 540) × (m ≤ 1080) × (p ≤ 4320) }
-    requires lengths_len_bound { (length lengths.now ≤ 4100) × (length points.now ≤ 4100) }
+    requires places { (at ≤ 300000) × (l ≤ 80) × (n ≤ 540) × (m ≤ 1080) × (p ≤ 4320) }
+    requires buffers { (length lengths.now ≤ 4100) × (length points.now ≤ 4100) }
 {
     let from = at + 8 * l;
     if !is_lengths(part(s, at, 8 * l), lengths) {

@@ -1,5 +1,6 @@
 -- `print_text` meets its contract: what was read is the whole input, or the first bytes of it that decide its text.
-use Rattle.std.proofs.Common.{◌≡◌, ℕ, ◌<◌, ◌≤◌, List, [], ◌++◌, Option, Some, None, Result, Ok, Err, Bool, true, false, length, take, refl, sym, ap, ◌∙◌, subst, arith, length-take-le}
+use Rattle.std.proofs.Common.{◌≡◌, ℕ, ◌<◌, ◌≤◌, List, [], ◌++◌, Option, Some, None, Result, Ok, Err, Bool, true, false, length, take, refl, sym, ap, ◌∙◌}
+use Rattle.std.proofs.Common.{subst, arith, length-take-le}
 use Rattle.std.specs.Prelude.{IfSome, OnOk, leb}
 use borrow.Author.Tests.{leb-true, leb-false}
 use Rattle.std.specs.Io.KnownBytes.{Appends, Consumes, IsAtEnd}

@@ -1,5 +1,6 @@
 -- `read_record` meets its contract: the first 16 bytes and those after them stand side by side.
-use Rattle.std.proofs.Common.{◌≡◌, ℕ, ◌-◌, ◌≤◌, List, ◌++◌, arith, length, take, drop, sym, ap, ◌∙◌, subst, length-append, length-drop, length-take-le, append_assoc}
+use Rattle.std.proofs.Common.{◌≡◌, ℕ, ◌-◌, ◌≤◌, List, ◌++◌, arith, length, take, drop, sym, ap, ◌∙◌, subst, length-append, length-drop, length-take-le}
+use Rattle.std.proofs.Common.{append_assoc}
 use Rattle.std.proofs.Math.Seq.{take-append_seam}
 use Rattle.std.specs.Io.KnownBytes.{Consumes}
 use Rattle.std.proofs.KnownBytes.{Consumes-trans}
@@ -31,5 +32,7 @@ returns-clause-bytes g c positive =
     let rest = drop 16 c.args.space.now in
     let front : length head ≡ 16 = c.read_full.auto.space ∙ length-take-le 16 c.args.space.now c.requires in
     let back : n - 16 ≤ length (drop 16 (head ++ rest)) = omega (arith, length-drop 16 (head ++ rest), c.if-size-space.false) in
-    let whole = joined 16 n head rest c.read_full-2.new.space front c.if-size-lt16.false (c.read_full-2.auto.space ∙ length-take-le (n - 16) (drop 16 (head ++ rest)) back) in
-    subst (Consumes _ _) whole (Consumes-trans _ _ _ _ _ (c.in_ok-read_full.ensures c.if-not-branch.false) (c.in_ok-read_full-2.ensures c.if-not-branch-2.false))
+    let whole = joined 16 n head rest c.read_full-2.new.space front c.if-size-lt16.false
+    (c.read_full-2.auto.space ∙ length-take-le (n - 16) (drop 16 (head ++ rest)) back) in
+    subst (Consumes _ _) whole (Consumes-trans _ _ _ _ _ (c.in_ok-read_full.ensures c.if-not-branch.false)
+    (c.in_ok-read_full-2.ensures c.if-not-branch-2.false))

@@ -61,7 +61,11 @@ lay_out_contour-requires c =
     let kinds = mid_len a.to a.next a.out_kinds.now pre.next_in_bounds.0 in
     let points = mid_len (8 * a.to) (8 * a.next) a.out_points.now pre.next_in_bounds.1 in
     let flags = mid_len a.to a.next a.out_flags.now pre.next_in_bounds.2 in
-    record { matching = (part-matching pre.part.0, flags ∙ omega (arith, pre.part.1)); out_kinds_len = (kinds ∙ omega (arith, pre.part.1), points ∙ omega arith) }
+    record {
+      matching = (part-matching pre.part.0, flags ∙ omega (arith, pre.part.1));
+      out_kinds_len
+          = (kinds ∙ omega (arith, pre.part.1), points ∙ omega arith);
+    }
 
 pub shape_of-out_kinds : goal.shape_of-out_kinds
 shape_of-out_kinds c = c.out_kinds-1.given.1
