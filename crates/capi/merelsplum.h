@@ -1,7 +1,7 @@
 /*
  * Merelsplum colours the edges of glyph outlines for multi-channel distance fields.
  *
- * Link with target/staticlib/libcapi.a, which `rt staticlib capi` writes (x86-64, System V calling convention). It
+ * Link with target/staticlib/libcapi.a, which `tools/build capi` writes (x86-64, System V calling convention). It
  * calls nothing but memcpy and memset, keeps no state and allocates nothing: any number of threads may call it, each
  * with buffers of its own.
  *
