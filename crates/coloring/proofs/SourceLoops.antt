@@ -1,5 +1,5 @@
--- The source's own loops, written down literally, give what the definitions give: `source_loop_lem` for the loop around a
--- contour with two corners or more (`(start + i) % m`, on to the next spline at its corner; coloring/mod.rs and
+-- The source's own loops, written down literally, give what the definitions give: `source_loop_lem` for the loop around
+-- a contour with two corners or more (`(start + i) % m`, on to the next spline at its corner; coloring/mod.rs and
 -- by_distance.rs), and `break_splits` for the collecting pass of a teardrop, whose second spline begins at m / 2.
 use Prim.Native.Nat.{ℕ, zero, suc, ◌+◌, ◌-◌, ◌/◌, ◌%◌, ◌≤◌, ◌<◌}
 use mathlib.Core.Bool.{Bool, true, false, cond, ◌&&◌}

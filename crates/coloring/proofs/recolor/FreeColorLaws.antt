@@ -1,5 +1,5 @@
--- The free colours of a spline: how `uses` goes along a row, the range of `vertex_possible_colors`, the colours taken of
--- a set, and the forced colour.
+-- The free colours of a spline: how `uses` goes along a row, the range of `vertex_possible_colors`, the colours taken
+-- of a set, and the forced colour.
 use mathlib.Core.Path.{◌≡◌, refl}
 use mathlib.Core.Logic.{◌≢◌}
 use mathlib.Core.Bool.{Bool, true, false, not, ◌&&◌, ◌||◌, cond, true≢false, false≢true}

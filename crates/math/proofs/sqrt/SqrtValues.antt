@@ -1,5 +1,5 @@
--- The square root on values: `sqrt_of` of a pattern's float is the float of the pattern's root (`sqrt_of_bits`), so that
--- what SqrtNearest says of patterns holds of floats: `sqrt_nearest_value` for every float that is finite and above
+-- The square root on values: `sqrt_of` of a pattern's float is the float of the pattern's root (`sqrt_of_bits`), so
+-- that what SqrtNearest says of patterns holds of floats: `sqrt_nearest_value` for every float that is finite and above
 -- zero, `sqrt_special_value` for every other.
 use Rattle.std.proofs.Common.{◌≡◌, ℕ, zero, suc, ◌+◌, ◌*◌, ◌/◌, ◌%◌, ◌^◌, ◌<◌, ◌≤◌, Bool, true, false, cond, not, T, eqb, leb, pos, sym, refl, ap, ◌∙◌, subst}
 use Rattle.std.proofs.Common.{mul-le-mul_right, lt_of_mul-lt-mul_right, mul-lt-mul_of_pos_right, mul-pos, lt_of_not-le, not-le_of_lt, arith, ltb→lt, pow_pos}

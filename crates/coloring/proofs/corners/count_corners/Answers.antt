@@ -1,3 +1,4 @@
+-- The answers for `count_corners`, by the invariant of Invariants.antt.
 use native.Mathlib.Omega.{arith}
 use mathlib.Core.Path.{ap}
 use lib.ListN.{length}

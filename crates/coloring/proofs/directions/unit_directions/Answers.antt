@@ -1,3 +1,4 @@
+-- The answers for `unit_directions`, by the invariants of Invariants.antt.
 use mathlib.Core.Path.{◌≡◌, refl, sym, ap, ◌∙◌}
 use mathlib.Core.List.{List}
 use Prim.Native.Nat.{ℕ, ◌≤◌, ◌<◌, ◌+◌}

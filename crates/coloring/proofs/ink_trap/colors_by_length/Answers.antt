@@ -1,3 +1,4 @@
+-- The answers for `colors_by_length`, by the invariants of Invariants.antt.
 use native.Mathlib.Omega.{arith}
 use mathlib.Core.Path.{◌≡◌, refl, sym, ap, ◌∙◌}
 use mathlib.Core.List.{List}

@@ -1,3 +1,4 @@
+-- The answers for `copy_flags`, by the invariant of Invariants.antt.
 use mathlib.Core.Path.{sym, ◌∙◌}
 use mathlib.Core.Bool.{false}
 use native.Mathlib.Omega.{arith}

@@ -1,3 +1,4 @@
+-- The answers for `flag_first`, by the invariant of Invariants.antt.
 use native.Mathlib.Omega.{arith}
 use mathlib.Core.Path.{◌≡◌, refl, sym, ap, ◌∙◌}
 use mathlib.Core.Bool.{false}

@@ -1,3 +1,4 @@
+-- The answers for `coordinates_fit`, by the invariant of Invariants.antt.
 use mathlib.Core.Path.{◌≡◌, refl, sym, ◌∙◌}
 use Prim.Native.Nat.{ℕ, ◌≤◌, ◌+◌, ◌*◌, ◌-◌}
 use native.Mathlib.Omega.{arith}

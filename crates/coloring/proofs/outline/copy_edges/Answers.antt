@@ -1,3 +1,4 @@
+-- The answers for `copy_edges`, by the invariant of Invariants.antt.
 use mathlib.Core.Path.{◌≡◌, refl, sym, ◌∙◌}
 use mathlib.Core.List.{[], ◌∷◌}
 use Prim.Native.Nat.{◌+◌}

@@ -1,3 +1,4 @@
+-- The answers for `total`, by the invariant of Invariants.antt.
 use native.Mathlib.Omega.{arith}
 use Rattle.coloring.proofs.outline.CheckLaws.{total-step, total_end}
 use Rattle.coloring.proofs.outline.total.Goals as goal

@@ -1,3 +1,4 @@
+-- The answers for `sort_by_distance`, by the measure of Invariants.antt.
 use mathlib.Core.Path.{◌≡◌, sym, ap, ap₂, subst, ◌∙◌}
 use mathlib.Core.Bool.{true}
 use mathlib.Core.List.{List, ◌++◌, append-nil}

@@ -1,3 +1,4 @@
+-- The answers for `copy`, by the invariant of Invariants.antt.
 use mathlib.Core.Path.{sym, ◌∙◌}
 use native.Mathlib.Omega.{arith}
 use lib.ListN.{length-set}

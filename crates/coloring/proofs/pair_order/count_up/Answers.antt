@@ -1,3 +1,4 @@
+-- The answers for `count_up`, by the invariant of Invariants.antt.
 use mathlib.Core.Path.{◌≡◌, refl, sym, ap, ◌∙◌}
 use mathlib.Core.List.{List}
 use Prim.Native.Nat.{ℕ, ◌+◌, ◌<◌}

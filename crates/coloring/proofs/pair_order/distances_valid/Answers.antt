@@ -1,3 +1,4 @@
+-- The answers for `distances_valid`, by the invariant of Invariants.antt.
 use mathlib.Core.Path.{refl, sym, ◌∙◌}
 use native.Mathlib.Omega.{arith}
 use borrow.Author.Tests.{not-true, not-false}

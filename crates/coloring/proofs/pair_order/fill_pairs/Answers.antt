@@ -1,3 +1,4 @@
+-- The answers for `fill_pairs`, by the invariants of Invariants.antt.
 use mathlib.Core.Path.{subst}
 use mathlib.Core.List.{◌∷◌}
 use Prim.Native.Nat.{ℕ, ◌+◌, ◌<◌}

@@ -1,3 +1,4 @@
+-- The answers for `merge`, by the invariant of Invariants.antt.
 use mathlib.Core.Path.{◌≡◌, sym, ◌∙◌}
 use mathlib.Core.Bool.{Bool}
 use native.Mathlib.Omega.{arith}

@@ -1,3 +1,4 @@
+-- The answers for `uncolor_from`, by the invariant of Invariants.antt.
 use mathlib.Core.Path.{refl, sym, ◌∙◌}
 use native.Mathlib.Omega.{arith}
 use Rattle.coloring.specs.Recolor.{Recoloring, recoloring}

@@ -1,3 +1,4 @@
+-- The answers for `uses`, by the invariant of Invariants.antt.
 use mathlib.Core.Path.{refl, sym, ap, ◌∙◌}
 use mathlib.Core.Bool.{◌||◌, or_assoc, or-false}
 use native.Mathlib.Omega.{arith}

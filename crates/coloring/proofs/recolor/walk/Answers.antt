@@ -1,3 +1,4 @@
+-- The answers for `walk`, by the invariants of Invariants.antt.
 use mathlib.Core.Path.{◌≡◌, refl, sym, ap, ◌∙◌}
 use mathlib.Core.Bool.{true, false, ◌&&◌}
 use mathlib.Core.List.{List}

@@ -1,3 +1,4 @@
+-- The answers for `simple_colors`, by the invariant of Invariants.antt.
 use native.Mathlib.Omega.{arith}
 use mathlib.Core.Path.{◌≡◌}
 use Prim.Native.Nat.{suc, ◌+◌, ◌-◌, ◌<◌}

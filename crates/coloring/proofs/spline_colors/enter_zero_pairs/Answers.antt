@@ -1,3 +1,4 @@
+-- The answers for `enter_zero_pairs`, by the invariant of Invariants.antt.
 use mathlib.Core.Path.{◌≡◌, sym, ap, subst, ◌∙◌}
 use mathlib.Core.Bool.{true, false}
 use mathlib.Core.List.{List}

@@ -1,3 +1,4 @@
+-- The answers for `offer_pairs`, by the invariant of Invariants.antt.
 use mathlib.Core.Path.{refl, sym, ap, ◌∙◌}
 use native.Mathlib.Omega.{arith}
 use Rattle.coloring.specs.SplineTable.{Offered}

@@ -1,3 +1,4 @@
+-- The answers for `at_most`, by the invariant of Invariants.antt.
 use mathlib.Core.Path.{◌≡◌, sym, ap, ◌∙◌}
 use mathlib.Core.Bool.{◌&&◌}
 use native.Mathlib.Omega.{arith}

@@ -1,3 +1,4 @@
+-- The answers for `is_mirrored`, by the invariant of Invariants.antt.
 use mathlib.Core.Path.{◌≡◌, sym}
 use native.Mathlib.Omega.{arith}
 use lib.Arith.{digits_lt}

@@ -1,3 +1,4 @@
+-- The answers for `spread`, by the invariant of Invariants.antt.
 use native.Mathlib.Omega.{arith}
 use mathlib.Core.Path.{sym, ◌∙◌}
 use Prim.Native.Nat.{◌<◌}

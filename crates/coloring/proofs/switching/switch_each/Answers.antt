@@ -1,3 +1,4 @@
+-- The answers for `switch_each`, by the invariant of Invariants.antt.
 use native.Mathlib.Omega.{arith}
 use mathlib.Core.Path.{◌≡◌, refl, ap}
 use Prim.Native.Nat.{ℕ, zero, suc, ◌+◌, ◌-◌, ◌<◌}

@@ -1,3 +1,4 @@
+-- The answers for `paint_runs`, by the invariant of Invariants.antt.
 use native.Mathlib.Omega.{arith}
 use Prim.Native.Nat.{ℕ, ◌<◌}
 use mathlib.Core.Path.{◌≡◌, refl, sym, ap, ◌∙◌}

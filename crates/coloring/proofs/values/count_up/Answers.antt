@@ -1,3 +1,4 @@
+-- The answers for `count_up`, by the invariant of Invariants.antt.
 use native.Mathlib.Omega.{arith}
 use native.Mathlib.Nat.{zero-add}
 use mathlib.Core.Path.{refl, sym, ◌∙◌}

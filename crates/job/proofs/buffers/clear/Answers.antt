@@ -1,3 +1,4 @@
+-- The answers for `clear`, by the invariant of Invariants.antt.
 use mathlib.Core.Path.{◌≡◌, refl, ◌∙◌}
 use native.Mathlib.Omega.{arith}
 use lib.ListN.{length, replicate, length-replicate, length-set}

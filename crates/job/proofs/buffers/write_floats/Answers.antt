@@ -1,3 +1,4 @@
+-- The answers for `write_floats`, by the invariant of Invariants.antt.
 use mathlib.Core.Path.{◌≡◌, refl, sym, ap, ◌∙◌}
 use Prim.Native.Nat.{◌+◌, ◌*◌, ◌-◌}
 use native.Mathlib.Omega.{arith}

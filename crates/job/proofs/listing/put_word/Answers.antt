@@ -1,3 +1,4 @@
+-- The answers for `put_word`, by the invariant of Invariants.antt.
 use mathlib.Core.Path.{◌≡◌, refl, ◌∙◌}
 use mathlib.Core.List.{List, [], ◌∷◌, ◌++◌}
 use Prim.Native.Nat.{ℕ, ◌+◌}

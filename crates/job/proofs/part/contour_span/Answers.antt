@@ -1,3 +1,4 @@
+-- The answers for `contour_span`, by the invariant of Invariants.antt.
 use mathlib.Core.Path.{◌≡◌, sym, ap, ◌∙◌}
 use mathlib.Core.List.{List}
 use Prim.Native.Nat.{ℕ}

@@ -1,3 +1,4 @@
+-- The answers for `scan`, by the invariant of Invariants.antt.
 use mathlib.Core.Path.{◌≡◌, sym, ap, ◌∙◌}
 use Prim.Native.Nat.{ℕ}
 use native.Mathlib.Omega.{arith}

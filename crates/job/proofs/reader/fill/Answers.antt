@@ -1,3 +1,4 @@
+-- The answers for `fill`, by the invariant of Invariants.antt.
 use mathlib.Core.Path.{◌≡◌, sym, ap, subst, ◌∙◌}
 use mathlib.Core.List.{List}
 use Prim.Native.Nat.{ℕ}

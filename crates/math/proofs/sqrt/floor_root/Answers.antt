@@ -1,3 +1,4 @@
+-- The answers for `floor_root`, by the invariant of Invariants.antt.
 use Rattle.std.proofs.Common.{◌≡◌, ℕ, ◌+◌, ◌*◌, ◌/◌, ◌%◌, ◌^◌, ◌<◌, ◌≤◌, ap, ◌∙◌, lt_of_lt_of_le, le_of_suc-le-suc, pow-suc, add-one, arith, pow_mono}
 use Rattle.math.proofs.sqrt.floor_root.Invariants.{Taken}
 use Rattle.math.proofs.sqrt.floor_root.Goals as goal
