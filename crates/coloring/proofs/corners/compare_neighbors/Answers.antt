@@ -30,20 +30,20 @@ module _ (start : Start) where
 
 -- the next contour lies within the edges
 module _ (c : In-loop-i) where
-  abbrev start_2 : Start
-  start_2 = (goal.at.In-loop-i c).Start
+  abbrev start_of_turn : Start
+  start_of_turn = (goal.at.In-loop-i c).Start
 
   abbrev n : ℕ
   n = get_or c.args.lengths.now c.loop-i.i 0
 
-  room : c.loop-i.at + n ≤ edges start_2
+  room : c.loop-i.at + n ≤ edges start_of_turn
   room = next_fits _ _ _ _ c.loop-i.invariant.0 c.loop-i-test.true
 
 pub loop-i-init : goal.loop-i-init
 loop-i-init c =
-    let start_3 = (goal.at.loop-i-init c).Start in
+    let start = (goal.at.loop-i-init c).Start in
     let a = c.args in
-    let long = all-length a.threshold a.lengths.now (all start_3) (omega (arith, c.requires.2, as_many start_3)) in
+    let long = all-length a.threshold a.lengths.now (all start) (omega (arith, c.requires.2, as_many start)) in
     (none_passed _ _ c.requires.2, refl, sym (over-all _ a.flags.now (sym (long ∙ c.requires.2))))
 
 pub offset_bounds-lengths-i : goal.offset_bounds-lengths-i
@@ -73,23 +73,23 @@ loop-i-smaller c = omega arith
 pub loop-i-preserved : goal.loop-i-preserved
 loop-i-preserved c =
     let in_loop_i = (goal.at.loop-i-preserved c).In-loop-i in
-    let start_3 = (goal.at.loop-i-preserved c).Start in
+    let start = (goal.at.loop-i-preserved c).Start in
     let at = c.loop-i in
     let a = c.args in
     let n = n in_loop_i in
     let h = c.loop-i-test.true in
-    let contour = take n (drop at.at (all start_3)) in
+    let contour = take n (drop at.at (all start)) in
     let m : at.at + n - at.at ≡ n = omega arith in
     let flagged : c.identify_part.new.flags ≡ over_from at.at (flags_between a.threshold contour) at.flags =
     rw (at.invariant.1, m) at c.identify_part.ensures in
     let inside = room in_loop_i in
     let long : length (flags_between a.threshold contour) ≡ n =
     between-length a.threshold contour
-    ∙ length-take-le n (drop at.at (all start_3)) (omega (arith, length-drop at.at (all start_3), as_many start_3)) in (
+    ∙ length-take-le n (drop at.at (all start)) (omega (arith, length-drop at.at (all start), as_many start)) in (
       next-passed _ _ _ _ at.invariant.0 h,
       c.identify_part.auto.flags ∙ at.invariant.1,
       at.invariant.2
-          ∙ rw (flagged, all-step a.threshold a.lengths.now (all start_3) at.i at.at h)
+          ∙ rw (flagged, all-step a.threshold a.lengths.now (all start) at.i at.at h)
           (over-more at.at n (flags_between a.threshold contour) _ at.flags long (omega (arith, at.invariant.1))),
     )
 
@@ -98,7 +98,7 @@ shape_of-flags c = omega arith
 
 pub returns : goal.returns
 returns c =
-    let start_3 = (goal.at.returns c).Start in
+    let start = (goal.at.returns c).Start in
     let at = c.loop-i in
     let a = c.args in
-    sym (at.invariant.2 ∙ rw (all_end a.threshold a.lengths.now (all start_3) at.i at.at c.loop-i-test.false) (over_nothing at.at at.flags))
+    sym (at.invariant.2 ∙ rw (all_end a.threshold a.lengths.now (all start) at.i at.at c.loop-i-test.false) (over_nothing at.at at.flags))

@@ -102,10 +102,10 @@ returns-in-Failed c =
 
 -- and passed
 module _ (c : In_default) where
-  abbrev start_2 : Start
-  start_2 = (goal.at.In_default c).Start
+  abbrev start_of_checked : Start
+  start_of_checked = (goal.at.In_default c).Start
 
-  passed : first_refusal (check_outline (given start_2)) ≡ all_pass
+  passed : first_refusal (check_outline (given start_of_checked)) ≡ all_pass
   passed = sym c.check_outline-checked.ensures ∙ ap checked_answer c.in_default.is
 
 pub overflow_mul-places : goal.overflow_mul-places
@@ -121,14 +121,14 @@ overflow_mul-marks c =
 pub returns-then-places-out_directions : goal.returns-then-places-out_directions
 returns-then-places-out_directions c =
     let start = (goal.at.returns-then-places-out_directions c).Start in
-    let in_default_2 = (goal.at.returns-then-places-out_directions c).In_default in
-    directions-short (given start) (old start) (passed in_default_2) c.if-places-out_directions.true
+    let in_default = (goal.at.returns-then-places-out_directions c).In_default in
+    directions-short (given start) (old start) (passed in_default) c.if-places-out_directions.true
 
 pub returns-then-marks-out_stand_ins : goal.returns-then-marks-out_stand_ins
 returns-then-marks-out_stand_ins c =
     let start = (goal.at.returns-then-marks-out_stand_ins c).Start in
-    let in_default_2 = (goal.at.returns-then-marks-out_stand_ins c).In_default in
-    marks-short (given start) (old start) (passed in_default_2) c.if-places-out_directions.false c.if-marks-out_stand_ins.true
+    let in_default = (goal.at.returns-then-marks-out_stand_ins c).In_default in
+    marks-short (given start) (old start) (passed in_default) c.if-places-out_directions.false c.if-marks-out_stand_ins.true
 
 -- there is room
 module _ (c : Else-marks-out_stand_ins) where
@@ -150,10 +150,10 @@ slice_bounds-unit_directions-end-4 c =
 pub unit_directions-requires : goal.unit_directions-requires
 unit_directions-requires c =
     let start = (goal.at.unit_directions-requires c).Start in
-    let in_default_2 = (goal.at.unit_directions-requires c).In_default in
+    let in_default = (goal.at.unit_directions-requires c).In_default in
     let else_marks_out_stand_ins = (goal.at.unit_directions-requires c).Else-marks-out_stand_ins in
     record {
-      agrees = agrees (given start) (old start) (passed in_default_2);
+      agrees = agrees (given start) (old start) (passed in_default);
       out_len = (
         length-take-le _ c.args.out_directions.now (directions-room else_marks_out_stand_ins),
         length-take-le _ c.args.out_stand_ins.now (marks-room else_marks_out_stand_ins),
@@ -163,7 +163,7 @@ unit_directions-requires c =
 pub returns : goal.returns
 returns c =
     let start = (goal.at.returns c).Start in
-    let in_default_2 = (goal.at.returns c).In_default in
+    let in_default = (goal.at.returns c).In_default in
     let else_marks_out_stand_ins = (goal.at.returns c).Else-marks-out_stand_ins in
     rw (c.unit_directions.ensures.out_after, c.unit_directions.ensures.marks_after)
-    (fits (given start) (old start) (passed in_default_2) (directions-room else_marks_out_stand_ins) (marks-room else_marks_out_stand_ins))
+    (fits (given start) (old start) (passed in_default) (directions-room else_marks_out_stand_ins) (marks-room else_marks_out_stand_ins))

@@ -41,11 +41,11 @@ module _ (c : In-loop-at) where
 
 pub loop-i-init : goal.loop-i-init
 loop-i-init c =
-    let start_2 = (goal.at.loop-i-init c).Start in (
+    let start = (goal.at.loop-i-init c).Start in (
       none_passed _ _ (sym c.requires.agrees.edges),
       record {
-        directed = directing_none 4 direction_places (λ d. refl) (edges start_2) c.args.out.now (omega (arith, c.requires.out_len.0, as_many start_2));
-        marked = directing_none 2 stand_in_marks (λ d. refl) (edges start_2) c.args.marks.now (omega (arith, c.requires.out_len.1, as_many start_2));
+        directed = directing_none 4 direction_places (λ d. refl) (edges start) c.args.out.now (omega (arith, c.requires.out_len.0, as_many start));
+        marked = directing_none 2 stand_in_marks (λ d. refl) (edges start) c.args.marks.now (omega (arith, c.requires.out_len.1, as_many start));
       },
     )
 
@@ -64,16 +64,16 @@ edge_at-requires c = (inside c, c.requires.agrees.places)
 pub write_directions-requires : goal.write_directions-requires
 write_directions-requires c =
     let in_loop_at = (goal.at.write_directions-requires c).In-loop-at in
-    let start_2 = (goal.at.write_directions-requires c).Start in (
-      omega (arith, inside in_loop_at, c.loop-at.invariant.1.directed.room, as_many start_2),
+    let start = (goal.at.write_directions-requires c).Start in (
+      omega (arith, inside in_loop_at, c.loop-at.invariant.1.directed.room, as_many start),
       omega (arith, inside in_loop_at, c.requires.agrees.few),
     )
 
 pub write_marks-requires : goal.write_marks-requires
 write_marks-requires c =
     let in_loop_at = (goal.at.write_marks-requires c).In-loop-at in
-    let start_2 = (goal.at.write_marks-requires c).Start in (
-      omega (arith, inside in_loop_at, c.loop-at.invariant.1.marked.room, as_many start_2),
+    let start = (goal.at.write_marks-requires c).Start in (
+      omega (arith, inside in_loop_at, c.loop-at.invariant.1.marked.room, as_many start),
       omega (arith, inside in_loop_at, c.requires.agrees.few),
     )
 
@@ -83,12 +83,12 @@ overflow_add-at c =
 
 pub loop-at-preserved : goal.loop-at-preserved
 loop-at-preserved c =
-    let start_2 = (goal.at.loop-at-preserved c).Start in
+    let start = (goal.at.loop-at-preserved c).Start in
     let here = c.loop-at in
-    let all = edges start_2 in
+    let all = edges start in
     let e : c.unit_directions-d.result ≡ unit_directions (get_or all here.at any_edge) =
     c.unit_directions-d.ensures ∙ ap unit_directions c.edge_at.ensures in
-    let h : here.at < length all = omega (arith, inside (goal.at.loop-at-preserved c).In-loop-at, as_many start_2) in (
+    let h : here.at < length all = omega (arith, inside (goal.at.loop-at-preserved c).In-loop-at, as_many start) in (
       omega (arith, c.loop-at-test.true),
       record {
         directed = rw (c.write_directions.ensures, e)
@@ -112,13 +112,13 @@ loop-i-preserved c =
 pub returns : goal.returns
 unfolding encode_directions marks_of
 returns c =
-    let start_2 = (goal.at.returns c).Start in
+    let start = (goal.at.returns c).Start in
     let at = c.loop-i in
     let none = total_end c.args.lengths.now at.i c.loop-i-test.false in
-    let done : length (edges start_2) ≤ at.at = omega (arith, at.invariant.0.left, none, as_many start_2) in record {
-      out_after = directing_all 4 direction_places (λ d. refl) (edges start_2) at.out at.at at.invariant.1.directed done;
+    let done : length (edges start) ≤ at.at = omega (arith, at.invariant.0.left, none, as_many start) in record {
+      out_after = directing_all 4 direction_places (λ d. refl) (edges start) at.out at.at at.invariant.1.directed done;
       marks_after = directing_all 2
-          stand_in_marks (λ d. refl) (edges start_2) at.marks at.at at.invariant.1.marked done;
+          stand_in_marks (λ d. refl) (edges start) at.marks at.at at.invariant.1.marked done;
     }
 
 pub shape_of-out : goal.shape_of-out

@@ -71,8 +71,8 @@ module _ (c : In_default) where
 
 -- the corners are searched
 module _ (c : After-find_corners-stand_ins) where
-  abbrev in_default_2 : In_default
-  in_default_2 = (goal.at.After-find_corners-stand_ins c).In_default
+  abbrev in_default_of_corners : In_default
+  in_default_of_corners = (goal.at.After-find_corners-stand_ins c).In_default
 
   abbrev n : ℕ
   n = length c.args.kinds.now
@@ -81,7 +81,7 @@ module _ (c : After-find_corners-stand_ins) where
   flags = c.find_corners-stand_ins.new.flags
 
   size : length flags ≡ n
-  size = c.find_corners-stand_ins.auto.flags ∙ length-take-le n none (agrees in_default_2).few
+  size = c.find_corners-stand_ins.auto.flags ∙ length-take-le n none (agrees in_default_of_corners).few
 
   -- the array with them, and its first part
   within : n ≤ length (flags ++ drop n none)
@@ -92,24 +92,24 @@ module _ (c : After-find_corners-stand_ins) where
 
 pub returns-then-distances-gt-MAX_DISTANCES : goal.returns-then-distances-gt-MAX_DISTANCES
 returns-then-distances-gt-MAX_DISTANCES c =
-    let start_2 = (goal.at.returns-then-distances-gt-MAX_DISTANCES c).Start in
-    refused c.args.settings (given start_2) c.args.distances.now (old start_2)
-    (too_many c.args.settings (given start_2) c.args.distances.now c.if-distances-gt-MAX_DISTANCES.true)
+    let start = (goal.at.returns-then-distances-gt-MAX_DISTANCES c).Start in
+    refused c.args.settings (given start) c.args.distances.now (old start)
+    (too_many c.args.settings (given start) c.args.distances.now c.if-distances-gt-MAX_DISTANCES.true)
 
 pub returns-in-Failed : goal.returns-in-Failed
 returns-in-Failed c =
-    let start_2 = (goal.at.returns-in-Failed c).Start in
+    let start = (goal.at.returns-in-Failed c).Start in
     let failed = sym c.check-checked.ensures ∙ ap checked_answer c.in-Failed.is in
-    refused c.args.settings (given start_2) c.args.distances.now (old start_2)
-    (not_many c.args.settings (given start_2) c.args.distances.now c.if-distances-gt-MAX_DISTANCES.false ∙ failed)
+    refused c.args.settings (given start) c.args.distances.now (old start)
+    (not_many c.args.settings (given start) c.args.distances.now c.if-distances-gt-MAX_DISTANCES.false ∙ failed)
 
 pub slice_bounds-flags-end : goal.slice_bounds-flags-end
 slice_bounds-flags-end c = (agrees c).few
 
 pub slice_bounds-find_corners-end : goal.slice_bounds-find_corners-end
 slice_bounds-find_corners-end c =
-    let in_default_3 = (goal.at.slice_bounds-find_corners-end c).In_default in
-    sym (length-take-le (length c.args.kinds.now) none (agrees in_default_3).few)
+    let in_default = (goal.at.slice_bounds-find_corners-end c).In_default in
+    sym (length-take-le (length c.args.kinds.now) none (agrees in_default).few)
 
 pub find_corners-stand_ins-requires : goal.find_corners-stand_ins-requires
 find_corners-stand_ins-requires c =
@@ -130,9 +130,9 @@ slice_bounds-color_shape-end c =
 
 pub color_shape-requires : goal.color_shape-requires
 color_shape-requires c =
-    let in_default_3 = (goal.at.color_shape-requires c).In_default in
+    let in_default = (goal.at.color_shape-requires c).In_default in
     let after_find_corners_stand_ins = (goal.at.color_shape-requires c).After-find_corners-stand_ins in
-    let a = agrees in_default_3 in
+    let a = agrees in_default in
     record {
       matching = record { places = a.places; flagged = ap length (front after_find_corners_stand_ins) ∙ size after_find_corners_stand_ins; few = a.few };
       whole = sym a.edges;
@@ -142,7 +142,7 @@ color_shape-requires c =
 pub returns : goal.returns
 returns c =
     let after_find_corners_stand_ins = (goal.at.returns c).After-find_corners-stand_ins in
-    let start_2 = (goal.at.returns c).Start in
-    let in_default_3 = (goal.at.returns c).In_default in
+    let start = (goal.at.returns c).Start in
+    let in_default = (goal.at.returns c).In_default in
     (rw (front after_find_corners_stand_ins) at c.color_shape.ensures)
-    ∙ goes_on c.args.settings (given start_2) c.args.distances.now (old start_2) (all-passed in_default_3) c.find_corners-stand_ins.ensures
+    ∙ goes_on c.args.settings (given start) c.args.distances.now (old start) (all-passed in_default) c.find_corners-stand_ins.ensures

@@ -64,8 +64,8 @@ module _ (c : After-mark) where
   abbrev after_measure : After-measure
   after_measure = (goal.at.After-mark c).After-measure
 
-  abbrev start_2 : Start
-  start_2 = (goal.at.After-mark c).Start
+  abbrev start_of_mark : Start
+  start_of_mark = (goal.at.After-mark c).Start
 
   abbrev marked_corners : List InkTrapCorner
   marked_corners = take (count after_measure) c.mark.corners
@@ -73,7 +73,7 @@ module _ (c : After-mark) where
   all-marked : c.mark.i ≡ count after_measure
   all-marked = omega arith
 
-  marked : marked_corners ≡ mark_minors (measure_corners (contour start_2))
+  marked : marked_corners ≡ mark_minors (measure_corners (contour start_of_mark))
   marked =
       let n = count after_measure in
       let s = c.measure.spline_length in
@@ -95,15 +95,15 @@ module _ (c : After-majors) where
   abbrev after_mark : After-mark
   after_mark = (goal.at.After-majors c).After-mark
 
-  abbrev after_measure_2 : After-measure
-  after_measure_2 = (goal.at.After-majors c).After-measure
+  abbrev measure_of_majors : After-measure
+  measure_of_majors = (goal.at.After-majors c).After-measure
 
   inked : color_majors Black c.mark.left c.args.pen (marked_corners after_mark)
-      ≡ record { corners = take (count after_measure_2) c.majors.corners; pen = c.majors.ink }
+      ≡ record { corners = take (count measure_of_majors) c.majors.corners; pen = c.majors.ink }
   inked =
       let at = c.majors in
-      at.invariant.3 ∙ going-ends at.j (count after_measure_2) at.initial' at.left
-      at.ink at.corners at.invariant.0 c.majors-test.false (omega (arith, few after_measure_2))
+      at.invariant.3 ∙ going-ends at.j (count measure_of_majors) at.initial' at.left
+      at.ink at.corners at.invariant.0 c.majors-test.false (omega (arith, few measure_of_majors))
 
 pub measure-init : goal.measure-init
 measure-init c =
@@ -217,14 +217,14 @@ mark-smaller c = omega arith
 
 pub mark-preserved : goal.mark-preserved
 mark-preserved c =
-    let after_measure_3 = (goal.at.mark-preserved c).After-measure in
+    let after_measure = (goal.at.mark-preserved c).After-measure in
     let at = c.mark in
-    let n = count after_measure_3 in
+    let n = count after_measure in
     let flag = c.is_minor-minor.ensures in
     let corner = c.with_minor.ensures in
     let h : at.i < n = omega arith in
-    let fits : n ≤ length (set (array after_measure_3) 0 c.closed.result) = omega (arith, at.invariant.2, few after_measure_3) in
-    let same : n ≤ length at.corners = omega (arith, few after_measure_3) in
+    let fits : n ≤ length (set (array after_measure) 0 c.closed.result) = omega (arith, at.invariant.2, few after_measure) in
+    let same : n ≤ length at.corners = omega (arith, few after_measure) in
     let minor : c.with_minor.result.minor ≡ c.is_minor-minor.result = ap (λ (k : InkTrapCorner). k.minor) corner in (
       omega arith,
       simp length-set at.invariant.1,
@@ -235,7 +235,7 @@ mark-preserved c =
         | else-minor w ↦
             omega (arith, at.invariant.3, w.left-is, majors_more at.i at.corners c.with_minor.result (omega arith) (minor ∙ w.if-minor.false))
       ],
-      mark_turn at.i n (set (array after_measure_3) 0 c.closed.result) at.corners h fits same at.invariant.4 flag corner,
+      mark_turn at.i n (set (array after_measure) 0 c.closed.result) at.corners h fits same at.invariant.4 flag corner,
     )
 
 pub majors-init : goal.majors-init
@@ -249,12 +249,12 @@ bounds-corners-j c = omega arith
 
 pub overflow_sub-left-then-not-corner : goal.overflow_sub-left-then-not-corner
 overflow_sub-left-then-not-corner c =
-    let after_measure_3 = (goal.at.overflow_sub-left-then-not-corner c).After-measure in
+    let after_measure = (goal.at.overflow_sub-left-then-not-corner c).After-measure in
     let at = c.majors in
     omega (
       arith,
       at.invariant.2,
-      majors_fall at.j (count after_measure_3) at.corners (omega arith) (omega (arith, few after_measure_3))
+      majors_fall at.j (count after_measure) at.corners (omega arith) (omega (arith, few after_measure))
           (not-true _ c.if-not-corner.true),
     )
 
@@ -272,11 +272,11 @@ majors-smaller c = omega arith
 
 pub majors-preserved : goal.majors-preserved
 majors-preserved c =
-    let after_measure_3 = (goal.at.majors-preserved c).After-measure in
+    let after_measure = (goal.at.majors-preserved c).After-measure in
     let at = c.majors in
-    let n = count after_measure_3 in
+    let n = count after_measure in
     let h : at.j < n = omega arith in
-    let fits : n ≤ length at.corners = omega (arith, few after_measure_3) in
+    let fits : n ≤ length at.corners = omega (arith, few after_measure) in
     elim c.if-not-corner.branch [
       | then-not-corner w ↦
           let major = not-true _ w.if-not-corner.true in (
@@ -300,12 +300,12 @@ majors-preserved c =
 
 pub minors-init : goal.minors-init
 minors-init c =
-    let after_measure_3 = (goal.at.minors-init c).After-measure in
+    let after_measure = (goal.at.minors-init c).After-measure in
     let at = c.majors in (
       omega arith,
       at.invariant.1,
-      c.requires.2 ∙ sym (counted after_measure_3),
-      ap (λ k. color_minors 0 k at.ink.color (take (count after_measure_3) at.corners)) (omega arith),
+      c.requires.2 ∙ sym (counted after_measure),
+      ap (λ k. color_minors 0 k at.ink.color (take (count after_measure) at.corners)) (omega arith),
       refl,
       refl,
     )
@@ -346,11 +346,11 @@ minors-smaller c = omega arith
 
 pub minors-preserved : goal.minors-preserved
 minors-preserved c =
-    let after_measure_3 = (goal.at.minors-preserved c).After-measure in
+    let after_measure = (goal.at.minors-preserved c).After-measure in
     let at = c.minors in
-    let n = count after_measure_3 in
+    let n = count after_measure in
     let h : at.k < n = omega arith in
-    let fits : n ≤ length at.corners = omega (arith, few after_measure_3) in
+    let fits : n ≤ length at.corners = omega (arith, few after_measure) in
     let inside : at.k < length at.corners = omega arith in
     let room : at.k < length at.colors = omega (arith, at.invariant.2) in
     let long = length-set at.colors at.k c.bits.result ∙ at.invariant.2 in
@@ -382,19 +382,19 @@ shape_of-colors c =
 
 pub returns : goal.returns
 returns c =
-    let after_measure_3 = (goal.at.returns c).After-measure in
-    let start_3 = (goal.at.returns c).Start in
-    let after_mark_2 = (goal.at.returns c).After-mark in
+    let after_measure = (goal.at.returns c).After-measure in
+    let start = (goal.at.returns c).Start in
+    let after_mark = (goal.at.returns c).After-mark in
     let after_majors = (goal.at.returns c).After-majors in
     let at = c.minors in
     let ink = c.majors.ink in
-    let n = count after_measure_3 in
+    let n = count after_measure in
     let last : at.k ≡ n = omega arith in
-    let all = length-take-le n at.corners (omega (arith, few after_measure_3)) in
-    let corners : color_corners (measure_corners (contour start_3)) c.args.pen ≡ record { corners = take n at.corners; pen = ink } =
-    colored _ _ (marked_corners after_mark_2) c.mark.left _ n (marked after_mark_2) (majors after_mark_2) (inked after_majors)
-    (length-take-le n c.mark.corners (omega (arith, c.mark.invariant.1, few after_measure_3)))
+    let all = length-take-le n at.corners (omega (arith, few after_measure)) in
+    let corners : color_corners (measure_corners (contour start)) c.args.pen ≡ record { corners = take n at.corners; pen = ink } =
+    colored _ _ (marked_corners after_mark) c.mark.left _ n (marked after_mark) (majors after_mark) (inked after_majors)
+    (length-take-le n c.mark.corners (omega (arith, c.mark.invariant.1, few after_measure)))
     ∙ ap (λ (cs : List InkTrapCorner). record { corners = cs; pen = ink })
     (at.invariant.3 ∙ minors-done at.k n at.color at.corners c.minors-test.false) in
-    drawn (contour start_3) c.args.pen ink (take n at.corners) at.colors at.last corners
+    drawn (contour start) c.args.pen ink (take n at.corners) at.colors at.last corners
     (sym (take_all n at.colors (omega (arith, at.invariant.2))) ∙ rw last at at.invariant.4) (rw all (rw last at at.invariant.5))

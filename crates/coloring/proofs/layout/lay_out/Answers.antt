@@ -104,12 +104,12 @@ bounds-out_lengths-i c =
 pub lay_out_part-requires : goal.lay_out_part-requires
 lay_out_part-requires c =
     let after_part_edges_edges = (goal.at.lay_out_part-requires c).After-part_edges-edges in
-    let in_loop_i_2 = (goal.at.lay_out_part-requires c).In-loop-i in
+    let in_loop_i = (goal.at.lay_out_part-requires c).In-loop-i in
     let pre = c.requires in
     let at = c.loop-i in
     let kept = at.invariant.0 in
     let enough = fit after_part_edges_edges in record {
-      part = (record { matching = pre.cut.matching; start = omega arith; inside = room in_loop_i_2 }, ap (λ k. at.to + k) c.part_edges-edges.ensures);
+      part = (record { matching = pre.cut.matching; start = omega arith; inside = room in_loop_i }, ap (λ k. at.to + k) c.part_edges-edges.ensures);
       next_in_bounds = (
         omega (arith, enough, kept.kinds_kept, pre.result_room.kinds_fit),
         omega (arith, enough, kept.points_kept, pre.result_room.points_fit),

@@ -77,8 +77,8 @@ module _ (c : After-row-entries) where
       }
 
 module _ (c : After-uncolor_same_neighbors-waiting) where
-  abbrev after_first_possible_color_d_2 : After-first_possible_color-d
-  after_first_possible_color_d_2 = (goal.at.After-uncolor_same_neighbors-waiting c).After-first_possible_color-d
+  abbrev first_color_of_waiting : After-first_possible_color-d
+  first_color_of_waiting = (goal.at.After-uncolor_same_neighbors-waiting c).After-first_possible_color-d
 
   abbrev after_row_entries : After-row-entries
   after_row_entries = (goal.at.After-uncolor_same_neighbors-waiting c).After-row-entries
@@ -86,27 +86,27 @@ module _ (c : After-uncolor_same_neighbors-waiting) where
   abbrev begun : Recoloring
   begun = recoloring c.uncolor_same_neighbors-waiting.new.coloring c.uncolor_same_neighbors-waiting.new.queue 0 c.uncolor_same_neighbors-waiting.result
 
-  started : begun ≡ walk_start (coloring after_first_possible_color_d_2) (edge_matrix after_first_possible_color_d_2) (a after_first_possible_color_d_2)
-      (b after_first_possible_color_d_2)
+  started : begun ≡ walk_start (coloring first_color_of_waiting) (edge_matrix first_color_of_waiting) (a first_color_of_waiting)
+      (b first_color_of_waiting)
   unfolding force ring
   started =
       c.uncolor_same_neighbors-waiting.ensures
-      ∙ start_same (coloring after_first_possible_color_d_2) (edge_matrix after_first_possible_color_d_2) (buffer after_first_possible_color_d_2)
-      (entries after_row_entries) (a after_first_possible_color_d_2) (b after_first_possible_color_d_2) (d after_first_possible_color_d_2)
-      (copy_same after_first_possible_color_d_2)
-      c.row-entries.ensures (color after_first_possible_color_d_2)
+      ∙ start_same (coloring first_color_of_waiting) (edge_matrix first_color_of_waiting) (buffer first_color_of_waiting)
+      (entries after_row_entries) (a first_color_of_waiting) (b first_color_of_waiting) (d first_color_of_waiting)
+      (copy_same first_color_of_waiting)
+      c.row-entries.ensures (color first_color_of_waiting)
 
-  walking_size : length c.uncolor_same_neighbors-waiting.new.coloring ≡ length (coloring after_first_possible_color_d_2)
-  walking_size = c.uncolor_same_neighbors-waiting.auto.coloring ∙ size after_first_possible_color_d_2
+  walking_size : length c.uncolor_same_neighbors-waiting.new.coloring ≡ length (coloring first_color_of_waiting)
+  walking_size = c.uncolor_same_neighbors-waiting.auto.coloring ∙ size first_color_of_waiting
 
-  walking : Walking c.uncolor_same_neighbors-waiting.new.coloring c.uncolor_same_neighbors-waiting.new.queue (edge_matrix after_first_possible_color_d_2)
-      (a after_first_possible_color_d_2)
+  walking : Walking c.uncolor_same_neighbors-waiting.new.coloring c.uncolor_same_neighbors-waiting.new.queue (edge_matrix first_color_of_waiting)
+      (a first_color_of_waiting)
       c.uncolor_same_neighbors-waiting.result
   walking =
       let o = c.requires.0 in
-      let lost = same_uncolors (entries after_row_entries) (d after_first_possible_color_d_2) (small after_first_possible_color_d_2)
-      (b after_first_possible_color_d_2)
-      (recoloring (set (buffer after_first_possible_color_d_2) (b after_first_possible_color_d_2) (d after_first_possible_color_d_2)) zeros 0 0) in
+      let lost = same_uncolors (entries after_row_entries) (d first_color_of_waiting) (small first_color_of_waiting)
+      (b first_color_of_waiting)
+      (recoloring (set (buffer first_color_of_waiting) (b first_color_of_waiting) (d first_color_of_waiting)) zeros 0 0) in
       record {
         queued = (ring-kept (ready after_row_entries) lost _ _ _ c.uncolor_same_neighbors-waiting.ensures c.uncolor_same_neighbors-waiting.auto.queue).queued;
         entries = rw walking_size o.entries;
@@ -118,9 +118,9 @@ row-entries-requires c = let o = c.requires.0 in (o.entries, o.second, o.few)
 
 pub uncolor_same_neighbors-waiting-requires : goal.uncolor_same_neighbors-waiting-requires
 uncolor_same_neighbors-waiting-requires c =
-    let after_row_entries_2 = (goal.at.uncolor_same_neighbors-waiting-requires c).After-row-entries in
-    let after_first_possible_color_d_3 = (goal.at.uncolor_same_neighbors-waiting-requires c).After-first_possible_color-d in
-    (ready after_row_entries_2, omega (arith, size after_first_possible_color_d_3, c.requires.0.second))
+    let after_row_entries = (goal.at.uncolor_same_neighbors-waiting-requires c).After-row-entries in
+    let after_first_possible_color_d = (goal.at.uncolor_same_neighbors-waiting-requires c).After-first_possible_color-d in
+    (ready after_row_entries, omega (arith, size after_first_possible_color_d, c.requires.0.second))
 
 pub walk-requires : goal.walk-requires
 walk-requires c = walking (goal.at.walk-requires c).After-uncolor_same_neighbors-waiting
@@ -132,7 +132,7 @@ shape_of-buffer c =
 pub returns : goal.returns
 unfolding defined.recolor
 returns c =
-    let after_first_possible_color_d_3 = (goal.at.returns c).After-first_possible_color-d in
+    let after_first_possible_color_d = (goal.at.returns c).After-first_possible_color-d in
     let after_uncolor_same_neighbors_waiting = (goal.at.returns c).After-uncolor_same_neighbors-waiting in
-    c.walk.ensures ∙ ap (walk_from (edge_matrix after_first_possible_color_d_3) (a after_first_possible_color_d_3)
-    (get_or (coloring after_first_possible_color_d_3) (a after_first_possible_color_d_3) 0)) (started after_uncolor_same_neighbors_waiting)
+    c.walk.ensures ∙ ap (walk_from (edge_matrix after_first_possible_color_d) (a after_first_possible_color_d)
+    (get_or (coloring after_first_possible_color_d) (a after_first_possible_color_d) 0)) (started after_uncolor_same_neighbors_waiting)

@@ -53,24 +53,24 @@ module _ (c : After-row-entries) where
   step = forced_step (joined entries c.args.a) c.args.c c.walk.step
 
 module _ (c : After-vertex_possible_colors-possible) where
-  abbrev after_slice_known_in_walk_2 : After-slice_known-in-walk-1
-  after_slice_known_in_walk_2 = (goal.at.After-vertex_possible_colors-possible c).After-slice_known-in-walk-1
+  abbrev known_of_possible : After-slice_known-in-walk-1
+  known_of_possible = (goal.at.After-vertex_possible_colors-possible c).After-slice_known-in-walk-1
 
   abbrev after_row_entries : After-row-entries
   after_row_entries = (goal.at.After-vertex_possible_colors-possible c).After-row-entries
 
   abbrev possible : ℕ
-  possible = free_of (n after_slice_known_in_walk_2) (edge_matrix after_slice_known_in_walk_2) c.walk.coloring (spline after_slice_known_in_walk_2)
+  possible = free_of (n known_of_possible) (edge_matrix known_of_possible) c.walk.coloring (spline known_of_possible)
 
   free : c.vertex_possible_colors-possible.result ≡ possible
   free = c.vertex_possible_colors-possible.ensures ∙ ap (vertex_possible_colors c.walk.coloring) (cut after_row_entries)
 
 -- the test of the inner loop: whether the colour meets a's
 module _ (c : Joined-joined) where
-  abbrev after_row_entries_2 : After-row-entries
-  after_row_entries_2 = (goal.at.Joined-joined c).After-row-entries
+  abbrev row_of_joined : After-row-entries
+  row_of_joined = (goal.at.Joined-joined c).After-row-entries
 
-  met : c.if-joined.t-44 ≡ (joined (entries after_row_entries_2) c.args.a && eqb (c.loop-color.step % 3) c.args.c)
+  met : c.if-joined.t-44 ≡ (joined (entries row_of_joined) c.args.a && eqb (c.loop-color.step % 3) c.args.c)
   unfolding joined
   met =
       elim c.if-joined.branch [
@@ -79,29 +79,29 @@ module _ (c : Joined-joined) where
       ]
 
   -- the loop is left at the forced step
-  broke : c.if-joined.t-44 ≡ false → c.loop-color.step ≡ step after_row_entries_2
+  broke : c.if-joined.t-44 ≡ false → c.loop-color.step ≡ step row_of_joined
   unfolding joined
-  broke e = sym (forced-here (joined (entries after_row_entries_2) c.args.a) c.args.c c.loop-color.step (sym met ∙ e)) ∙ c.loop-color.invariant.1
+  broke e = sym (forced-here (joined (entries row_of_joined) c.args.a) c.args.c c.loop-color.step (sym met ∙ e)) ∙ c.loop-color.invariant.1
 
   -- else the next step is the forced one
   next : c.if-joined.t-44 ≡ true
-      → (step after_row_entries_2 ≡ suc c.loop-color.step)
-      × (forced_step (joined (entries after_row_entries_2) c.args.a) c.args.c (c.loop-color.step + 1) ≡ step after_row_entries_2)
+      → (step row_of_joined ≡ suc c.loop-color.step)
+      × (forced_step (joined (entries row_of_joined) c.args.a) c.args.c (c.loop-color.step + 1) ≡ step row_of_joined)
   unfolding joined
   next e =
-      let r = forced-next (joined (entries after_row_entries_2) c.args.a) c.args.c c.loop-color.step (sym met ∙ e) in
-      let same : step after_row_entries_2 ≡ suc c.loop-color.step = sym c.loop-color.invariant.1 ∙ r.0 in
+      let r = forced-next (joined (entries row_of_joined) c.args.a) c.args.c c.loop-color.step (sym met ∙ e) in
+      let same : step row_of_joined ≡ suc c.loop-color.step = sym c.loop-color.invariant.1 ∙ r.0 in
       (same, r.1 ∙ sym same)
 
 module _ (c : After-uncolor_same_neighbors-waiting) where
-  abbrev after_slice_known_in_walk_3 : After-slice_known-in-walk-1
-  after_slice_known_in_walk_3 = (goal.at.After-uncolor_same_neighbors-waiting c).After-slice_known-in-walk-1
+  abbrev known_of_waiting : After-slice_known-in-walk-1
+  known_of_waiting = (goal.at.After-uncolor_same_neighbors-waiting c).After-slice_known-in-walk-1
 
   abbrev joined_joined : Joined-joined
   joined_joined = (goal.at.After-uncolor_same_neighbors-waiting c).Joined-joined
 
-  abbrev after_row_entries_3 : After-row-entries
-  after_row_entries_3 = (goal.at.After-uncolor_same_neighbors-waiting c).After-row-entries
+  abbrev row_of_waiting : After-row-entries
+  row_of_waiting = (goal.at.After-uncolor_same_neighbors-waiting c).After-row-entries
 
   abbrev after_vertex_possible_colors_possible : After-vertex_possible_colors-possible
   after_vertex_possible_colors_possible = (goal.at.After-uncolor_same_neighbors-waiting c).After-vertex_possible_colors-possible
@@ -117,13 +117,13 @@ module _ (c : After-uncolor_same_neighbors-waiting) where
   popped = ring c.walk.queue ((c.walk.head + 1) % 64) (c.walk.waiting - 1)
 
   abbrev forced-step : ℕ
-  forced-step = step_of (n after_slice_known_in_walk_3) (edge_matrix after_slice_known_in_walk_3) c.args.a c.args.c (spline after_slice_known_in_walk_3)
+  forced-step = step_of (n known_of_waiting) (edge_matrix known_of_waiting) c.args.a c.args.c (spline known_of_waiting)
       c.walk.step
 
   reached : c.loop-color.step ≡ forced-step
   reached =
       broke joined_joined (not-true _ c.if-not-color-c.true-raw)
-      ∙ ap (λ (l : List ℕ). forced_step (joined l c.args.a) c.args.c c.walk.step) (cut after_row_entries_3)
+      ∙ ap (λ (l : List ℕ). forced_step (joined l c.args.a) c.args.c c.walk.step) (cut row_of_waiting)
 
   next-step : c.loop-color.step + 1 ≡ suc forced-step
   next-step = add-one c.loop-color.step ∙ ap suc reached
@@ -132,14 +132,14 @@ module _ (c : After-uncolor_same_neighbors-waiting) where
   none = sym (free after_vertex_possible_colors_possible) ∙ c.if-possible-ne0.false
 
   moved : recoloring now_coloring now_queue ((c.walk.head + 1) % 64) c.uncolor_same_neighbors-waiting.result
-      ≡ forced (n after_slice_known_in_walk_3) (edge_matrix after_slice_known_in_walk_3) (spline after_slice_known_in_walk_3) (forced-step % 3)
+      ≡ forced (n known_of_waiting) (edge_matrix known_of_waiting) (spline known_of_waiting) (forced-step % 3)
       c.walk.coloring popped
   unfolding force
   moved =
       c.uncolor_same_neighbors-waiting.ensures
-      ∙ forced_same (n after_slice_known_in_walk_3) (edge_matrix after_slice_known_in_walk_3) (spline after_slice_known_in_walk_3) c.walk.coloring popped
-      (entries after_row_entries_3) forced-step
-      c.loop-color.step (cut after_row_entries_3) reached
+      ∙ forced_same (n known_of_waiting) (edge_matrix known_of_waiting) (spline known_of_waiting) c.walk.coloring popped
+      (entries row_of_waiting) forced-step
+      c.loop-color.step (cut row_of_waiting) reached
 
 -- the ring has as many places as before
 ring-kept : (c : At-walk) → length c.walk.queue ≡ length c.args.queue.now
@@ -168,13 +168,13 @@ overflow_sub-waiting c = omega arith
 
 pub first_possible_color-requires : goal.first_possible_color-requires
 first_possible_color-requires c =
-    let after_vertex_possible_colors_possible_2 = (goal.at.first_possible_color-requires c).After-vertex_possible_colors-possible in
-    let after_slice_known_in_walk_4 = (goal.at.first_possible_color-requires c).After-slice_known-in-walk-1 in
+    let after_vertex_possible_colors_possible = (goal.at.first_possible_color-requires c).After-vertex_possible_colors-possible in
+    let after_slice_known_in_walk = (goal.at.first_possible_color-requires c).After-slice_known-in-walk-1 in
     omega (
       arith,
-      free after_vertex_possible_colors_possible_2,
+      free after_vertex_possible_colors_possible,
       possible-below c.walk.coloring
-          (row (n after_slice_known_in_walk_4) (edge_matrix after_slice_known_in_walk_4) (spline after_slice_known_in_walk_4)),
+          (row (n after_slice_known_in_walk) (edge_matrix after_slice_known_in_walk) (spline after_slice_known_in_walk)),
     )
 
 pub bounds-coloring-i : goal.bounds-coloring-i
@@ -182,16 +182,16 @@ bounds-coloring-i c = omega (arith, first (goal.at.bounds-coloring-i c).After-sl
 
 pub walk-smaller-then-possible-ne0 : goal.walk-smaller-then-possible-ne0
 walk-smaller-then-possible-ne0 c =
-    let after_slice_known_in_walk_4 = (goal.at.walk-smaller-then-possible-ne0 c).After-slice_known-in-walk-1 in
-    left_free (n after_slice_known_in_walk_4) c.walk.step _ _ (omega (arith, some after_slice_known_in_walk_4))
+    let after_slice_known_in_walk = (goal.at.walk-smaller-then-possible-ne0 c).After-slice_known-in-walk-1 in
+    left_free (n after_slice_known_in_walk) c.walk.step _ _ (omega (arith, some after_slice_known_in_walk))
 
 pub walk-preserved-then-possible-ne0 : goal.walk-preserved-then-possible-ne0
 walk-preserved-then-possible-ne0 c =
-    let after_vertex_possible_colors_possible_2 = (goal.at.walk-preserved-then-possible-ne0 c).After-vertex_possible_colors-possible in
-    let after_slice_known_in_walk_4 = (goal.at.walk-preserved-then-possible-ne0 c).After-slice_known-in-walk-1 in
-    let color = c.first_possible_color.ensures ∙ ap first_possible_color (free after_vertex_possible_colors_possible_2) in
-    rw color (walk_free c.walk.invariant (some after_slice_known_in_walk_4) c.if-step-ge-MAX_RECOLOR_STEPS.false
-    (λ e. c.if-possible-ne0.true (free after_vertex_possible_colors_possible_2 ∙ e)))
+    let after_vertex_possible_colors_possible = (goal.at.walk-preserved-then-possible-ne0 c).After-vertex_possible_colors-possible in
+    let after_slice_known_in_walk = (goal.at.walk-preserved-then-possible-ne0 c).After-slice_known-in-walk-1 in
+    let color = c.first_possible_color.ensures ∙ ap first_possible_color (free after_vertex_possible_colors_possible) in
+    rw color (walk_free c.walk.invariant (some after_slice_known_in_walk) c.if-step-ge-MAX_RECOLOR_STEPS.false
+    (λ e. c.if-possible-ne0.true (free after_vertex_possible_colors_possible ∙ e)))
 
 pub bounds-entries-a : goal.bounds-entries-a
 bounds-entries-a c = omega (arith, cut-size (goal.at.bounds-entries-a c).After-row-entries, c.requires.inside)
@@ -203,11 +203,11 @@ loop-color-init c = ((step_rises _ _ _).0, refl)
 pub overflow_add-step : goal.overflow_add-step
 unfolding joined
 overflow_add-step c =
-    let after_row_entries_4 = (goal.at.overflow_add-step c).After-row-entries in
+    let after_row_entries = (goal.at.overflow_add-step c).After-row-entries in
     omega (
       arith,
       c.loop-color.invariant.0,
-      (step_rises (joined (entries after_row_entries_4) c.args.a) c.args.c c.walk.step).1,
+      (step_rises (joined (entries after_row_entries) c.args.a) c.args.c c.walk.step).1,
       c.if-step-ge-MAX_RECOLOR_STEPS.false,
     )
 
@@ -226,27 +226,27 @@ bounds-coloring-i-in-walk c = omega (arith, first (goal.at.bounds-coloring-i-in-
 
 pub uncolor_same_neighbors-waiting-requires : goal.uncolor_same_neighbors-waiting-requires
 uncolor_same_neighbors-waiting-requires c =
-    let after_row_entries_4 = (goal.at.uncolor_same_neighbors-waiting-requires c).After-row-entries in
-    let after_slice_known_in_walk_4 = (goal.at.uncolor_same_neighbors-waiting-requires c).After-slice_known-in-walk-1 in (
-      rw (cut after_row_entries_4) (walk_uncolors c.walk.invariant (some after_slice_known_in_walk_4) c.requires.entries (c.loop-color.step % 3) (omega arith)),
-      rw length-set (omega (arith, first after_slice_known_in_walk_4, c.walk.invariant.going.size)),
+    let after_row_entries = (goal.at.uncolor_same_neighbors-waiting-requires c).After-row-entries in
+    let after_slice_known_in_walk = (goal.at.uncolor_same_neighbors-waiting-requires c).After-slice_known-in-walk-1 in (
+      rw (cut after_row_entries) (walk_uncolors c.walk.invariant (some after_slice_known_in_walk) c.requires.entries (c.loop-color.step % 3) (omega arith)),
+      rw length-set (omega (arith, first after_slice_known_in_walk, c.walk.invariant.going.size)),
     )
 
 pub walk-smaller : goal.walk-smaller
 walk-smaller c =
     let after_uncolor_same_neighbors_waiting = (goal.at.walk-smaller c).After-uncolor_same_neighbors-waiting in
-    let after_slice_known_in_walk_4 = (goal.at.walk-smaller c).After-slice_known-in-walk-1 in
+    let after_slice_known_in_walk = (goal.at.walk-smaller c).After-slice_known-in-walk-1 in
     rw (next-step after_uncolor_same_neighbors_waiting)
-    (less_forced c.walk.invariant (some after_slice_known_in_walk_4) c.if-step-ge-MAX_RECOLOR_STEPS.false (none after_uncolor_same_neighbors_waiting)
+    (less_forced c.walk.invariant (some after_slice_known_in_walk) c.if-step-ge-MAX_RECOLOR_STEPS.false (none after_uncolor_same_neighbors_waiting)
     (now_coloring after_uncolor_same_neighbors_waiting) (now_queue after_uncolor_same_neighbors_waiting)
     c.uncolor_same_neighbors-waiting.result (moved after_uncolor_same_neighbors_waiting))
 
 pub walk-preserved : goal.walk-preserved
 walk-preserved c =
     let after_uncolor_same_neighbors_waiting = (goal.at.walk-preserved c).After-uncolor_same_neighbors-waiting in
-    let after_slice_known_in_walk_4 = (goal.at.walk-preserved c).After-slice_known-in-walk-1 in
+    let after_slice_known_in_walk = (goal.at.walk-preserved c).After-slice_known-in-walk-1 in
     rw (next-step after_uncolor_same_neighbors_waiting)
-    (walk_forces c.walk.invariant (some after_slice_known_in_walk_4) c.if-step-ge-MAX_RECOLOR_STEPS.false (none after_uncolor_same_neighbors_waiting)
+    (walk_forces c.walk.invariant (some after_slice_known_in_walk) c.if-step-ge-MAX_RECOLOR_STEPS.false (none after_uncolor_same_neighbors_waiting)
     (now_coloring after_uncolor_same_neighbors_waiting) (now_queue after_uncolor_same_neighbors_waiting)
     c.uncolor_same_neighbors-waiting.result (moved after_uncolor_same_neighbors_waiting) c.uncolor_same_neighbors-waiting.auto.queue)
 

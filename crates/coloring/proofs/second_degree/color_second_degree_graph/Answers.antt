@@ -51,14 +51,14 @@ module _ (c : After-vertex_possible_colors-possible) where
       (omega arith)
 
 module _ (c : After-starting_color-draw) where
-  abbrev in_loop_i_2 : In-loop-i
-  in_loop_i_2 = (goal.at.After-starting_color-draw c).In-loop-i
+  abbrev in_loop_of_draw : In-loop-i
+  in_loop_of_draw = (goal.at.After-starting_color-draw c).In-loop-i
 
   abbrev after_vertex_possible_colors_possible : After-vertex_possible_colors-possible
   after_vertex_possible_colors_possible = (goal.at.After-starting_color-draw c).After-vertex_possible_colors-possible
 
-  draw : c.starting_color-draw.result ≡ next (n in_loop_i_2) (edge_matrix in_loop_i_2) (i in_loop_i_2) (done in_loop_i_2) c.loop-i.rest
-  draw = c.starting_color-draw.ensures ∙ ap (λ p. starting_color p (i in_loop_i_2) c.loop-i.rest) (free after_vertex_possible_colors_possible)
+  draw : c.starting_color-draw.result ≡ next (n in_loop_of_draw) (edge_matrix in_loop_of_draw) (i in_loop_of_draw) (done in_loop_of_draw) c.loop-i.rest
+  draw = c.starting_color-draw.ensures ∙ ap (λ p. starting_color p (i in_loop_of_draw) c.loop-i.rest) (free after_vertex_possible_colors_possible)
 
 pub loop-i-init : goal.loop-i-init
 loop-i-init c = (omega arith, refl, color-start _ _ _)
@@ -86,23 +86,23 @@ slice_bounds-vertex_possible_colors-end-in-loop-i-2 c = omega (arith, inside c)
 
 pub vertex_possible_colors-possible-requires : goal.vertex_possible_colors-possible-requires
 vertex_possible_colors-possible-requires c =
-    let in_loop_i_3 = (goal.at.vertex_possible_colors-possible-requires c).In-loop-i in
-    done-size in_loop_i_3 ∙ sym (entries-size in_loop_i_3)
+    let in_loop_i = (goal.at.vertex_possible_colors-possible-requires c).In-loop-i in
+    done-size in_loop_i ∙ sym (entries-size in_loop_i)
 
 pub starting_color-draw-requires : goal.starting_color-draw-requires
 starting_color-draw-requires c =
-    let in_loop_i_3 = (goal.at.starting_color-draw-requires c).In-loop-i in
-    (rw (free c) (possible-below (done in_loop_i_3) (row (n in_loop_i_3) (edge_matrix in_loop_i_3) c.loop-i.i)), omega arith)
+    let in_loop_i = (goal.at.starting_color-draw-requires c).In-loop-i in
+    (rw (free c) (possible-below (done in_loop_i) (row (n in_loop_i) (edge_matrix in_loop_i) c.loop-i.i)), omega arith)
 
 pub overflow_cast-coloring : goal.overflow_cast-coloring
 overflow_cast-coloring c =
     let after_starting_color_draw = (goal.at.overflow_cast-coloring c).After-starting_color-draw in
-    let in_loop_i_3 = (goal.at.overflow_cast-coloring c).In-loop-i in
+    let in_loop_i = (goal.at.overflow_cast-coloring c).In-loop-i in
     rw (draw after_starting_color_draw)
     (omega (
       arith,
-      starting_below (vertex_possible_colors (done in_loop_i_3) (row (n in_loop_i_3) (edge_matrix in_loop_i_3) (i in_loop_i_3)))
-          (i in_loop_i_3) c.loop-i.rest,
+      starting_below (vertex_possible_colors (done in_loop_i) (row (n in_loop_i) (edge_matrix in_loop_i) (i in_loop_i)))
+          (i in_loop_i) c.loop-i.rest,
     ))
 
 pub bounds-coloring-i : goal.bounds-coloring-i
@@ -116,10 +116,10 @@ loop-i-smaller c = omega arith
 
 pub loop-i-preserved : goal.loop-i-preserved
 loop-i-preserved c =
-    let in_loop_i_3 = (goal.at.loop-i-preserved c).In-loop-i in
+    let in_loop_i = (goal.at.loop-i-preserved c).In-loop-i in
     let after_starting_color_draw = (goal.at.loop-i-preserved c).After-starting_color-draw in
     let old = c.loop-i in
-    let more = color-more (n in_loop_i_3) (edge_matrix in_loop_i_3) (i in_loop_i_3) old.rest old.coloring c.loop-i-test.true old.invariant.1 in
+    let more = color-more (n in_loop_i) (edge_matrix in_loop_i) (i in_loop_i) old.rest old.coloring c.loop-i-test.true old.invariant.1 in
     (omega arith, rw length-set old.invariant.1, rw (draw after_starting_color_draw) (more ∙ old.invariant.2))
 
 pub shape_of-coloring : goal.shape_of-coloring

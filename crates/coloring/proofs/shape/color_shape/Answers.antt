@@ -97,14 +97,14 @@ slice_bounds-spline_values-end c = sym (long (goal.at.slice_bounds-spline_values
 
 pub spline_values-checked-requires : goal.spline_values-checked-requires
 spline_values-checked-requires c =
-    let after_count_shape_counts_2 = (goal.at.spline_values-checked-requires c).After-count_shape-counts in
-    record { cut = c.requires; values_len = long after_count_shape_counts_2 ∙ c.count_shape-counts.ensures.0.splines_are }
+    let after_count_shape_counts = (goal.at.spline_values-checked-requires c).After-count_shape-counts in
+    record { cut = c.requires; values_len = long after_count_shape_counts ∙ c.count_shape-counts.ensures.0.splines_are }
 
 pub returns-in-Failed : goal.returns-in-Failed
 returns-in-Failed c =
-    let start_2 = (goal.at.returns-in-Failed c).Start in
+    let start = (goal.at.returns-in-Failed c).Start in
     let after_spline_values_checked = (goal.at.returns-in-Failed c).After-spline_values-checked in
-    values_failed c.args.settings c.args.distances.now (given start_2) (old start_2)
+    values_failed c.args.settings c.args.distances.now (given start) (old start)
     (sym (answer after_spline_values_checked) ∙ ap checked_answer c.in-Failed.is)
 
 pub slice_bounds-values-end-2 : goal.slice_bounds-values-end-2
@@ -123,11 +123,11 @@ paint_shape-requires c =
 pub returns : goal.returns
 returns c =
     let after_spline_values_checked = (goal.at.returns c).After-spline_values-checked in
-    let start_2 = (goal.at.returns c).Start in
+    let start = (goal.at.returns c).Start in
     let passed = c.in_default.is in
     let split =
-    values-laid (marking after_spline_values_checked) c.args.distances.now (found start_2)
-    (cut-flagged c.args.lengths.now (edges start_2) c.args.flags.now (flagged start_2)) in
+    values-laid (marking after_spline_values_checked) c.args.distances.now (found start)
+    (cut-flagged c.args.lengths.now (edges start) c.args.flags.now (flagged start)) in
     (rw c.count_shape-counts.ensures.1 at c.paint_shape.ensures)
-    ∙ values-passed c.args.settings c.args.distances.now (given start_2) (old start_2) (sym (answer after_spline_values_checked) ∙ ap checked_answer passed)
+    ∙ values-passed c.args.settings c.args.distances.now (given start) (old start) (sym (answer after_spline_values_checked) ∙ ap checked_answer passed)
     (front after_spline_values_checked ∙ c.spline_values-checked.ensures.bytes passed ∙ sym split)

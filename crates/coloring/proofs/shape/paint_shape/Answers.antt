@@ -47,8 +47,8 @@ module _ (c : After-has_room-room) where
 
 -- there is room
 module _ (c : Else-not-room) where
-  abbrev start_2 : Start
-  start_2 = (goal.at.Else-not-room c).Start
+  abbrev start_of_room : Start
+  start_of_room = (goal.at.Else-not-room c).Start
 
   abbrev after_has_room_room : After-has_room-room
   after_has_room_room = (goal.at.Else-not-room c).After-has_room-room
@@ -56,12 +56,12 @@ module _ (c : Else-not-room) where
   abbrev counts : Counts
   counts = c.args.counts
 
-  fitting : result_fits (written start_2) (old start_2) ≡ true
+  fitting : result_fits (written start_of_room) (old start_of_room) ≡ true
   fitting = fit after_has_room_room ∙ not-false c.has_room-room.result c.if-not-room.false-raw
 
   room : (counts.contours ≤ length c.args.out_lengths.now) × (counts.edges ≤ length c.args.out_kinds.now)
       × (8 * counts.edges ≤ length c.args.out_points.now) × (counts.edges ≤ length c.args.out_colors.now)
-  room = room_fits _ _ (old start_2) (sym c.has_room-room.ensures ∙ not-false c.has_room-room.result c.if-not-room.false-raw)
+  room = room_fits _ _ (old start_of_room) (sym c.has_room-room.ensures ∙ not-false c.has_room-room.result c.if-not-room.false-raw)
 
 -- the edges are laid out
 module _ (c : After-lay_out) where
@@ -87,8 +87,8 @@ has_room-room-requires c =
 
 pub returns-then-not-room : goal.returns-then-not-room
 returns-then-not-room c =
-    let after_has_room_room_2 = (goal.at.returns-then-not-room c).After-has_room-room in
-    sym (deliver-short _ _ _ (fit after_has_room_room_2 ∙ not-true c.has_room-room.result c.if-not-room.true-raw))
+    let after_has_room_room = (goal.at.returns-then-not-room c).After-has_room-room in
+    sym (deliver-short _ _ _ (fit after_has_room_room ∙ not-true c.has_room-room.result c.if-not-room.true-raw))
 
 pub lay_out-requires : goal.lay_out-requires
 lay_out-requires c =
@@ -130,21 +130,21 @@ slice_bounds-paint_contours-end-5 c =
 
 pub paint_contours-requires : goal.paint_contours-requires
 paint_contours-requires c =
-    let start_3 = (goal.at.paint_contours-requires c).Start in
-    let else_not_room_2 = (goal.at.paint_contours-requires c).Else-not-room in
+    let start = (goal.at.paint_contours-requires c).Start in
+    let else_not_room = (goal.at.paint_contours-requires c).Else-not-room in
     let a = c.args in
     let out = c.lay_out.ensures in
-    let long = front_length a.lengths.now (edges start_3) a.flags.now a.counts (flagged start_3) c.requires.counted.0 out in
-    let whole = front_total a.lengths.now (edges start_3) a.flags.now a.counts (flagged start_3) c.requires.counted.0 out in
-    let splines = front_splines a.lengths.now (edges start_3) a.flags.now a.counts (flagged start_3) c.requires.counted.0 out in
-    let colors = length-take-le a.counts.edges a.out_colors.now (room else_not_room_2).3 in
+    let long = front_length a.lengths.now (edges start) a.flags.now a.counts (flagged start) c.requires.counted.0 out in
+    let whole = front_total a.lengths.now (edges start) a.flags.now a.counts (flagged start) c.requires.counted.0 out in
+    let splines = front_splines a.lengths.now (edges start) a.flags.now a.counts (flagged start) c.requires.counted.0 out in
+    let colors = length-take-le a.counts.edges a.out_colors.now (room else_not_room).3 in
     record { sizes = (whole, omega (arith, long, c.requires.counted.0.edges_few), colors ∙ sym long); values_len = c.requires.counted.1 ∙ splines }
 
 pub returns : goal.returns
 returns c =
-    let start_3 = (goal.at.returns c).Start in
-    let else_not_room_2 = (goal.at.returns c).Else-not-room in
+    let start = (goal.at.returns c).Start in
+    let else_not_room = (goal.at.returns c).Else-not-room in
     let a = c.args in
-    painted-delivered a.lengths.now (edges start_3) a.flags.now a.counts (flagged start_3) c.requires.counted.0 c.lay_out.ensures
-    a.settings.division (middle_value a.settings.marking) a.values.now a.out_colors.now (fitting else_not_room_2) c.middle_value.ensures
+    painted-delivered a.lengths.now (edges start) a.flags.now a.counts (flagged start) c.requires.counted.0 c.lay_out.ensures
+    a.settings.division (middle_value a.settings.marking) a.values.now a.out_colors.now (fitting else_not_room) c.middle_value.ensures
     c.paint_contours.ensures refl

@@ -88,16 +88,16 @@ slice_bounds-order_pairs-end-2 c = sym (part-size (goal.at.slice_bounds-order_pa
 
 pub order_pairs-requires : goal.order_pairs-requires
 order_pairs-requires c =
-    let start_2 = (goal.at.order_pairs-requires c).Start in
-    (c.requires, part-size start_2, part-size start_2)
+    let start = (goal.at.order_pairs-requires c).Start in
+    (c.requires, part-size start, part-size start)
 
 pub slice_bounds-edge_matrix-end : goal.slice_bounds-edge_matrix-end
 slice_bounds-edge_matrix-end c = square (goal.at.slice_bounds-edge_matrix-end c).Start
 
 pub slice_bounds-color_in_order-end : goal.slice_bounds-color_in_order-end
 slice_bounds-color_in_order-end c =
-    let start_2 = (goal.at.slice_bounds-color_in_order-end c).Start in
-    sym (length-take-le (n start_2 * n start_2) (replicate 4096 0) (square start_2))
+    let start = (goal.at.slice_bounds-color_in_order-end c).Start in
+    sym (length-take-le (n start * n start) (replicate 4096 0) (square start))
 
 pub slice_bounds-codes-end-2 : goal.slice_bounds-codes-end-2
 slice_bounds-codes-end-2 c =

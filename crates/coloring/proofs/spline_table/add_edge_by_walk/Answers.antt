@@ -24,8 +24,8 @@ module _ (start : Start) where
   copy_size = length-take-le n zeros start.requires.few
 
 module _ (c : After-recolor) where
-  abbrev start_2 : Start
-  start_2 = (goal.at.After-recolor c).Start
+  abbrev start_of_recolor : Start
+  start_of_recolor = (goal.at.After-recolor c).Start
 
   abbrev after : List ℕ
   after = c.recolor.new.buffer
@@ -41,13 +41,13 @@ module _ (c : After-recolor) where
       ap left (sym e)
       ∙ ap (λ (v : Walk). settled v c.args.coloring.now c.args.edge_matrix.now c.args.a c.args.b) c.recolor.ensures
 
-  after-size : length after ≡ n start_2
-  after-size = c.recolor.auto.buffer ∙ copy_size start_2
+  after-size : length after ≡ n start_of_recolor
+  after-size = c.recolor.auto.buffer ∙ copy_size start_of_recolor
 
-  front : take (n start_2) (after ++ drop (n start_2) zeros) ≡ after
-  front = take_at after (drop (n start_2) zeros) (n start_2) after-size
+  front : take (n start_of_recolor) (after ++ drop (n start_of_recolor) zeros) ≡ after
+  front = take_at after (drop (n start_of_recolor) zeros) (n start_of_recolor) after-size
 
-  front_size : length (take (n start_2) (after ++ drop (n start_2) zeros)) ≡ n start_2
+  front_size : length (take (n start_of_recolor) (after ++ drop (n start_of_recolor) zeros)) ≡ n start_of_recolor
   front_size = ap length front ∙ after-size
 
 pub slice_bounds-recolor-end : goal.slice_bounds-recolor-end
@@ -59,8 +59,8 @@ recolor-requires c = (c.requires, copy_size (goal.at.recolor-requires c).Start)
 pub slice_bounds-buffer-end-in-Recolored : goal.slice_bounds-buffer-end-in-Recolored
 slice_bounds-buffer-end-in-Recolored c =
     let after_recolor = (goal.at.slice_bounds-buffer-end-in-Recolored c).After-recolor in
-    let start_3 = (goal.at.slice_bounds-buffer-end-in-Recolored c).Start in
-    omega (arith, length-append (after after_recolor) (drop (n start_3) zeros), after-size after_recolor)
+    let start = (goal.at.slice_bounds-buffer-end-in-Recolored c).Start in
+    omega (arith, length-append (after after_recolor) (drop (n start) zeros), after-size after_recolor)
 
 pub copy_from_slice-requires : goal.copy_from_slice-requires
 copy_from_slice-requires c = sym (front_size (goal.at.copy_from_slice-requires c).After-recolor)

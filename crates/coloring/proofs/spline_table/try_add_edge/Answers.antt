@@ -15,10 +15,10 @@ abbrev given : Start → Table
 given start = table_of start.args.coloring.now start.args.edge_matrix.now
 
 module _ (c : Else-a-b) where
-  abbrev start_2 : Start
-  start_2 = (goal.at.Else-a-b c).Start
+  abbrev start_of_checked : Start
+  start_of_checked = (goal.at.Else-a-b c).Start
 
-  passes : Unrefused (given start_2) c.args.a c.args.b
+  passes : Unrefused (given start_of_checked) c.args.a c.args.b
   passes =
       record {
         few = c.if-n-gt-MAX_SPLINES.false;
@@ -31,16 +31,16 @@ module _ (c : Else-a-b) where
 
 pub returns-then-n-gt-MAX_SPLINES : goal.returns-then-n-gt-MAX_SPLINES
 returns-then-n-gt-MAX_SPLINES c =
-    let start_3 = (goal.at.returns-then-n-gt-MAX_SPLINES c).Start in
-    sym (offer-many (given start_3) c.args.a c.args.b c.if-n-gt-MAX_SPLINES.true)
+    let start = (goal.at.returns-then-n-gt-MAX_SPLINES c).Start in
+    sym (offer-many (given start) c.args.a c.args.b c.if-n-gt-MAX_SPLINES.true)
 
 pub overflow_mul-n : goal.overflow_mul-n
 overflow_mul-n c = omega (arith, square_below c.if-n-gt-MAX_SPLINES.false)
 
 pub returns-then-edge_matrix-n : goal.returns-then-edge_matrix-n
 returns-then-edge_matrix-n c =
-    let start_3 = (goal.at.returns-then-edge_matrix-n c).Start in
-    sym (offer-lengths (given start_3) c.args.a c.args.b c.if-n-gt-MAX_SPLINES.false c.if-edge_matrix-n.true)
+    let start = (goal.at.returns-then-edge_matrix-n c).Start in
+    sym (offer-lengths (given start) c.args.a c.args.b c.if-n-gt-MAX_SPLINES.false c.if-edge_matrix-n.true)
 
 pub returns-then-not-is_sound : goal.returns-then-not-is_sound
 returns-then-not-is_sound c =

@@ -48,59 +48,59 @@ module _ (c : After-row) where
   cut = c.row.ensures ∙ ap (λ (l : List ℕ). row (n after_slice_known) l (b after_slice_known)) (after_same after_slice_known)
 
 module _ (c : After-vertex_possible_colors-possible) where
-  abbrev after_slice_known_2 : After-slice_known-5-1
-  after_slice_known_2 = (goal.at.After-vertex_possible_colors-possible c).After-slice_known-5-1
+  abbrev known_of_possible : After-slice_known-5-1
+  known_of_possible = (goal.at.After-vertex_possible_colors-possible c).After-slice_known-5-1
 
   abbrev after_row : After-row
   after_row = (goal.at.After-vertex_possible_colors-possible c).After-row
 
   abbrev possible : ℕ
-  possible = free_of_b (table after_slice_known_2) (a after_slice_known_2) (b after_slice_known_2)
+  possible = free_of_b (table known_of_possible) (a known_of_possible) (b known_of_possible)
 
-  same : SameColor (table after_slice_known_2) (a after_slice_known_2) (b after_slice_known_2)
+  same : SameColor (table known_of_possible) (a known_of_possible) (b known_of_possible)
   same = c.if-coloring-a.false
 
   free : c.vertex_possible_colors-possible.result ≡ possible
-  free = c.vertex_possible_colors-possible.ensures ∙ ap (vertex_possible_colors (coloring after_slice_known_2)) (cut after_row)
+  free = c.vertex_possible_colors-possible.ensures ∙ ap (vertex_possible_colors (coloring known_of_possible)) (cut after_row)
 
 pub enter_pair-requires : goal.enter_pair-requires
 enter_pair-requires c = pair_inside c.requires
 
 pub returns-then-coloring-a : goal.returns-then-coloring-a
 returns-then-coloring-a c =
-    let after_slice_known_3 = (goal.at.returns-then-coloring-a c).After-slice_known-5-1 in
-    ap (outcome (kept 0) (coloring after_slice_known_3)) (after_same after_slice_known_3) ∙ sym
-    (rule_differ (table after_slice_known_3) (a after_slice_known_3) (b after_slice_known_3) c.if-coloring-a.true)
+    let after_slice_known = (goal.at.returns-then-coloring-a c).After-slice_known-5-1 in
+    ap (outcome (kept 0) (coloring after_slice_known)) (after_same after_slice_known) ∙ sym
+    (rule_differ (table after_slice_known) (a after_slice_known) (b after_slice_known) c.if-coloring-a.true)
 
 pub row-requires : goal.row-requires
 row-requires c = (after-size (goal.at.row-requires c).After-slice_known-5-1, c.requires.second, c.requires.few)
 
 pub vertex_possible_colors-possible-requires : goal.vertex_possible_colors-possible-requires
 vertex_possible_colors-possible-requires c =
-    let after_slice_known_3 = (goal.at.vertex_possible_colors-possible-requires c).After-slice_known-5-1 in
-    sym (ap length c.row.ensures ∙ row-length (n after_slice_known_3) (b after_slice_known_3) (after after_slice_known_3) (after-size after_slice_known_3)
+    let after_slice_known = (goal.at.vertex_possible_colors-possible-requires c).After-slice_known-5-1 in
+    sym (ap length c.row.ensures ∙ row-length (n after_slice_known) (b after_slice_known) (after after_slice_known) (after-size after_slice_known)
     c.requires.second)
 
 pub first_possible_color-requires : goal.first_possible_color-requires
 first_possible_color-requires c =
     let after_vertex_possible_colors_possible = (goal.at.first_possible_color-requires c).After-vertex_possible_colors-possible in
-    let after_slice_known_3 = (goal.at.first_possible_color-requires c).After-slice_known-5-1 in
+    let after_slice_known = (goal.at.first_possible_color-requires c).After-slice_known-5-1 in
     omega (
       arith,
       free after_vertex_possible_colors_possible,
-      possible-below (coloring after_slice_known_3)
-          (row (n after_slice_known_3) (entered (table after_slice_known_3) (a after_slice_known_3) (b after_slice_known_3)) (b after_slice_known_3)),
+      possible-below (coloring after_slice_known)
+          (row (n after_slice_known) (entered (table after_slice_known) (a after_slice_known) (b after_slice_known)) (b after_slice_known)),
     )
 
 pub returns-then-possible-ne0 : goal.returns-then-possible-ne0
 returns-then-possible-ne0 c =
     let after_vertex_possible_colors_possible = (goal.at.returns-then-possible-ne0 c).After-vertex_possible_colors-possible in
-    let after_slice_known_3 = (goal.at.returns-then-possible-ne0 c).After-slice_known-5-1 in
+    let after_slice_known = (goal.at.returns-then-possible-ne0 c).After-slice_known-5-1 in
     let color = c.first_possible_color.ensures ∙ ap first_possible_color (free after_vertex_possible_colors_possible) in
-    ap (λ (x : ℕ). outcome (kept 0) (set (coloring after_slice_known_3) (b after_slice_known_3) x) (after after_slice_known_3)) color
-    ∙ ap (outcome (kept 0) (set (coloring after_slice_known_3) (b after_slice_known_3)
-    (first_possible_color (possible after_vertex_possible_colors_possible)))) (after_same after_slice_known_3)
-    ∙ sym (rule_free (table after_slice_known_3) (a after_slice_known_3) (b after_slice_known_3) (same after_vertex_possible_colors_possible)
+    ap (λ (x : ℕ). outcome (kept 0) (set (coloring after_slice_known) (b after_slice_known) x) (after after_slice_known)) color
+    ∙ ap (outcome (kept 0) (set (coloring after_slice_known) (b after_slice_known)
+    (first_possible_color (possible after_vertex_possible_colors_possible)))) (after_same after_slice_known)
+    ∙ sym (rule_free (table after_slice_known) (a after_slice_known) (b after_slice_known) (same after_vertex_possible_colors_possible)
     (λ e. c.if-possible-ne0.true (free after_vertex_possible_colors_possible ∙ e)))
 
 pub add_edge_by_walk-requires : goal.add_edge_by_walk-requires
@@ -108,9 +108,9 @@ add_edge_by_walk-requires c = offerable (goal.at.add_edge_by_walk-requires c).Af
 
 pub returns : goal.returns
 returns c =
-    let after_slice_known_3 = (goal.at.returns c).After-slice_known-5-1 in
+    let after_slice_known = (goal.at.returns c).After-slice_known-5-1 in
     let after_vertex_possible_colors_possible = (goal.at.returns c).After-vertex_possible_colors-possible in
     c.add_edge_by_walk.ensures
-    ∙ ap (λ (l : List ℕ). walked_on (coloring after_slice_known_3) l (a after_slice_known_3) (b after_slice_known_3)) (after_same after_slice_known_3)
-    ∙ sym (rule_walk (table after_slice_known_3) (a after_slice_known_3) (b after_slice_known_3) (same after_vertex_possible_colors_possible)
+    ∙ ap (λ (l : List ℕ). walked_on (coloring after_slice_known) l (a after_slice_known) (b after_slice_known)) (after_same after_slice_known)
+    ∙ sym (rule_walk (table after_slice_known) (a after_slice_known) (b after_slice_known) (same after_vertex_possible_colors_possible)
     (sym (free after_vertex_possible_colors_possible) ∙ c.if-possible-ne0.false))

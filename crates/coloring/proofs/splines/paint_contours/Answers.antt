@@ -88,10 +88,10 @@ overflow_add-to c = omega (arith, fit c, c.well_formed)
 
 pub paint_part-requires : goal.paint_part-requires
 paint_part-requires c =
-    let in_loop_i_2 = (goal.at.paint_part-requires c).In-loop-i in
+    let in_loop_i = (goal.at.paint_part-requires c).In-loop-i in
     let after_part_splines = (goal.at.paint_part-requires c).After-part_splines in
     let pre = c.requires in record {
-      part = (omega arith, room in_loop_i_2, pre.sizes.1, c.loop-i.invariant.long);
+      part = (omega arith, room in_loop_i, pre.sizes.1, c.loop-i.invariant.long);
       to_value
           = (ap (λ k. c.loop-i.from + k) c.part_splines.ensures, fit after_part_splines);
     }

@@ -98,10 +98,10 @@ overflow_add-next c = omega (arith, fit c, c.loop-i.invariant.long, c.well_forme
 
 pub part_colors-pen-requires : goal.part_colors-pen-requires
 part_colors-pen-requires c =
-    let in_loop_i_2 = (goal.at.part_colors-pen-requires c).In-loop-i in
+    let in_loop_i = (goal.at.part_colors-pen-requires c).In-loop-i in
     let after_part_splines = (goal.at.part_colors-pen-requires c).After-part_splines in
     record {
-      part = record { matching = c.requires.cut.matching; start = omega arith; inside = room in_loop_i_2 };
+      part = record { matching = c.requires.cut.matching; start = omega arith; inside = room in_loop_i };
       next_value
           = (ap (λ k. c.loop-i.to + k) c.part_splines.ensures, fit after_part_splines);
     }
@@ -116,10 +116,10 @@ loop-i-smaller c = omega arith
 pub loop-i-preserved : goal.loop-i-preserved
 loop-i-preserved c =
     let after_part_splines = (goal.at.loop-i-preserved c).After-part_splines in
-    let in_loop_i_2 = (goal.at.loop-i-preserved c).In-loop-i in
+    let in_loop_i = (goal.at.loop-i-preserved c).In-loop-i in
     let s = c.loop-i in
     coloring-next _ _ _ _ _ _ _ _ _ _ _ _ s.invariant c.loop-i-test.true (counted after_part_splines) c.part_colors-pen.auto.colors
-    (rw (whole in_loop_i_2) at c.part_colors-pen.ensures)
+    (rw (whole in_loop_i) at c.part_colors-pen.ensures)
 
 pub shape_of-colors : goal.shape_of-colors
 shape_of-colors c = c.loop-i.invariant.long

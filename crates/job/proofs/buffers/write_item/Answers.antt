@@ -44,12 +44,12 @@ module _ (c : After-body_size-end) where
   end_is = ap (λ (k : ℕ). 2 + k) c.body_size-end.ensures
 
 module _ (c : In-Distances) where
-  abbrev start_2 : Start
-  start_2 = (goal.at.In-Distances c).Start
+  abbrev start_of_distances : Start
+  start_of_distances = (goal.at.In-Distances c).Start
 
   distances_room : RecordFits (Distances c.in-Distances.count) c.args.n c.args.bytes.now
       (buffers c.args.lengths.now c.args.kinds.now c.args.points.now c.args.distances.now)
-  distances_room = room start_2 (Distances c.in-Distances.count) c.in-Distances.is
+  distances_room = room start_of_distances (Distances c.in-Distances.count) c.in-Distances.is
 
 pub offset_bounds-lengths-contours : goal.offset_bounds-lengths-contours
 offset_bounds-lengths-contours c = omega (arith, room (goal.at.offset_bounds-lengths-contours c).Start Contour c.in-Contour.is)
@@ -124,11 +124,11 @@ returns-in-Contour c = rw c.in-Contour.is (record { lengths_are = refl; kinds_ar
 pub returns-in-Edge : goal.returns-in-Edge
 unfolding written
 returns-in-Edge c =
-    let in_edge_2 = (goal.at.returns-in-Edge c).In-Edge in
+    let in_edge = (goal.at.returns-in-Edge c).In-Edge in
     let after_body_size_end = (goal.at.returns-in-Edge c).After-body_size-end in
     let i = c.args.n.edges in
     let eight : 8 * i + 8 - 8 * i ≡ 8 = omega arith in
-    let size : 2 + c.body_size-end.result - 2 ≡ 16 * controls (kind in_edge_2) = omega (arith, end_is after_body_size_end) in
+    let size : 2 + c.body_size-end.result - 2 ≡ 16 * controls (kind in_edge) = omega (arith, end_is after_body_size_end) in
     rw c.in-Edge.is
     (record {
       lengths_are = refl;

@@ -65,7 +65,7 @@ slice_bounds-collect_splines-end-6 c =
 pub returns : goal.returns
 returns c =
     let after_slice_known = (goal.at.returns c).After-slice_known-12-1 in
-    let start_2 = (goal.at.returns c).Start in
+    let start = (goal.at.returns c).Start in
     c.paired.ensures ∙ ap (λ (o : Outcome). paired o.answer c.args.n.distances) c.collect_splines-counted.ensures
-    ∙ held-checked (holding after_slice_known) c.float-threshold.result (out start_2) c.requires.holds_results c.requires.asks_distances.asks
+    ∙ held-checked (holding after_slice_known) c.float-threshold.result (out start) c.requires.holds_results c.requires.asks_distances.asks
     c.float-threshold.ensures

@@ -35,13 +35,13 @@ module _ (c : In-Job) where
 
 -- its job, written into the places
 module _ (c : After-slice_known-in-Job-4-1) where
-  abbrev start_2 : Start
-  start_2 = (goal.at.After-slice_known-in-Job-4-1 c).Start
+  abbrev start_of_known : Start
+  start_of_known = (goal.at.After-slice_known-in-Job-4-1 c).Start
 
   abbrev in_job : In-Job
   in_job = (goal.at.After-slice_known-in-Job-4-1 c).In-Job
 
-  holding : Holding (file start_2) c.in-Job.n (old start_2) c.fill.new.lengths c.fill.new.kinds c.fill.new.points
+  holding : Holding (file start_of_known) c.in-Job.n (old start_of_known) c.fill.new.lengths c.fill.new.kinds c.fill.new.points
       c.fill.new.distances
   holding = holding_of _ _ _ (numbers_are in_job) _ _ _ _ c.fill.ensures
 
@@ -88,9 +88,9 @@ slice_bounds-edge_coloring-end-in-Job-7 c =
 pub returns-in-Job : goal.returns-in-Job
 returns-in-Job c =
     let after_slice_known_in_job = (goal.at.returns-in-Job c).After-slice_known-in-Job-4-1 in
-    let start_3 = (goal.at.returns-in-Job c).Start in
+    let start = (goal.at.returns-in-Job c).Start in
     c.edge_coloring.ensures
-    ∙ held-colored (holding after_slice_known_in_job) c.job_settings-settings.result (out start_3) c.job_settings-settings.ensures
+    ∙ held-colored (holding after_slice_known_in_job) c.job_settings-settings.result (out start) c.job_settings-settings.ensures
 
 pub returns-in-Refused : goal.returns-in-Refused
 returns-in-Refused c = color-refused _ _ _ (sym (ap read_answer c.in-Refused.is) ∙ c.scan.ensures)

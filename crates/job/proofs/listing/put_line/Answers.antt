@@ -47,18 +47,18 @@ module _ (c : After-put_field-third) where
 
 pub put_field-second-requires : goal.put_field-second-requires
 put_field-second-requires c =
-    let start_2 = (goal.at.put_field-second-requires c).Start in
-    (c.requires.0, omega (arith, room start_2, field-length (contour start_2) space))
+    let start = (goal.at.put_field-second-requires c).Start in
+    (c.requires.0, omega (arith, room start, field-length (contour start) space))
 
 pub put_field-third-requires : goal.put_field-third-requires
 put_field-third-requires c =
-    let start_2 = (goal.at.put_field-third-requires c).Start in (
+    let start = (goal.at.put_field-third-requires c).Start in (
       c.requires.1,
       omega (
         arith,
-        room start_2,
-        field-length (contour start_2) space,
-        field-length (place start_2) space,
+        room start,
+        field-length (contour start) space,
+        field-length (place start) space,
         c.put_field-second.ensures.place,
         c.put_field-second.auto.out,
       ),
@@ -66,17 +66,17 @@ put_field-third-requires c =
 
 pub put-fourth-requires : goal.put-fourth-requires
 put-fourth-requires c =
-    let start_2 = (goal.at.put-fourth-requires c).Start in
+    let start = (goal.at.put-fourth-requires c).Start in
     let after_put_field_third = (goal.at.put-fourth-requires c).After-put_field-third in
-    omega (arith, room start_2, (fields after_put_field_third).place, fields_length after_put_field_third, kept after_put_field_third)
+    omega (arith, room start, (fields after_put_field_third).place, fields_length after_put_field_third, kept after_put_field_third)
 
 pub put-fifth-requires : goal.put-fifth-requires
 put-fifth-requires c =
-    let start_2 = (goal.at.put-fifth-requires c).Start in
+    let start = (goal.at.put-fifth-requires c).Start in
     let after_put_field_third = (goal.at.put-fifth-requires c).After-put_field-third in
     omega (
       arith,
-      room start_2,
+      room start,
       (fields after_put_field_third).place,
       fields_length after_put_field_third,
       kept after_put_field_third,
@@ -86,12 +86,12 @@ put-fifth-requires c =
 
 pub put_field-requires : goal.put_field-requires
 put_field-requires c =
-    let start_2 = (goal.at.put_field-requires c).Start in
+    let start = (goal.at.put_field-requires c).Start in
     let after_put_field_third = (goal.at.put_field-requires c).After-put_field-third in (
       omega (arith, c.ranges.color),
       omega (
         arith,
-        room start_2,
+        room start,
         (fields after_put_field_third).place,
         fields_length after_put_field_third,
         kept after_put_field_third,
@@ -99,29 +99,29 @@ put_field-requires c =
         c.put-fourth.auto.out,
         c.put-fifth.ensures.place,
         c.put-fifth.auto.out,
-        field-length (color start_2) newline,
+        field-length (color start) newline,
       ),
     )
 
 pub returns : goal.returns
 returns c =
-    let start_2 = (goal.at.returns c).Start in
+    let start = (goal.at.returns c).Start in
     let after_put_field_third = (goal.at.returns c).After-put_field-third in
     let old = c.args.out.now in
     let kind = c.letter.result in
-    let first = field (contour start_2) space ++ field (place start_2) space in
+    let first = field (contour start) space ++ field (place start) space in
     let lettered : Pasted (first ++ (kind ∷ [])) c.args.at old c.put-fourth.result c.put-fourth.new.out =
-    pasted_then (fields after_put_field_third) c.put-fourth.ensures (omega (arith, room start_2, fields_length after_put_field_third)) in
+    pasted_then (fields after_put_field_third) c.put-fourth.ensures (omega (arith, room start, fields_length after_put_field_third)) in
     let spaced : Pasted ((first ++ (kind ∷ [])) ++ (space ∷ [])) c.args.at old c.put-fifth.result c.put-fifth.new.out =
-    pasted_then lettered c.put-fifth.ensures (omega (arith, room start_2, fields_length after_put_field_third, length-append first (kind ∷ []))) in
+    pasted_then lettered c.put-fifth.ensures (omega (arith, room start, fields_length after_put_field_third, length-append first (kind ∷ []))) in
     let all = pasted_then spaced c.put_field.ensures (omega (
       arith,
-      room start_2,
+      room start,
       fields_length after_put_field_third,
       length-append first (kind ∷ []),
       length-append (first ++ (kind ∷ [])) (space ∷ []),
-      field-length (color start_2) newline,
+      field-length (color start) newline,
     )) in
     subst (λ (x : List ℕ). Pasted x c.args.at old c.put_field.result c.put_field.new.out)
-    (ap (λ (k : ℕ). ((first ++ (k ∷ [])) ++ (space ∷ [])) ++ field (color start_2) newline) c.letter.ensures
-    ∙ line_fields (contour start_2) (place start_2) c.args.kind (color start_2)) all
+    (ap (λ (k : ℕ). ((first ++ (k ∷ [])) ++ (space ∷ [])) ++ field (color start) newline) c.letter.ensures
+    ∙ line_fields (contour start) (place start) c.args.kind (color start)) all

@@ -43,16 +43,16 @@ module _ (c : In-Edges) where
 
 -- a file that was refused
 module _ (c : In-Refused) where
-  abbrev start_2 : Start
-  start_2 = (goal.at.In-Refused c).Start
+  abbrev start_of_refused : Start
+  start_of_refused = (goal.at.In-Refused c).Start
 
-  abbrev after_color_2 : After-color
-  after_color_2 = (goal.at.In-Refused c).After-color
+  abbrev color_of_refused : After-color
+  color_of_refused = (goal.at.In-Refused c).After-color
 
-  refused : file_text (file start_2) ≡ refusal_line (refusal_number c.in-Refused.refusal)
+  refused : file_text (file start_of_refused) ≡ refusal_line (refusal_number c.in-Refused.refusal)
   refused =
-      refused_text (file start_2) (old start_2) c.requires.holds_results (refusal_number c.in-Refused.refusal) (new after_color_2)
-      (ap (λ (r : Colored). outcome (colored_answer r) (new after_color_2)) (sym c.in-Refused.is) ∙ c.color.ensures)
+      refused_text (file start_of_refused) (old start_of_refused) c.requires.holds_results (refusal_number c.in-Refused.refusal) (new color_of_refused)
+      (ap (λ (r : Colored). outcome (colored_answer r) (new color_of_refused)) (sym c.in-Refused.is) ∙ c.color.ensures)
 
 pub slice_bounds-write_listing-end : goal.slice_bounds-write_listing-end
 slice_bounds-write_listing-end c = (at_front c).lengths-within
@@ -75,18 +75,18 @@ slice_bounds-write_listing-end-in-Edges-5 c = sym (length-take-le _ _ (at_front 
 pub write_listing-requires : goal.write_listing-requires
 write_listing-requires c =
     let in_edges = (goal.at.write_listing-requires c).In-Edges in
-    let start_3 = (goal.at.write_listing-requires c).Start in
+    let start = (goal.at.write_listing-requires c).Start in
     record {
       sizes = (at_front in_edges).listable;
       room = omega
-          (arith, ap length (at_front in_edges).text, text_few (file start_3), c.requires.room);
+          (arith, ap length (at_front in_edges).text, text_few (file start), c.requires.room);
     }
 
 pub write_refusal-requires : goal.write_refusal-requires
 write_refusal-requires c =
     let in_refused = (goal.at.write_refusal-requires c).In-Refused in
-    let start_3 = (goal.at.write_refusal-requires c).Start in
-    omega (arith, ap length (refused in_refused), text_few (file start_3), c.requires.room)
+    let start = (goal.at.write_refusal-requires c).Start in
+    omega (arith, ap length (refused in_refused), text_few (file start), c.requires.room)
 
 pub returns-in-Edges : goal.returns-in-Edges
 returns-in-Edges c =

@@ -55,22 +55,22 @@ loop-item-smaller c = rw c.advance-p.ensures (less_on _ _ c.loop-item.invariant.
 
 pub loop-item-preserved : goal.loop-item-preserved
 loop-item-preserved c =
-    let after_read_record_2 = (goal.at.loop-item-preserved c).After-read_record in
+    let after_read_record = (goal.at.loop-item-preserved c).After-read_record in
     let in_item = (goal.at.loop-item-preserved c).In-Item in
     rw (c.advance-p.ensures, c.sought-q.ensures)
-    (seeking_next (file after_read_record_2) (number after_read_record_2) (p after_read_record_2) c.loop-item.q c.loop-item.invariant _ _ (as_read in_item))
+    (seeking_next (file after_read_record) (number after_read_record) (p after_read_record) c.loop-item.q c.loop-item.invariant _ _ (as_read in_item))
 
 pub returns-in-End : goal.returns-in-End
 returns-in-End c =
-    let after_read_record_2 = (goal.at.returns-in-End c).After-read_record in
+    let after_read_record = (goal.at.returns-in-End c).After-read_record in
     rw c.span_of.ensures (record {
-      value = seeking_end (file after_read_record_2) (number after_read_record_2) (p after_read_record_2) c.loop-item.q c.loop-item.invariant
-          (found_end _ (sym (ap found_answer c.in-End.is) ∙ read after_read_record_2));
-      inside = seeking_inside (file after_read_record_2) (number after_read_record_2) (p after_read_record_2) c.loop-item.q c.loop-item.invariant;
+      value = seeking_end (file after_read_record) (number after_read_record) (p after_read_record) c.loop-item.q c.loop-item.invariant
+          (found_end _ (sym (ap found_answer c.in-End.is) ∙ read after_read_record));
+      inside = seeking_inside (file after_read_record) (number after_read_record) (p after_read_record) c.loop-item.q c.loop-item.invariant;
     })
 
 pub returns-in-Fails : goal.returns-in-Fails
 returns-in-Fails c =
-    let after_read_record_2 = (goal.at.returns-in-Fails c).After-read_record in
-    let fault = found-fails _ _ (sym (ap found_answer c.in-Fails.is) ∙ read after_read_record_2) in
-    absurd (seeking_fault (file after_read_record_2) (p after_read_record_2) c.loop-item.invariant.at c.requires _ fault)
+    let after_read_record = (goal.at.returns-in-Fails c).After-read_record in
+    let fault = found-fails _ _ (sym (ap found_answer c.in-Fails.is) ∙ read after_read_record) in
+    absurd (seeking_fault (file after_read_record) (p after_read_record) c.loop-item.invariant.at c.requires _ fault)

@@ -56,12 +56,12 @@ loop-item-preserved c = rw c.advance-p.ensures (reached_on _ _ c.loop-item.invar
 
 pub returns-in-End : goal.returns-in-End
 returns-in-End c =
-    let after_read_record_2 = (goal.at.returns-in-End c).After-read_record in
-    let at_end = found_end _ (sym (ap found_answer c.in-End.is) ∙ read after_read_record_2) in
-    ap gives c.loop-item.invariant.numbers_are ∙ ap answer_of (reached_end (file after_read_record_2) (p after_read_record_2) c.loop-item.invariant at_end)
+    let after_read_record = (goal.at.returns-in-End c).After-read_record in
+    let at_end = found_end _ (sym (ap found_answer c.in-End.is) ∙ read after_read_record) in
+    ap gives c.loop-item.invariant.numbers_are ∙ ap answer_of (reached_end (file after_read_record) (p after_read_record) c.loop-item.invariant at_end)
 
 pub returns-in-Fails : goal.returns-in-Fails
 returns-in-Fails c =
-    let after_read_record_2 = (goal.at.returns-in-Fails c).After-read_record in
-    let fault = found-fails _ _ (sym (ap found_answer c.in-Fails.is) ∙ read after_read_record_2) in
-    ap answer_of (reached_fault (file after_read_record_2) (p after_read_record_2) c.loop-item.invariant _ fault)
+    let after_read_record = (goal.at.returns-in-Fails c).After-read_record in
+    let fault = found-fails _ _ (sym (ap found_answer c.in-Fails.is) ∙ read after_read_record) in
+    ap answer_of (reached_fault (file after_read_record) (p after_read_record) c.loop-item.invariant _ fault)

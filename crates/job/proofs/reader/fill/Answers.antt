@@ -46,24 +46,24 @@ module _ (c : In-Item) where
 
 -- the record, written
 module _ (c : After-write_item) where
-  abbrev after_read_record_2 : After-read_record
-  after_read_record_2 = (goal.at.After-write_item c).After-read_record
+  abbrev read_of_written : After-read_record
+  read_of_written = (goal.at.After-write_item c).After-read_record
 
   abbrev in_item : In-Item
   in_item = (goal.at.After-write_item c).In-Item
 
-  next : Filling (file after_read_record_2) (old after_read_record_2) (advanced (p after_read_record_2) c.in-Item.item c.in-Item.size)
+  next : Filling (file read_of_written) (old read_of_written) (advanced (p read_of_written) c.in-Item.item c.in-Item.size)
       c.write_item.new.lengths c.write_item.new.kinds c.write_item.new.points c.write_item.new.distances
   next =
       let item = c.in-Item.item in
-      filling_next (file after_read_record_2) (old after_read_record_2) c.requires (p after_read_record_2) c.loop-item.lengths c.loop-item.kinds
+      filling_next (file read_of_written) (old read_of_written) c.requires (p read_of_written) c.loop-item.lengths c.loop-item.kinds
       c.loop-item.points c.loop-item.distances
       c.loop-item.invariant item _ (as_read in_item)
       c.write_item.new.lengths c.write_item.new.kinds c.write_item.new.points c.write_item.new.distances
-      (subst (λ (x : List ℕ). Hold (written item (p after_read_record_2).state.numbers x
+      (subst (λ (x : List ℕ). Hold (written item (p read_of_written).state.numbers x
       (buffers c.loop-item.lengths c.loop-item.kinds c.loop-item.points c.loop-item.distances)) c.write_item.new.lengths
       c.write_item.new.kinds c.write_item.new.points c.write_item.new.distances)
-      (part-after (p after_read_record_2).at (file after_read_record_2)) c.write_item.ensures)
+      (part-after (p read_of_written).at (file read_of_written)) c.write_item.ensures)
       c.write_item.auto.lengths c.write_item.auto.kinds c.write_item.auto.points c.write_item.auto.distances
 
 pub loop-item-init : goal.loop-item-init
@@ -89,11 +89,11 @@ slice_bounds-write_item-end c = omega arith
 
 pub write_item-requires : goal.write_item-requires
 write_item-requires c =
-    let after_read_record_3 = (goal.at.write_item-requires c).After-read_record in
-    let in_item_2 = (goal.at.write_item-requires c).In-Item in
-    subst (λ (x : List ℕ). RecordFits c.in-Item.item (p after_read_record_3).state.numbers x
+    let after_read_record = (goal.at.write_item-requires c).After-read_record in
+    let in_item = (goal.at.write_item-requires c).In-Item in
+    subst (λ (x : List ℕ). RecordFits c.in-Item.item (p after_read_record).state.numbers x
     (buffers c.loop-item.lengths c.loop-item.kinds c.loop-item.points c.loop-item.distances))
-    (sym (part-after (p after_read_record_3).at (file after_read_record_3))) (has_room in_item_2)
+    (sym (part-after (p after_read_record).at (file after_read_record))) (has_room in_item)
 
 pub advance-p-requires : goal.advance-p-requires
 advance-p-requires c =
@@ -120,9 +120,9 @@ shape_of-distances-in-End c = c.loop-item.invariant.distances-kept
 
 pub returns-in-End : goal.returns-in-End
 returns-in-End c =
-    let after_read_record_3 = (goal.at.returns-in-End c).After-read_record in
-    filling_end (file after_read_record_3) (old after_read_record_3) c.requires (p after_read_record_3) _ _ _ _ c.loop-item.invariant
-    (found_end _ (sym (ap found_answer c.in-End.is) ∙ read after_read_record_3))
+    let after_read_record = (goal.at.returns-in-End c).After-read_record in
+    filling_end (file after_read_record) (old after_read_record) c.requires (p after_read_record) _ _ _ _ c.loop-item.invariant
+    (found_end _ (sym (ap found_answer c.in-End.is) ∙ read after_read_record))
 
 pub shape_of-lengths-in-Fails : goal.shape_of-lengths-in-Fails
 shape_of-lengths-in-Fails c = c.loop-item.invariant.lengths-kept
@@ -138,6 +138,6 @@ shape_of-distances-in-Fails c = c.loop-item.invariant.distances-kept
 
 pub returns-in-Fails : goal.returns-in-Fails
 returns-in-Fails c =
-    let after_read_record_3 = (goal.at.returns-in-Fails c).After-read_record in
-    let fault = found-fails _ _ (sym (ap found_answer c.in-Fails.is) ∙ read after_read_record_3) in
-    absurd (filling_fault (file after_read_record_3) (old after_read_record_3) c.requires (p after_read_record_3) _ _ _ _ c.loop-item.invariant _ fault)
+    let after_read_record = (goal.at.returns-in-Fails c).After-read_record in
+    let fault = found-fails _ _ (sym (ap found_answer c.in-Fails.is) ∙ read after_read_record) in
+    absurd (filling_fault (file after_read_record) (old after_read_record) c.requires (p after_read_record) _ _ _ _ c.loop-item.invariant _ fault)

@@ -43,35 +43,35 @@ room c b e = sym c.has_room.ensures ∙ e
 
 pub has_room-requires : goal.has_room-requires
 has_room-requires c =
-    let start_2 = (goal.at.has_room-requires c).Start in
+    let start = (goal.at.has_room-requires c).Start in
     let in_job = (goal.at.has_room-requires c).In-Job in
-    answer-few (file start_2) (numbers in_job) (rw (same in_job) (job in_job))
+    answer-few (file start) (numbers in_job) (rw (same in_job) (job in_job))
 
 pub returns-then-not-has_room : goal.returns-then-not-has_room
 returns-then-not-has_room c =
-    let start_2 = (goal.at.returns-then-not-has_room c).Start in
+    let start = (goal.at.returns-then-not-has_room c).Start in
     let in_job = (goal.at.returns-then-not-has_room c).In-Job in
     let after_has_room = (goal.at.returns-then-not-has_room c).After-has_room in
-    delivers_short (accept_job (file start_2)) (numbers in_job) (job in_job) (old start_2)
+    delivers_short (accept_job (file start)) (numbers in_job) (job in_job) (old start)
     (room after_has_room false (not-true c.has_room.result c.if-not-has_room.true-raw))
 
 pub fill-requires : goal.fill-requires
 fill-requires c =
     let in_job = (goal.at.fill-requires c).In-Job in
-    let start_2 = (goal.at.fill-requires c).Start in
+    let start = (goal.at.fill-requires c).Start in
     let after_has_room = (goal.at.fill-requires c).After-has_room in
-    rw (same in_job) (fits_buffers (accept_job (file start_2)) (numbers in_job) (job in_job) (old start_2)
+    rw (same in_job) (fits_buffers (accept_job (file start)) (numbers in_job) (job in_job) (old start)
     (room after_has_room true (not-false c.has_room.result c.if-not-has_room.false-raw)))
 
 pub returns-else-not-has_room : goal.returns-else-not-has_room
 returns-else-not-has_room c =
-    let start_2 = (goal.at.returns-else-not-has_room c).Start in
+    let start = (goal.at.returns-else-not-has_room c).Start in
     let in_job = (goal.at.returns-else-not-has_room c).In-Job in
     let after_has_room = (goal.at.returns-else-not-has_room c).After-has_room in
-    delivers_job (accept_job (file start_2)) (numbers in_job) (job in_job) (old start_2) _ _ _ _
+    delivers_job (accept_job (file start)) (numbers in_job) (job in_job) (old start) _ _ _ _
     (room after_has_room true (not-false c.has_room.result c.if-not-has_room.false-raw)) (rw (same in_job) at c.fill.ensures)
 
 pub returns-in-Refused : goal.returns-in-Refused
 returns-in-Refused c =
-    let start_2 = (goal.at.returns-in-Refused c).Start in
-    delivers_refused (accept_job (file start_2)) (old start_2) _ (answer-refused _ _ (sym (ap read_answer c.in-Refused.is) ∙ c.accept.ensures))
+    let start = (goal.at.returns-in-Refused c).Start in
+    delivers_refused (accept_job (file start)) (old start) _ (answer-refused _ _ (sym (ap read_answer c.in-Refused.is) ∙ c.accept.ensures))
