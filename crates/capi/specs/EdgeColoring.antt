@@ -12,11 +12,11 @@ packed edges splines stand_ins = edges % 65536 + 65536 * (splines % 65536) + 281
 
 -- the edges and the stand-ins, or 2^32 and the number of the refusal
 abbrev pub colored_code : Answer Counts → ℕ
-colored_code = code_of (λ (counts : Counts). packed counts.edges 0 counts.stand_ins) 4294967296
+colored_code = code_of (λ (counts : Counts). packed counts.edges 0 counts.stand_ins)
 
 -- the same with the splines
 abbrev pub collected_code : Answer Counts → ℕ
-collected_code = code_of (λ (counts : Counts). packed counts.edges counts.splines counts.stand_ins) 4294967296
+collected_code = code_of (λ (counts : Counts). packed counts.edges counts.splines counts.stand_ins)
 
 -- what a host takes out of such a number: each part, which has at most 16 bits
 module _ (edges splines stand_ins : ℕ) where

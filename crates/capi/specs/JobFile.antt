@@ -12,7 +12,7 @@ use Rattle.capi.specs.Answers.{code_of}
 
 -- 0, or 2^32 and the number of the refusal
 abbrev pub read_code : Answer Numbers → ℕ
-read_code = code_of (λ (n : Numbers). 0) 4294967296
+read_code = code_of (λ (n : Numbers). 0)
 
 -- strategy, seed, the threshold's bits, and how many contours, edges and distances
 abbrev pub job_values : Numbers → List ℕ
@@ -42,7 +42,7 @@ division_number Balanced = 1
 
 -- 1 where the teardrops of a job are balanced, else 0; or 2^32 and the number of the refusal
 abbrev pub balanced_code : Answer Numbers → ℕ
-balanced_code = code_of (λ (n : Numbers). division_number n.division) 4294967296
+balanced_code = code_of (λ (n : Numbers). division_number n.division)
 
 -- the place of the first byte, and 2^32 times the number of bytes
 abbrev pub place_code : Span → ℕ

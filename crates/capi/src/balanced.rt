@@ -7,10 +7,10 @@ ghost use Rattle.coloring.specs.Outline.{given, at_entry, at_exit};
 ghost use Rattle.coloring.specs.EdgeColoring.{edge_coloring, settings_of};
 ghost use Rattle.capi.specs.EdgeColoring.{collected_code, colored_code, handed, hand_out};
 
-use crate::by_distance::collected_code;
-use crate::edge_coloring::code;
+use crate::answers::{collected_code, colored_code};
 use coloring::edge_coloring::edge_coloring;
-use coloring::settings::{Division, Marking, Settings, Strategy};
+use coloring::outline::{OutlineBuffers, ResultBuffers};
+use coloring::settings::{Marking, Settings, Strategy};
 
 pub fn merelsplum_edge_coloring_simple_balanced(
     lengths: &[u16],
@@ -27,22 +27,19 @@ pub fn merelsplum_edge_coloring_simple_balanced(
         ≡ hand_out colored_code (edge_coloring (settings_of Balanced (Colors Simple seed) threshold) (given lengths kinds points) []
         (at_entry out_lengths out_kinds out_points out_colors)) }
 {
-    let settings = Settings {
-        marking: Marking::Colors(Strategy::Simple, seed),
-        threshold,
-        division: Division::Balanced,
-    };
-    code(edge_coloring(
-        settings,
+    let outline = OutlineBuffers {
         lengths,
         kinds,
         points,
-        &[0.0; 0],
-        out_lengths,
-        out_kinds,
-        out_points,
-        out_colors,
-    ))
+    };
+    let mut out = ResultBuffers {
+        lengths: out_lengths,
+        kinds: out_kinds,
+        points: out_points,
+        colors: out_colors,
+    };
+    let settings = Settings::balanced(Marking::Colors(Strategy::Simple, seed), threshold);
+    colored_code(edge_coloring(settings, outline, &[], &mut out))
 }
 
 pub fn merelsplum_edge_coloring_ink_trap_balanced(
@@ -60,22 +57,19 @@ pub fn merelsplum_edge_coloring_ink_trap_balanced(
         ≡ hand_out colored_code (edge_coloring (settings_of Balanced (Colors InkTrap seed) threshold) (given lengths kinds points) []
         (at_entry out_lengths out_kinds out_points out_colors)) }
 {
-    let settings = Settings {
-        marking: Marking::Colors(Strategy::InkTrap, seed),
-        threshold,
-        division: Division::Balanced,
-    };
-    code(edge_coloring(
-        settings,
+    let outline = OutlineBuffers {
         lengths,
         kinds,
         points,
-        &[0.0; 0],
-        out_lengths,
-        out_kinds,
-        out_points,
-        out_colors,
-    ))
+    };
+    let mut out = ResultBuffers {
+        lengths: out_lengths,
+        kinds: out_kinds,
+        points: out_points,
+        colors: out_colors,
+    };
+    let settings = Settings::balanced(Marking::Colors(Strategy::InkTrap, seed), threshold);
+    colored_code(edge_coloring(settings, outline, &[], &mut out))
 }
 
 pub fn merelsplum_collect_splines_balanced(
@@ -92,22 +86,19 @@ pub fn merelsplum_collect_splines_balanced(
         ≡ hand_out collected_code (edge_coloring (settings_of Balanced Numbers threshold) (given lengths kinds points) []
         (at_entry out_lengths out_kinds out_points out_splines)) }
 {
-    let settings = Settings {
-        marking: Marking::Numbers,
-        threshold,
-        division: Division::Balanced,
-    };
-    collected_code(edge_coloring(
-        settings,
+    let outline = OutlineBuffers {
         lengths,
         kinds,
         points,
-        &[0.0; 0],
-        out_lengths,
-        out_kinds,
-        out_points,
-        out_splines,
-    ))
+    };
+    let mut out = ResultBuffers {
+        lengths: out_lengths,
+        kinds: out_kinds,
+        points: out_points,
+        colors: out_splines,
+    };
+    let settings = Settings::balanced(Marking::Numbers, threshold);
+    collected_code(edge_coloring(settings, outline, &[], &mut out))
 }
 
 pub fn merelsplum_edge_coloring_by_distance_balanced(
@@ -126,20 +117,17 @@ pub fn merelsplum_edge_coloring_by_distance_balanced(
         ≡ hand_out colored_code (edge_coloring (settings_of Balanced (Distances seed) threshold) (given lengths kinds points) distances.now
         (at_entry out_lengths out_kinds out_points out_colors)) }
 {
-    let settings = Settings {
-        marking: Marking::Distances(seed),
-        threshold,
-        division: Division::Balanced,
-    };
-    code(edge_coloring(
-        settings,
+    let outline = OutlineBuffers {
         lengths,
         kinds,
         points,
-        distances,
-        out_lengths,
-        out_kinds,
-        out_points,
-        out_colors,
-    ))
+    };
+    let mut out = ResultBuffers {
+        lengths: out_lengths,
+        kinds: out_kinds,
+        points: out_points,
+        colors: out_colors,
+    };
+    let settings = Settings::balanced(Marking::Distances(seed), threshold);
+    colored_code(edge_coloring(settings, outline, distances, &mut out))
 }

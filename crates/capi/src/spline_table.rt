@@ -3,17 +3,17 @@ ghost use Rattle.std.specs.Prelude.{◌≡◌};
 ghost use Rattle.coloring.specs.SplineTable.{offer_answer, offer, table_of};
 ghost use Rattle.capi.specs.SplineTable.{answer_code};
 
-use crate::wide;
-use coloring::spline_table::{self, Offer};
+use coloring::refusal::Refusal;
+use coloring::spline_table::{Offer, SplineTable};
 
 // The counter and 256 where the pair is kept, 512 where it is declined; or 768 and the number of the refusal.
-fn code(answer: Offer) -> u64
+fn code(answer: Result<Offer, Refusal>) -> u64
     ensures { result ≡ answer_code (offer_answer answer) }
 {
     match answer {
-        Offer::Kept(steps) => 256 + wide(steps),
-        Offer::Declined(steps) => 512 + wide(steps),
-        Offer::Refused(refusal) => 768 + wide(refusal.number()),
+        Ok(Offer::Kept(steps)) => 256 + u64::from(steps),
+        Ok(Offer::Declined(steps)) => 512 + u64::from(steps),
+        Err(refusal) => 768 + u64::from(u8::from(refusal)),
     }
 }
 
@@ -27,5 +27,9 @@ pub fn merelsplum_try_add_edge(
     ensures buffers { table_of coloring.new edge_matrix.new
         ≡ (offer (table_of coloring.old edge_matrix.old) a b).table }
 {
-    code(spline_table::try_add_edge(coloring, edge_matrix, a, b))
+    let mut table = SplineTable {
+        coloring,
+        edge_matrix,
+    };
+    code(table.try_add_edge(a, b))
 }

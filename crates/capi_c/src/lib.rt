@@ -1,4 +1,5 @@
 // The exports of the C library: each calls the function of `capi` that has its name, and states its clauses again.
+// Kept apart from `capi`: a crate is a library or an archive, and `vectors` uses `capi`.
 #![tactic(auto)]
 
 ghost use Rattle.std.specs.Prelude.{◌≡◌, []};

@@ -9,7 +9,8 @@ use job::limits::{DECIDING_BYTES, MAX_TEXT};
 use job::listing;
 use std::io::{self, Read, Write};
 
-// Reads until space is full or the input ends: how many bytes, which stand at the start of space.
+// Reads until space is full or the input ends: how many bytes, which stand at the start of space. A loop, since std's
+// `read_exact` tells no number of bytes where the input ends before.
 fn read_full<R: Read>(input: &mut R, space: &mut [u8]) -> io::Result<usize>
     ensures within { IfOk result (λ n. n ≤ length space.new) }
     ensures bytes { IfOk result (λ n. Consumes (R.remaining input.old) (R.remaining input.new) (take n space.new)) }

@@ -186,7 +186,7 @@ module _ {A : Type 0} (middle : A) where
 
   contours_same : (values : List A) (contours : List (List Bool)) → all (λ flags. not (tied flags)) contours ≡ true
       → paint_contours Balanced middle values contours ≡ paint_contours Source middle values contours
-  unfolding paint_contours all
+  unfolding paint_contours
   contours_same values [] free = refl
   contours_same values (flags ∷ rest) free =
       let here = not-true (tied flags) (and_left (not (tied flags)) _ free) in

@@ -1,10 +1,9 @@
 -- The eight colours by their bits: a test that passes at each of them passes at any; what two colours share is the and
--- of their bits, and the channels outside a set are the exclusive or with 7.
-use Prim.Native.Nat.{ℕ, ◌-◌, ◌<◌}
+-- of their bits, and the other channels are its exclusive or with 7.
+use Prim.Native.Nat.{◌-◌}
 use mathlib.Core.Bool.{Bool, ◌&&◌}
 use mathlib.Core.Path.{◌≡◌}
-use native.Mathlib.Omega.{arith}
-use lib.Bits.{bit_and, bit_xor, and_mask, xor_add_and}
+use lib.Bits.{bit_and, bit_xor}
 use lib.Dec.{T, eqb, eqb→eq}
 use lib.Ieee.Fits.{and_l, and_r}
 use Rattle.geometry.specs.EdgeColor.{bits_of}
@@ -42,5 +41,10 @@ pub and_shared : (a b : EdgeColor) → bit_and (bits_of a) (bits_of b) ≡ share
 unfolding shared
 and_shared a b = eqb→eq (bit_and (bits_of a) (bits_of b)) (shared a b) (at-color (same_shared a) (at-color (λ a. every_color (same_shared a)) tt a) b)
 
-pub xor_others : (k : ℕ) → k < 8 → bit_xor k 7 ≡ 7 - k
-xor_others k h = omega (arith, and_mask k 3, xor_add_and k 7)
+abbrev same_unshared : EdgeColor → EdgeColor → Bool
+unfolding shared
+same_unshared a b = eqb (bit_xor (shared a b) 7) (7 - shared a b)
+
+pub xor_shared : (a b : EdgeColor) → bit_xor (shared a b) 7 ≡ 7 - shared a b
+unfolding shared
+xor_shared a b = eqb→eq (bit_xor (shared a b) 7) (7 - shared a b) (at-color (same_unshared a) (at-color (λ a. every_color (same_unshared a)) tt a) b)

@@ -1,13 +1,13 @@
 -- Laws on lists that the library has not: defaults, parts of parts, maps of parts, ranges, a test of all elements.
 use mathlib.Core.Path.{◌≡◌, refl, sym, ◌∙◌, ap}
-use mathlib.Core.Bool.{Bool, true, false}
-use mathlib.Core.List.{List, [], ◌∷◌, ◌++◌, append-nil, map, append_assoc}
+use mathlib.Core.Bool.{Bool, true}
+use mathlib.Core.List.{List, [], ◌∷◌, ◌++◌, append-nil, map}
 use Prim.Native.Nat.{ℕ, zero, suc, ◌+◌, ◌≤◌, ◌<◌}
 use native.Mathlib.Nat.{add-zero, zero-add, add-suc, suc-add}
 use native.Mathlib.Numerals.{add-one}
 use native.Mathlib.Omega.{arith}
-use lib.ListN.{length, take, drop, get_or, drop_of_length-le, length-append, length-map, get_or-map}
-use lib.Seq.{take-length, drop-cons, take-nil, take_at, length-take-le}
+use lib.ListN.{length, take, drop, get_or, drop_of_length-le, length-map, get_or-map}
+use lib.Seq.{take-length, drop-cons, take-nil}
 use Rattle.coloring.specs.Lists.{range, all}
 use Rattle.coloring.specs.Bools.{and_left, and_right}
 
@@ -36,22 +36,12 @@ get_or-range i zero j d h = absurd (omega arith)
 get_or-range i (suc k) zero d h = sym (add-zero i)
 get_or-range i (suc k) (suc j) d h = get_or-range (suc i) k j d (omega arith) ∙ omega arith
 
--- ---- a test of all elements
+pub range_snoc : (i k : ℕ) → range i (suc k) ≡ range i k ++ ((i + k) ∷ [])
+unfolding range
+range_snoc i zero = rw (add-zero i)
+range_snoc i (suc k) = ap (λ (l : List ℕ). i ∷ l) (range_snoc (suc i) k ∙ rw (add-suc i k, suc-add i k))
 
-module _ {A : Type 0} (test : A → Bool) (d : A) where
-  -- a scan that has passed i elements: one that fails, one that passes, the end
-  pub scan_fail : (xs : List A) (i : ℕ) → all test xs ≡ all test (drop i xs) → i < length xs → test (get_or xs i d) ≡ false → false ≡ all test xs
-  unfolding all
-  scan_fail xs i e h t = rw (e, drop-cons xs i d, t)
-
-  pub scan_more : (xs : List A) (i : ℕ) → all test xs ≡ all test (drop i xs) → i < length xs → test (get_or xs i d) ≡ true
-      → all test xs ≡ all test (drop (i + 1) xs)
-  unfolding all
-  scan_more xs i e h t = rw (e, add-one, drop-cons xs i d, t)
-
-  pub scan_end : (xs : List A) (i : ℕ) → all test xs ≡ all test (drop i xs) → length xs ≤ i → true ≡ all test xs
-  unfolding all
-  scan_end xs i e h = rw (e, drop_of_length-le xs h)
+-- ---- parts
 
 module _ {A : Type 0} where
   pub length-zero : (xs : List A) → length xs ≡ 0 → xs ≡ []
@@ -66,26 +56,15 @@ module _ {A : Type 0} where
       let e : suc n + m ≡ suc (n + m) = omega arith in
       rw e (drop-take n m xs)
 
-  -- a part is written from place n up to m: what stands before m
-  pub part_front : (n k m : ℕ) (part rest buffer : List A) → length part ≡ k → n ≤ length buffer → n + k ≡ m
-      → take m (take n buffer ++ (part ++ rest)) ≡ take n buffer ++ part
-  part_front n k m part rest buffer p h e =
-      rw (← append_assoc (take n buffer) part rest)
-      (take_at (take n buffer ++ part) rest m (length-append (take n buffer) part ∙ omega (arith, length-take-le n buffer h)))
-
 module _ {A B : Type 0} (f : A → B) where
   pub get_or_mapped : (xs : List A) (i : ℕ) (d : A) (e : B) → i < length xs → get_or (map f xs) i e ≡ f (get_or xs i d)
   get_or_mapped xs i d e h = get_d_any (map f xs) i e (f d) (simp length-map h) ∙ get_or-map f xs i d
 
-pub range_snoc : (i k : ℕ) → range i (suc k) ≡ range i k ++ ((i + k) ∷ [])
-unfolding range
-range_snoc i zero = rw (add-zero i)
-range_snoc i (suc k) = ap (λ (l : List ℕ). i ∷ l) (range_snoc (suc i) k ∙ rw (add-suc i k, suc-add i k))
+-- ---- a test of all elements
 
 module _ {A : Type 0} (test : A → Bool) (d : A) where
   -- what passes as a whole passes at each place
   pub all-at : (xs : List A) (i : ℕ) → all test xs ≡ true → i < length xs → test (get_or xs i d) ≡ true
-  unfolding all
   all-at [] i e h = absurd (omega arith)
   all-at (x ∷ xs) zero e h = and_left (test x) (all test xs) e
   all-at (x ∷ xs) (suc i) e h = all-at xs i (and_right (test x) (all test xs) e) (omega arith)

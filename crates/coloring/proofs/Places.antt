@@ -86,9 +86,6 @@ module _ {A : Type 0} (start m : ℕ) (xs : List A) (d : A) where
     pub size : length written ≡ m
     pub passed : (k : ℕ) → k < i → get_or written ((start + k) % m) d ≡ get_or xs k d
 
-  pub walked_none : {written : List A} → length written ≡ m → Walked written 0
-  walked_none e = record { size = e; passed = λ k h. absurd (omega arith) }
-
   pub walked_more : {written : List A} {i : ℕ} → start ≤ m → i < m → Walked written i
       → (a : A) → a ≡ get_or xs i d → Walked (set written ((start + i) % m) a) (i + 1)
   walked_more {written} {i} s h w a e = record { size = length-set written place a ∙ w.size; passed = again }

@@ -5,10 +5,9 @@ use mathlib.Core.List.{List, [], ◌∷◌, ◌++◌, append_assoc, append-nil}
 use Prim.Native.Nat.{ℕ, suc, ◌+◌, ◌≤◌, ◌<◌}
 use native.Mathlib.Omega.{arith}
 use native.Mathlib.Numerals.{add-one}
-use lib.ListN.{length, take, drop, get_or, set, length-append, length-drop, drop_of_length-le, take-append-drop}
+use lib.ListN.{length, take, drop, set, length-append, length-drop, drop_of_length-le, take-append-drop}
 use lib.Seq.{drop-drop, set_split, length-take-le, take_at, drop_at}
 use Rattle.coloring.specs.Lists.{over_from}
-use Rattle.coloring.proofs.Lists.{drop-next}
 
 module _ {A : Type 0} (n : ℕ) where
   -- as it stands after a call that wrote a part
@@ -19,6 +18,10 @@ module _ {A : Type 0} (n : ℕ) where
   pub over-length : (k : ℕ) (part buffer : List A) → length part ≡ k → n + k ≤ length buffer → length (over_from n part buffer) ≡ length buffer
   unfolding over_from
   over-length k part buffer p h = simp (length-append, length-drop) (omega (arith, length-take-le n buffer (omega arith)))
+
+  pub part-length : (k : ℕ) (part buffer : List A) → length part ≡ k → n + k ≤ length buffer
+      → length (take n buffer ++ (part ++ drop k (drop n buffer))) ≡ length buffer
+  part-length k part buffer p h = ap length (over-part k part buffer p) ∙ over-length k part buffer p h
 
   -- nothing is left to be written
   pub over_nothing : (buffer : List A) → over_from n [] buffer ≡ buffer
@@ -41,15 +44,6 @@ module _ {A : Type 0} (n : ℕ) where
   over-next x rest buffer h =
       let e : drop (suc n) buffer ≡ drop 1 (drop n buffer) = ap (λ k. drop k buffer) (sym (add-one n)) ∙ sym (drop-drop 1 n buffer) in
       over-more 1 (x ∷ []) rest buffer refl (omega arith) ∙ rw (set_split buffer n x h, e, over-part 1 (x ∷ []) buffer refl)
-
-  -- the elements of a list are stored one after the other
-  pub over-step : (xs buffer : List A) (d : A) → n < length xs → n < length buffer
-      → over_from n (drop n xs) buffer ≡ over_from (n + 1) (drop (n + 1) xs) (set buffer n (get_or xs n d))
-  over-step xs buffer d h j =
-      rw (drop-next xs n d h) (over-next (get_or xs n d) (drop (n + 1) xs) buffer j)
-
-  pub over_done : (xs buffer : List A) → length xs ≤ n → over_from n (drop n xs) buffer ≡ buffer
-  over_done xs buffer h = rw (drop_of_length-le xs h) (over_nothing buffer)
 
 -- a list as long as the buffer
 pub over-all : {A : Type 0} (xs buffer : List A) → length buffer ≡ length xs → over_from 0 xs buffer ≡ xs

@@ -1,3 +1,2 @@
--- Laws on the layout: contours that are laid out one after the other, and what a split leaves as it is.
-pub mod LayoutLaws
+-- Laws on the layout: what a split leaves as it is.
 pub mod SplitLaws

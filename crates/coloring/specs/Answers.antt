@@ -1,11 +1,10 @@
 -- Answers in numbers (SCOPE, Refusals): a value, or the number of a refusal; and checks in an order, each with its
 -- number. Every entry's promise is made of these.
-use Rattle.std.specs.Prelude.{ℕ, ◌≡◌, refl, Bool, true, false}
+use Rattle.std.specs.Prelude.{ℕ, ◌≡◌, refl, Bool, true, false, Result, Ok, Err}
 use Rattle.std.proofs.Common.{sym, ◌∙◌, arith}
 use mathlib.Core.List.{List, [], ◌∷◌, ◌++◌, append-nil}
 use Rattle.coloring.specs.Refusal.{refusal_number}
-use Rattle.coloring.specs.declared.refusal.Checked.{Checked}
-use Rattle.coloring.specs.declared.refusal.Checked.TheVariants.{Passed, Failed}
+use Rattle.coloring.specs.declared.refusal.Refusal.{Refusal}
 
 pub data Answer (A : Type 0) : Type 0 where
   gives : A → Answer A
@@ -40,9 +39,9 @@ unfolding in_order
 first_refusal checks = in_order checks refusal all_pass
 
 -- what the code's checks find, as an answer
-abbrev pub checked_answer : Checked → Answer Unit
-checked_answer Passed = all_pass
-checked_answer (Failed r) = refusal (refusal_number r)
+abbrev pub checked_answer : Result Unit Refusal → Answer Unit
+checked_answer (Ok _) = all_pass
+checked_answer (Err r) = refusal (refusal_number r)
 
 -- ---- laws
 

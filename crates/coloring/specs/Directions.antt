@@ -1,5 +1,5 @@
 -- The unit directions of an outline's edges, for hosts that read edge by edge (SCOPE, Directions).
-use Rattle.std.specs.Prelude.{ℕ, zero, suc, ◌≡◌, refl, Bool, true, false, ◌&&◌, cond, leb, eqb, Float, length, drop, get_or}
+use Rattle.std.specs.Prelude.{ℕ, zero, suc, ◌≡◌, refl, Bool, true, false, ◌&&◌, cond, leb, eqb, Float, length, drop, get_or, Result, Ok, Err}
 use Rattle.std.proofs.Common.{ap, ap₂}
 use mathlib.Core.List.{List, [], ◌∷◌, map, flatten}
 use Rattle.math.specs.Vector2.{normalized}
@@ -12,8 +12,7 @@ use Rattle.coloring.specs.Answers.{Answer, gives, refusal}
 use Rattle.coloring.specs.Fill.{FillOutcome, fill_with}
 use Rattle.coloring.specs.Corners.{directions_of, ends_of, ends_in, flags_between, stand_in_mark, marks_of}
 use Rattle.coloring.specs.Outline.{Outline, MutBuffer, cut, contours, check_outline}
-use Rattle.coloring.specs.declared.directions.Directed.{Directed}
-use Rattle.coloring.specs.declared.directions.Directed.TheVariants.{Edges, Refused}
+use Rattle.coloring.specs.declared.refusal.Refusal.{Refusal}
 use Rattle.coloring.specs.declared.directions.Ends.{Ends}
 
 -- ---- four places an edge: x and y of the direction in which it starts, x and y of that in which it ends
@@ -70,9 +69,9 @@ decoded_again (d ∷ directions) =
 -- ---- the outcome of the entry
 
 -- how many edges there are, or the number of a refusal
-abbrev pub directed_answer : Directed → Answer ℕ
-directed_answer (Edges edges) = gives edges
-directed_answer (Refused r) = refusal (refusal_number r)
+abbrev pub directed_answer : Result ℕ Refusal → Answer ℕ
+directed_answer (Ok edges) = gives edges
+directed_answer (Err r) = refusal (refusal_number r)
 
 -- the two buffers
 pub record DirectionBuffers : Type 0 where

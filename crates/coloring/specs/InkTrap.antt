@@ -16,10 +16,10 @@ use Rattle.coloring.specs.Corners.{Cornered, estimate_edge_length}
 
 -- a corner with another flag, another colour
 abbrev pub with_minor : Bool → InkTrapCorner → InkTrapCorner
-with_minor m k = record { index = k.index; prev_edge_length_estimate = k.prev_edge_length_estimate; minor = m; color = k.color }
+with_minor m k = record k { minor = m }
 
 abbrev pub with_color : EdgeColor → InkTrapCorner → InkTrapCorner
-with_color c k = record { index = k.index; prev_edge_length_estimate = k.prev_edge_length_estimate; minor = k.minor; color = c }
+with_color c k = record k { color = c }
 
 -- ---- the corners, each with the estimated length since the one before
 
@@ -51,13 +51,7 @@ measure_corners contour = measure_from 0 f0 contour.edges contour.corners
 
 -- the first corner's estimate goes on over the end of the contour
 abbrev pub closed : Float → InkTrapCorner → InkTrapCorner
-closed spline_length k =
-    record {
-      index = k.index;
-      prev_edge_length_estimate = Ieee.add binary64 k.prev_edge_length_estimate spline_length;
-      minor = k.minor;
-      color = k.color;
-    }
+closed spline_length k = record k { prev_edge_length_estimate = Ieee.add binary64 k.prev_edge_length_estimate spline_length }
 
 unfoldable pub close_first : Float → List InkTrapCorner → List InkTrapCorner
 close_first spline_length [] = []

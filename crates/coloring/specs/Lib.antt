@@ -17,16 +17,18 @@ pub mod Simple
 pub mod InkTrap
 pub mod Values
 pub mod Outline
+pub mod Contours
 pub mod Directions
 pub mod Shape
 pub mod EdgeColoring
 -- the spline table
+pub mod Queue
 pub mod Recolor
 pub mod SplineTable
 pub mod Sequence
 -- the splines' colours from their distances
 pub mod PairOrder
-pub mod PairNumbers
+pub mod Pairs
 pub mod SecondDegree
 pub mod SplineColors
 -- laws that crates above cite too: truth values, how long the parts of a result are, how it is painted and delivered

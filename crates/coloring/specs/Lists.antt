@@ -1,5 +1,6 @@
 -- Lists: ranges, the last element, a test of all elements, a part written over what stood there.
-use Rattle.std.specs.Prelude.{ℕ, zero, suc, ◌≡◌, refl, Bool, true, ◌&&◌, List, [], ◌∷◌, ◌++◌, map, length, take, drop}
+use Rattle.std.specs.Prelude.{ℕ, zero, suc, ◌≡◌, refl, Bool, List, [], ◌∷◌, ◌++◌, map, length, take, drop}
+use Rattle.std.specs.List.{list_all}
 use Rattle.std.proofs.Common.{ap}
 
 -- i, i + 1, .., k of them
@@ -17,9 +18,8 @@ unfoldable pub last_of : {A : Type 0} → A → List A → A
 last_of x [] = x
 last_of x (y ∷ xs) = last_of y xs
 
-unfoldable pub all : {A : Type 0} → (A → Bool) → List A → Bool
-all test [] = true
-all test (x ∷ xs) = test x && all test xs
+abbrev pub all : {A : Type 0} → (A → Bool) → List A → Bool
+all test xs = list_all test xs
 
 -- a written part, and what stood beyond it
 unfoldable pub over : {A : Type 0} → List A → List A → List A

@@ -1,6 +1,7 @@
 -- Outline buffers and the contours that they stand for, both ways, and the checks of an outline (SCOPE, Buffers and
 -- Refusals).
-use Rattle.std.specs.Prelude.{ℕ, suc, ◌-◌, ◌*◌, ◌≤◌, ◌≡◌, refl, Bool, true, false, ◌&&◌, length, take, drop, leb, eqb, pos, Float}
+use Rattle.std.specs.Prelude.{ℕ, suc, ◌+◌, ◌-◌, ◌*◌, ◌≤◌, ◌≡◌, refl, Bool, true, false, ◌&&◌, length, take, drop, leb, eqb, pos, Float, Ok, Err}
+use Rattle.std.specs.Prelude as Prelude
 use Rattle.std.specs.Borrow.{Bor, MutBor}
 use denote.Triple.Both.{Both}
 use mathlib.Core.List.{List, [], ◌∷◌, ◌++◌, map, flatten}
@@ -14,14 +15,15 @@ use Rattle.geometry.specs.declared.edge_segment.EdgeSegment.{EdgeSegment}
 use Rattle.geometry.specs.declared.edge_segment.EdgeSegment.TheVariants.{Line}
 use Rattle.coloring.specs.Refusal.{refusal_number}
 use Rattle.coloring.specs.Answers.{Answer, gives, refusal, Check, unless, in_order}
-use Rattle.coloring.specs.Lists.{all, over, over_from}
+use Rattle.std.specs.List.{list_all}
+use Rattle.coloring.specs.Lists.{over, over_from}
 use Rattle.coloring.specs.declared.outline.Counts.{Counts}
-use Rattle.coloring.specs.declared.outline.Colored.{Colored}
-use Rattle.coloring.specs.declared.outline.Colored.TheVariants.{Edges, Refused}
+use Rattle.coloring.specs.declared.outline.OutlineBuffers.{OutlineBuffers}
+use Rattle.coloring.specs.declared.outline.ResultBuffers.{ResultBuffers}
+use Rattle.coloring.specs.declared.refusal.Refusal.{Refusal}
 use Rattle.coloring.specs.Places.{total}
 use Rattle.coloring.specs.Limits.{max_contours, max_edges}
-use Rattle.coloring.specs.Corners.{Cornered, edges_in, flags_in}
-use Rattle.coloring.specs.Layout.{result_edges}
+use Rattle.coloring.specs.Corners.{Cornered}
 
 -- an outline's three buffers: contour lengths, the kind of each edge, eight point places an edge
 pub record Outline : Type 0 where
@@ -112,19 +114,18 @@ used_places kind = 2 * suc kind
 
 -- each used place of each edge is a coordinate within the range
 unfoldable pub coordinates_fit : List ℕ → List Float → Bool
-unfolding all
 coordinates_fit [] points = true
 coordinates_fit (kind ∷ kinds) points =
-    all in_range (take (used_places kind) points) && coordinates_fit kinds (drop 8 points)
+    list_all in_range (take (used_places kind) points) && coordinates_fit kinds (drop 8 points)
 
 -- of an outline alone
 unfoldable pub check_outline : Outline → List Check
-unfolding total all coordinates_fit
+unfolding total coordinates_fit
 check_outline o =
     let edges = total o.lengths in
     unless 4 (leb (length o.lengths) max_contours && leb edges max_edges)
     ∷ unless 8 (eqb (length o.kinds) edges && eqb (length o.points) (8 * edges))
-    ∷ unless 5 (all known_kind o.kinds)
+    ∷ unless 5 (list_all known_kind o.kinds)
     ∷ unless 7 (coordinates_fit o.kinds o.points)
     ∷ []
 
@@ -145,9 +146,9 @@ outcome answer buffers = record { answer = answer; buffers = buffers }
 
 -- what a colouring answers: the contours, edges and splines of the result and the stand-ins of the outline, or the
 -- number of a refusal
-abbrev pub colored_answer : Colored → Answer Counts
-colored_answer (Edges counts) = gives counts
-colored_answer (Refused r) = refusal (refusal_number r)
+abbrev pub colored_answer : Prelude.Result Counts Refusal → Answer Counts
+colored_answer (Ok counts) = gives counts
+colored_answer (Err r) = refusal (refusal_number r)
 
 -- whether a result is no longer than its buffers
 unfoldable pub result_fits : Result → Result → Bool
@@ -158,16 +159,18 @@ result_fits written old =
     && leb (length written.colors) (length old.colors)
 
 -- a result, written over what stood there
-unfoldable pub delivered : Counts → Result → Result → Outcome
-unfolding over
-delivered counts written old =
-    outcome (gives counts)
-    (record {
+abbrev pub over_result : Result → Result → Result
+over_result written old =
+    record {
       lengths = over written.lengths old.lengths;
       kinds = over written.kinds old.kinds;
       points = over written.points old.points;
       colors = over written.colors old.colors;
-    })
+    }
+
+unfoldable pub delivered : Counts → Result → Result → Outcome
+unfolding over
+delivered counts written old = outcome (gives counts) (over_result written old)
 
 -- The first refusal of the checks, and 11 last, where the result would not fit, with the buffers as they came; or the
 -- result.
@@ -193,7 +196,7 @@ Buffer A = Both (Bor (List A)) (Bor (List A))
 abbrev pub MutBuffer : Type 0 → Type 0
 MutBuffer A = Both (MutBor (List A)) (MutBor (List A))
 
--- the outline that is given, and the four result buffers at entry and at exit
+-- of buffers that are passed one by one: the outline that is given, and the four result buffers at entry and at exit
 abbrev pub given : Buffer ℕ → Buffer ℕ → Buffer Float → Outline
 given lengths kinds points = outline lengths.entry.now kinds.entry.now points.entry.now
 
@@ -203,6 +206,32 @@ at_entry lengths kinds points colors = result lengths.entry.now kinds.entry.now 
 abbrev pub at_exit : MutBuffer ℕ → MutBuffer ℕ → MutBuffer Float → MutBuffer ℕ → Result
 at_exit lengths kinds points colors = result lengths.exit.now kinds.exit.now points.exit.now colors.exit.now
 
+-- of buffers that are passed together
+abbrev pub outline_in : OutlineBuffers → Outline
+outline_in o = outline o.lengths.now o.kinds.now o.points.now
+
+abbrev pub result_in : ResultBuffers → Result
+result_in out = result out.lengths.now out.kinds.now out.points.now out.colors.now
+
+-- the four references lead where they led, to as many places
+pub record SameBuffers (old new : ResultBuffers) : Type 0 where
+  pub lengths_same : new.lengths.ghost_name ≡ old.lengths.ghost_name
+  pub kinds_same : new.kinds.ghost_name ≡ old.kinds.ghost_name
+  pub points_same : new.points.ghost_name ≡ old.points.ghost_name
+  pub colors_same : new.colors.ghost_name ≡ old.colors.ghost_name
+  pub lengths_long : length new.lengths.now ≡ length old.lengths.now
+  pub kinds_long : length new.kinds.now ≡ length old.kinds.now
+  pub points_long : length new.points.now ≡ length old.points.now
+  pub colors_long : length new.colors.now ≡ length old.colors.now
+
+-- edges are written from place i on, and nothing else
+pub record StoredFrom (i : ℕ) (edges : List EdgeSegment) (old new : ResultBuffers) : Type 0 where
+  pub same : SameBuffers old new
+  pub lengths_are : new.lengths.now ≡ old.lengths.now
+  pub kinds_are : new.kinds.now ≡ over_from i (map kind_stored edges) old.kinds.now
+  pub points_are : new.points.now ≡ over_from (8 * i) (flatten (map places_stored edges)) old.points.now
+  pub colors_are : new.colors.now ≡ old.colors.now
+
 -- the buffers of an outline agree, and hold no more contours and edges than are allowed
 pub record Agrees (o : Outline) : Type 0 where
   pub contours-few : length o.lengths ≤ max_contours
@@ -210,57 +239,21 @@ pub record Agrees (o : Outline) : Type 0 where
   pub few : length o.kinds ≤ max_edges
   pub places : length o.points ≡ 8 * length o.kinds
 
--- three buffers of a contour, or of several one after the other: its edges, and a flag for each
-pub record Matching (kinds : List ℕ) (points : List Float) (flags : List Bool) : Type 0 where
-  pub places : length points ≡ 8 * length kinds
-  pub flagged : length flags ≡ length kinds
-  pub few : length kinds ≤ max_edges
+-- four buffers have room for so many contours and edges
+abbrev pub has_room : ℕ → ℕ → Result → Bool
+has_room contours edges old =
+    leb contours (length old.lengths) && leb edges (length old.kinds) && leb (8 * edges) (length old.points) && leb edges (length old.colors)
 
--- the same with the lengths of the contours
-pub record Cut (lengths kinds : List ℕ) (points : List Float) (flags : List Bool) : Type 0 where
-  pub matching : Matching kinds points flags
-  pub whole : total lengths ≡ length kinds
-  pub contours-few : length lengths ≤ max_contours
+-- three of them have room for n edges from place `to` on
+pub record RoomFrom (to n : ℕ) (out : ResultBuffers) : Type 0 where
+  pub kinds_fit : to + n ≤ length out.kinds.now
+  pub points_fit : 8 * (to + n) ≤ length out.points.now
+  pub colors_fit : to + n ≤ length out.colors.now
 
-abbrev pub whole : List ℕ → List Float → List Bool → Cornered
-whole kinds points flags = record { edges = edges_of kinds points; corners = flags }
-
--- the contour of the edges from `at` up to `end`
-pub record Part (kinds : List ℕ) (points : List Float) (flags : List Bool) (at end : ℕ) : Type 0 where
-  pub matching : Matching kinds points flags
-  pub start : at ≤ end
-  pub inside : end ≤ length kinds
-
-abbrev pub part : List ℕ → List Float → List Bool → ℕ → ℕ → Cornered
-part kinds points flags at end =
-    record { edges = take (end - at) (drop at (edges_of kinds points)); corners = take (end - at) (drop at flags) }
-
--- two buffers hold edges; three hold a contour and its flags; the same from place `to` on, over what stood there
-pub record Stored (edges : List EdgeSegment) (kinds : List ℕ) (points : List Float) : Type 0 where
-  pub kinds_are : kinds ≡ map kind_stored edges
-  pub points_are : points ≡ flatten (map places_stored edges)
-
-pub record Laid (contour : Cornered) (kinds : List ℕ) (points : List Float) (flags : List Bool) : Type 0 where
-  pub edges_are : Stored contour.edges kinds points
-  pub flags_are : flags ≡ contour.corners
-
-pub record LaidFrom (to : ℕ) (contour : Cornered) (kinds₀ : List ℕ) (points₀ : List Float) (flags₀ : List Bool)
-    (kinds : List ℕ) (points : List Float) (flags : List Bool) : Type 0 where
-  pub kinds_are : kinds ≡ over_from to (map kind_stored contour.edges) kinds₀
-  pub points_are : points ≡ over_from (8 * to) (flatten (map places_stored contour.edges)) points₀
-  pub flags_are : flags ≡ over_from to contour.corners flags₀
-
--- four buffers have room for the result of contours with these flags
-pub record ResultRoom (lengths : List ℕ) (flags : List Bool) (out_lengths out_kinds : List ℕ) (out_points : List Float) (out_flags : List Bool) : Type 0 where
-  pub lengths_fit : length lengths ≤ length out_lengths
-  pub kinds_fit : total (map result_edges (cut lengths flags)) ≤ length out_kinds
-  pub points_fit : 8 * total (map result_edges (cut lengths flags)) ≤ length out_points
-  pub flags_fit : total (map result_edges (cut lengths flags)) ≤ length out_flags
-
--- four buffers hold laid out contours, over what stood there
-pub record LaidOut (laid : List Cornered) (lengths₀ kinds₀ : List ℕ) (points₀ : List Float) (flags₀ : List Bool)
-    (lengths kinds : List ℕ) (points : List Float) (flags : List Bool) : Type 0 where
-  pub lengths_are : lengths ≡ over (encode (edges_in laid) []).lengths lengths₀
-  pub kinds_are : kinds ≡ over (encode (edges_in laid) []).kinds kinds₀
-  pub points_are : points ≡ over (encode (edges_in laid) []).points points₀
-  pub flags_are : flags ≡ over (flatten (flags_in laid)) flags₀
+-- a contour is written from place `to` on with the bytes of its edges, and nothing else
+pub record WrittenFrom (to : ℕ) (contour : Cornered) (bytes : List ℕ) (old new : ResultBuffers) : Type 0 where
+  pub same : SameBuffers old new
+  pub lengths_are : new.lengths.now ≡ old.lengths.now
+  pub kinds_are : new.kinds.now ≡ over_from to (map kind_stored contour.edges) old.kinds.now
+  pub points_are : new.points.now ≡ over_from (8 * to) (flatten (map places_stored contour.edges)) old.points.now
+  pub colors_are : new.colors.now ≡ over_from to bytes old.colors.now

@@ -1,12 +1,13 @@
 -- The recolouring behind an offer, after coloring/by_distance.rs (SCOPE, Offers): free colours, colours taken away, the
 -- walk. The parts stand in the source's order and under its names. A colour is 0, 1 or 2; 3 is the source's -1, a
--- spline without a colour. Last comes what the functions of the recolouring promise each other: the queue of the walk
--- as the code holds it.
+-- spline without a colour. Last comes what the functions of the recolouring promise each other.
 use Rattle.std.specs.Prelude.{◌≡◌, Bool, true, false, not, ◌&&◌, ◌||◌, cond, List, [], ◌∷◌, ◌++◌, ℕ, zero, suc, ◌+◌, ◌-◌, ◌*◌, ◌%◌, ◌^◌, ◌≤◌, ◌<◌, length}
 use Rattle.std.specs.Prelude.{get_or, take, drop, set, leb, eqb}
 use Rattle.coloring.specs.Limits.{max_splines}
-use Rattle.coloring.specs.declared.recolor.Walked.{Walked}
-use Rattle.coloring.specs.declared.recolor.Walked.TheVariants.{Recolored, Stopped}
+use Rattle.coloring.specs.Queue.{waits}
+use Rattle.coloring.specs.declared.recolor.Walker.{Walker}
+use Rattle.coloring.specs.declared.spline_table.Offer.{Offer}
+use Rattle.coloring.specs.declared.spline_table.Offer.TheVariants.{Kept, Declined}
 
 unfoldable pub uncolored : ℕ
 uncolored = 3
@@ -126,16 +127,11 @@ unfoldable pub recolor : List ℕ → List ℕ → ℕ → ℕ → Walk
 unfolding walk_from walk_start
 recolor coloring edge_matrix a b = walk_from edge_matrix a (get_or coloring a 0) (walk_start coloring edge_matrix a b)
 
--- ---- the code's queue: a ring of 64 numbers, the place of the first, and how many wait
-
--- the splines that wait, the first at `head`
-unfoldable pub ring : List ℕ → ℕ → ℕ → List ℕ
-ring places head zero = []
-ring places head (suc waiting) = get_or places head 0 ∷ ring places ((head + 1) % 64) waiting
+-- ---- what the functions of the code promise each other
 
 -- the colours and the queue as the definition has them
-abbrev pub recoloring : List ℕ → List ℕ → ℕ → ℕ → Recoloring
-recoloring coloring places head waiting = record { coloring = coloring; queue = ring places head waiting }
+abbrev pub recoloring : Walker → Recoloring
+recoloring w = record { coloring = w.coloring.now; queue = waits w.queue }
 
 -- each spline of the queue is without a colour, and stands there once: it has one when the next is looked at
 unfoldable pub Waiting : List ℕ → List ℕ → Type 0
@@ -143,24 +139,22 @@ unfolding uncolored
 Waiting coloring [] = Unit {0}
 Waiting coloring (i ∷ queue) = (get_or coloring i 0 ≡ uncolored) × Waiting (set coloring i 0) queue
 
--- what keeps the ring within its 64 places
-pub record Queued (coloring places : List ℕ) (head waiting : ℕ) : Type 0 where
-  pub few : length coloring ≤ max_splines
-  pub size : length places ≡ 64
-  pub start : head < 64
-  pub waits : Waiting coloring (ring places head waiting)
+-- what keeps the queue within its places
+pub record Queued (w : Recoloring) : Type 0 where
+  pub few : length w.coloring ≤ max_splines
+  pub waits : Waiting w.coloring w.queue
 
 -- where splines of the colour c may lose it: entries for as many splines, and a colour that is one
-pub record Uncoloring (coloring places entries : List ℕ) (head waiting c : ℕ) : Type 0 where
-  pub queued : Queued coloring places head waiting
-  pub row : length entries ≡ length coloring
+pub record Uncoloring (w : Recoloring) (entries : List ℕ) (c : ℕ) : Type 0 where
+  pub queued : Queued w
+  pub row : length entries ≡ length w.coloring
   pub color : c < 3
 
--- where a walk may start: entries for every two splines, and a spline a whose colour stays
-pub record Walking (coloring places edge_matrix : List ℕ) (a waiting : ℕ) : Type 0 where
-  pub queued : Queued coloring places 0 waiting
-  pub entries : length edge_matrix ≡ length coloring * length coloring
-  pub inside : a < length coloring
+-- where a walk may start: the splines are as many as an edge matrix has rows, and a is one whose colour stays
+pub record Walking (w : Recoloring) (n a : ℕ) : Type 0 where
+  pub queued : Queued w
+  pub size : n ≡ length w.coloring
+  pub inside : a < length w.coloring
 
 -- where a pair may be offered: entries for every two of at most 64 splines, two numbers of splines, and a colour of a
 pub record Offerable (coloring edge_matrix : List ℕ) (a b : ℕ) : Type 0 where
@@ -171,6 +165,6 @@ pub record Offerable (coloring edge_matrix : List ℕ) (a b : ℕ) : Type 0 wher
   pub color : get_or coloring a 0 < 3
 
 -- the end of a walk, as the definition has it
-abbrev pub ended : Walked → List ℕ → Walk
-ended (Recolored step) coloring = recolored coloring step
-ended (Stopped step) coloring = stopped step
+abbrev pub ended : Offer → List ℕ → Walk
+ended (Kept step) coloring = recolored coloring step
+ended (Declined step) coloring = stopped step

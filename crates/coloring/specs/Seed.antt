@@ -2,10 +2,12 @@
 use Rattle.std.specs.Prelude.{ℕ, ◌/◌, ◌%◌}
 use Rattle.coloring.specs.declared.seed.Draw.{Draw}
 
--- the seed mod 2, and its half
-abbrev pub seed_extract2 : ℕ → Draw
-seed_extract2 seed = record { value = seed % 2; seed = seed / 2 }
+-- the seed mod n, and its nth part
+abbrev pub seed_extract : ℕ → ℕ → Draw
+seed_extract n seed = record { value = seed % n; seed = seed / n }
 
--- the seed mod 3, and its third
+abbrev pub seed_extract2 : ℕ → Draw
+seed_extract2 = seed_extract 2
+
 abbrev pub seed_extract3 : ℕ → Draw
-seed_extract3 seed = record { value = seed % 3; seed = seed / 3 }
+seed_extract3 = seed_extract 3

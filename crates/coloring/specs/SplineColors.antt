@@ -8,8 +8,9 @@ use Rattle.coloring.specs.Limits.{max_splines, max_distances}
 use Rattle.coloring.specs.Answers.{Answer, refusal, Check, all_pass, unless, in_order}
 use Rattle.coloring.specs.SplineTable.{Table, table_of, enter_pair, sound}
 use Rattle.coloring.specs.Sequence.{Pair, Run, run}
-use Rattle.coloring.specs.PairOrder.{distances_valid, ValidDistances, SplinePair, pair_order}
-use Rattle.coloring.specs.PairNumbers.{Each, Below, Two, pair_at, InOrder}
+use Rattle.coloring.specs.PairOrder.{distances_valid, SplinePair, pair_order}
+use Rattle.coloring.specs.Pairs.{TwoEach}
+use Rattle.coloring.specs.declared.pair_order.GraphEdge.{GraphEdge}
 use Rattle.coloring.specs.SecondDegree.{color_second_degree_graph}
 
 -- ---- zero pairs
@@ -50,14 +51,22 @@ pub record Offers : Type 0 where
   pub pairs : List Pair
   pub ends : Run
 
-unfoldable pub offer_splines : ℕ → List Float → ℕ → Offers
-unfolding pair_order zero_pairs other_pairs start_table run
-offer_splines n distances seed =
-    let order = pair_order n distances in
+-- those of n splines whose pairs stand in this order
+unfoldable pub offer_in_order : ℕ → List SplinePair → ℕ → Offers
+unfolding zero_pairs other_pairs start_table run
+offer_in_order n order seed =
     let start = start_table n (zero_pairs order) seed in
     record { start = start; pairs = other_pairs order; ends = run start (other_pairs order) }
 
+-- and of n splines, nearest first
+unfoldable pub offer_splines : ℕ → List Float → ℕ → Offers
+unfolding pair_order offer_in_order
+offer_splines n distances seed = offer_in_order n (pair_order n distances) seed
+
 -- the splines' colours
+abbrev pub color_in_order : ℕ → List SplinePair → ℕ → List ℕ
+color_in_order n order seed = (offer_in_order n order seed).ends.table.coloring
+
 abbrev pub color_splines : ℕ → List Float → ℕ → List ℕ
 color_splines n distances seed = (offer_splines n distances seed).ends.table.coloring
 
@@ -88,17 +97,15 @@ color_splines_into distances seed old =
 
 -- ---- what the functions behind it ask of each other
 
--- where pairs may be offered one after the other: a sound table of at most 64 splines, and numbers of pairs of them
-pub record OfferableAll (coloring edge_matrix codes order : List ℕ) : Type 0 where
+-- where pairs may be offered one after the other: a sound table of at most 64 splines, and pairs of them
+pub record OfferableAll (coloring edge_matrix : List ℕ) (edges : List GraphEdge) : Type 0 where
   pub few : length coloring ≤ max_splines
   pub entries : length edge_matrix ≡ length coloring * length coloring
   pub is_sound : sound (table_of coloring edge_matrix) ≡ true
-  pub numbers : Below (length codes) order
-  pub pairs : Each (λ k. Two (length coloring) (pair_at codes k)) order
+  pub pairs : TwoEach (length coloring) edges
 
--- where the splines are coloured: the order of the pairs, and no pair entered
-pub record Ordered (n : ℕ) (edge_matrix codes order : List ℕ) (distances : List Float) : Type 0 where
-  pub given : ValidDistances n distances
-  pub in_order : InOrder n codes order distances
-  pub same_count : length codes ≡ length distances
+-- where n splines are coloured: pairs of them, and none entered
+pub record Ordered (n : ℕ) (edge_matrix : List ℕ) (order : List GraphEdge) : Type 0 where
+  pub few : n ≤ max_splines
+  pub pairs : TwoEach n order
   pub none : edge_matrix ≡ replicate (n * n) 0

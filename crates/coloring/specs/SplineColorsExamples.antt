@@ -6,7 +6,6 @@ use Rattle.std.specs.Float.{nan, inf, fin}
 use Rattle.math.specs.Scalar.{f0, f1}
 use Rattle.coloring.specs.Answers.{refusal, all_pass, first_refusal}
 use Rattle.coloring.specs.SplineTable.{kept, declined}
-use Rattle.coloring.specs.Lists.{all}
 use Rattle.coloring.specs.SplineTable.{offer}
 use Rattle.coloring.specs.Sequence.{Pair}
 use Rattle.coloring.specs.PairOrder.{valid_distance, pair_order}
@@ -96,7 +95,7 @@ no_pairs = (refl, refl)
 
 -- refutes one that refuses always: the square's distances pass
 pub square_passes : first_refusal (check_splines 4 square_distances) ≡ all_pass
-unfolding first_refusal all valid_distance Ieee.le Ieee.lt Ieee.of_bits
+unfolding first_refusal valid_distance Ieee.le Ieee.lt Ieee.of_bits
 square_passes = refl
 
 -- refutes one that counts the distances first: 65 splines and no distance give 4
@@ -108,7 +107,7 @@ splines-first = (refl, refl)
 pub written_where_passed :
     (color_splines_into (nan ∷ []) 3 (9 ∷ 9 ∷ []) ≡ splines_colored (refusal 9) (9 ∷ 9 ∷ []))
     × (color_splines_into (f1 ∷ []) 3 (9 ∷ 9 ∷ []) ≡ splines_colored all_pass (0 ∷ 2 ∷ []))
-unfolding color_splines_into offer all valid_distance Ieee.le Ieee.lt Ieee.eq Ieee.of_bits
+unfolding color_splines_into offer valid_distance Ieee.le Ieee.lt Ieee.eq Ieee.of_bits
 written_where_passed = (refl, refl)
 
 -- refutes one that has 8 for too many distances
@@ -118,5 +117,5 @@ distances-many = refl
 
 -- refutes one that looks at the distances before their count
 pub count-first : (first_refusal (check_splines 3 (nan ∷ [])) ≡ refusal 8) × (first_refusal (check_splines 2 (nan ∷ [])) ≡ refusal 9)
-unfolding first_refusal all valid_distance Ieee.le Ieee.lt Ieee.of_bits
+unfolding first_refusal valid_distance Ieee.le Ieee.lt Ieee.of_bits
 count-first = (refl, refl)

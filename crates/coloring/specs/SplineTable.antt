@@ -1,12 +1,14 @@
 -- One offer of a pair to a spline table, after `try_add_edge` of coloring/by_distance.rs (SCOPE, Offers), with the
 -- checks before it.
-use Rattle.std.specs.Prelude.{Bool, true, false, not, ◌&&◌, List, [], ◌∷◌, ℕ, zero, suc, ◌+◌, ◌*◌, length, get_or, set, leb, ltb, eqb}
+use Rattle.std.specs.Prelude.{Bool, true, false, not, ◌&&◌, List, [], ◌∷◌, ℕ, zero, suc, ◌+◌, ◌*◌, length, get_or, set, leb, ltb, eqb, ◌≡◌, Result, Ok, Err}
 use Rattle.coloring.specs.Recolor.{row, vertex_possible_colors, first_possible_color, Walk, recolored, stopped, recolor}
 use Rattle.coloring.specs.Answers.{Check, unless, in_order}
 use Rattle.coloring.specs.Limits.{max_splines}
 use Rattle.coloring.specs.Refusal.{refusal_number}
 use Rattle.coloring.specs.declared.spline_table.Offer.{Offer}
-use Rattle.coloring.specs.declared.spline_table.Offer.TheVariants.{Kept, Declined, Refused}
+use Rattle.coloring.specs.declared.spline_table.Offer.TheVariants.{Kept, Declined}
+use Rattle.coloring.specs.declared.spline_table.SplineTable.{SplineTable}
+use Rattle.coloring.specs.declared.refusal.Refusal.{Refusal}
 
 -- A spline table: the colour of each spline, and for n splines n × n entries by rows, not 0 where a pair is kept.
 pub record Table : Type 0 where
@@ -17,16 +19,26 @@ pub record Table : Type 0 where
 abbrev pub table_of : List ℕ → List ℕ → Table
 table_of coloring edge_matrix = record { coloring = coloring; edge_matrix = edge_matrix }
 
+abbrev pub table_in : SplineTable → Table
+table_in t = table_of t.coloring.now t.edge_matrix.now
+
+-- the buffers of two tables are the same two, whatever is in them
+abbrev pub SameTable : SplineTable → SplineTable → Type 0
+SameTable t u = (u.coloring.ghost_name ≡ t.coloring.ghost_name) × (u.edge_matrix.ghost_name ≡ t.edge_matrix.ghost_name)
+
 -- An offer's answer (SCOPE, Offers): kept or declined, with its counter, or refused, with its number.
 pub data OfferAnswer : Type 0 where
   kept : ℕ → OfferAnswer
   declined : ℕ → OfferAnswer
   refused : ℕ → OfferAnswer
 
-abbrev pub offer_answer : Offer → OfferAnswer
-offer_answer (Kept counter) = kept counter
-offer_answer (Declined counter) = declined counter
-offer_answer (Refused refusal) = refused (refusal_number refusal)
+abbrev pub rule_answer : Offer → OfferAnswer
+rule_answer (Kept counter) = kept counter
+rule_answer (Declined counter) = declined counter
+
+abbrev pub offer_answer : Result Offer Refusal → OfferAnswer
+offer_answer (Ok offer) = rule_answer offer
+offer_answer (Err refusal) = refused (refusal_number refusal)
 
 -- the answer to an offer, and the table afterwards
 pub record Offered : Type 0 where
@@ -36,6 +48,9 @@ pub record Offered : Type 0 where
 -- the answer and two buffers
 abbrev pub outcome : OfferAnswer → List ℕ → List ℕ → Offered
 outcome answer coloring edge_matrix = record { answer = answer; table = table_of coloring edge_matrix }
+
+abbrev pub offered : OfferAnswer → SplineTable → Offered
+offered answer t = record { answer = answer; table = table_in t }
 
 -- the entry of spline j in the row of spline i
 abbrev pub entry : ℕ → List ℕ → ℕ → ℕ → ℕ

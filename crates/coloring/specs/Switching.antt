@@ -1,5 +1,5 @@
 -- Colour switching, after `init_color` to `switch_color_banned` of coloring/mod.rs (SCOPE, leaf 6).
-use Rattle.std.specs.Prelude.{ℕ, zero, suc, ◌+◌, ◌-◌, ◌*◌, ◌/◌, ◌%◌, ◌^◌, Bool, ◌||◌, cond, ◌≡◌, List, [], ◌∷◌, ◌++◌, map, get_or, take, eqb}
+use Rattle.std.specs.Prelude.{ℕ, zero, suc, ◌+◌, ◌-◌, ◌*◌, ◌/◌, ◌%◌, ◌^◌, Bool, ◌||◌, cond, ◌≡◌, List, [], ◌∷◌, map, get_or, eqb}
 use Rattle.geometry.specs.EdgeColor.{bits_of, from_bits}
 use Rattle.geometry.specs.declared.edge_color.EdgeColor.{EdgeColor}
 use Rattle.geometry.specs.declared.edge_color.EdgeColor.TheVariants.{Black, Yellow, Magenta, Cyan}
@@ -63,11 +63,7 @@ switch_each (suc k) pen =
     let rest = switch_each k next in
     record { colors = next.color ∷ rest.colors; pen = rest.pen }
 
--- bytes and a pen hold the colours of splines; the bytes before place `next` hold them from place `to` on
+-- bytes and a pen hold the colours of splines
 pub record ColorsHeld (splines : SplineColors) (bytes : List ℕ) (pen : Pen) : Type 0 where
   pub colors_are : bytes ≡ map bits_of splines.colors
-  pub pen_is : pen ≡ splines.pen
-
-pub record ColorsHeldFrom (to next : ℕ) (splines : SplineColors) (bytes₀ bytes : List ℕ) (pen : Pen) : Type 0 where
-  pub colors_are : take next bytes ≡ take to bytes₀ ++ map bits_of splines.colors
   pub pen_is : pen ≡ splines.pen

@@ -1,76 +1,50 @@
 // By-distance colouring of an outline, after coloring/by_distance.rs with its distances given, and the collecting pass
 // that numbers the splines.
 ghost use Rattle.std.specs.Prelude.{◌≡◌};
-ghost use Rattle.coloring.specs.Outline.{given, at_entry, at_exit, colored_answer, outcome};
+ghost use Rattle.coloring.specs.Outline.{outline_in, result_in, colored_answer, outcome, SameBuffers};
 ghost use Rattle.coloring.specs.EdgeColoring.{collect_splines, edge_coloring_by_distance};
 
 use crate::edge_coloring::edge_coloring;
-use crate::outline::Colored;
-use crate::settings::{Division, Marking, Settings};
+use crate::outline::{Counts, OutlineBuffers, ResultBuffers};
+use crate::refusal::Refusal;
+use crate::settings::{Marking, Settings};
 
 // The split outline, each edge with the number of its spline, or 255 where it is White.
 pub fn collect_splines(
-    lengths: &[u16],
-    kinds: &[u8],
-    points: &[f64],
+    outline: OutlineBuffers,
     threshold: f64,
-    out_lengths: &mut [u16],
-    out_kinds: &mut [u8],
-    out_points: &mut [f64],
-    out_splines: &mut [u8],
-) -> Colored
-    ensures { outcome (colored_answer result) (at_exit out_lengths out_kinds out_points out_splines)
-        ≡ collect_splines (given lengths kinds points) threshold (at_entry out_lengths out_kinds out_points out_splines) }
+    out: &mut ResultBuffers,
+) -> Result<Counts, Refusal>
+    ensures same_buffers { SameBuffers out.old out.new }
+    ensures colored { outcome (colored_answer result) (result_in out.new)
+        ≡ collect_splines (outline_in outline.entry) threshold (result_in out.old) }
 {
-    let settings = Settings {
-        marking: Marking::Numbers,
-        threshold,
-        division: Division::Source,
-    };
     edge_coloring(
-        settings,
-        lengths,
-        kinds,
-        points,
-        &[0.0; 0],
-        out_lengths,
-        out_kinds,
-        out_points,
-        out_splines,
+        Settings::of_source(Marking::Numbers, threshold),
+        outline,
+        &[],
+        out,
     )
 }
 
-// By-distance colouring of an outline, with a distance for each pair of splines i < j, by i then j.
+// By-distance colouring of an outline, with a distance for each pair of splines i < j, by i then j. The distances are
+// read and `out` is written, so they stay apart.
 pub fn edge_coloring_by_distance(
-    lengths: &[u16],
-    kinds: &[u8],
-    points: &[f64],
+    outline: OutlineBuffers,
     threshold: f64,
     seed: u64,
     distances: &[f64],
-    out_lengths: &mut [u16],
-    out_kinds: &mut [u8],
-    out_points: &mut [f64],
-    out_colors: &mut [u8],
-) -> Colored
-    ensures { outcome (colored_answer result) (at_exit out_lengths out_kinds out_points out_colors)
-        ≡ edge_coloring_by_distance (given lengths kinds points) threshold seed distances.now
-        (at_entry out_lengths out_kinds out_points out_colors) }
+    out: &mut ResultBuffers,
+) -> Result<Counts, Refusal>
+    ensures same_buffers { SameBuffers out.old out.new }
+    ensures colored { outcome (colored_answer result) (result_in out.new)
+        ≡ edge_coloring_by_distance (outline_in outline.entry) threshold seed distances.now (result_in out.old) }
 {
-    let settings = Settings {
-        marking: Marking::Distances(seed),
-        threshold,
-        division: Division::Source,
-    };
+    let marking = Marking::Distances(seed);
     edge_coloring(
-        settings,
-        lengths,
-        kinds,
-        points,
+        Settings::of_source(marking, threshold),
+        outline,
         distances,
-        out_lengths,
-        out_kinds,
-        out_points,
-        out_colors,
+        out,
     )
 }

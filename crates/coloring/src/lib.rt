@@ -3,14 +3,17 @@
 #![tactic(auto)]
 
 pub mod by_distance;
+mod contour;
 mod corners;
 pub mod directions;
 pub mod edge_coloring;
+mod edge_matrix;
 mod ink_trap;
 mod layout;
 pub mod limits;
 pub mod outline;
 mod pair_order;
+mod queue;
 mod recolor;
 pub mod refusal;
 mod second_degree;

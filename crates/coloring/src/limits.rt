@@ -4,7 +4,10 @@ pub const MAX_CONTOURS: usize = 64;
 
 pub const MAX_EDGES: usize = 256;
 
-// Places of the directions of so many edges, four an edge; and of the 64 that few glyphs have more of.
+// Few glyphs have more.
+pub(crate) const FEW_EDGES: usize = 64;
+
+// Places of the directions of so many edges, four an edge, and of few.
 pub(crate) const MAX_DIRECTION_PLACES: usize = 1024;
 
 pub(crate) const FEW_DIRECTION_PLACES: usize = 256;
@@ -24,12 +27,9 @@ pub(crate) const MAX_SHAPE_SPLINES: usize = 320;
 pub const MAX_SPLINES: usize = 64;
 
 // One distance for each pair of as many splines.
-pub const MAX_DISTANCES: usize = 2016;
+pub const MAX_DISTANCES: usize = MAX_SPLINES * (MAX_SPLINES - 1) / 2;
 
 // The entries of the largest table.
-pub(crate) const MAX_ENTRIES: usize = 4096;
-
-// A pair (i, j) is the number i * 64 + j.
-pub(crate) const PAIR_BASE: u16 = 64;
+pub(crate) const MAX_ENTRIES: usize = MAX_SPLINES * MAX_SPLINES;
 
 pub(crate) const MAX_COORDINATE: f64 = 1048576.0;

@@ -3,7 +3,7 @@
 ghost use Rattle.std.specs.Prelude.{◌≡◌};
 ghost use Rattle.coloring.specs.Refusal.{refusal_number};
 
-#[derive(Clone, Copy)]
+#[derive(Clone, Copy, PartialEq, Eq, Debug)]
 pub enum Refusal {
     // 1, "torn": the file ends inside a record or before its end mark
     Truncated,
@@ -29,12 +29,12 @@ pub enum Refusal {
     ResultTooShort,
 }
 
-impl Refusal {
-    // The number of the refusal (SCOPE, Refusals).
-    pub fn number(self) -> u8
-        ensures { result ≡ refusal_number self }
-    {
-        match self {
+// The number of the refusal (SCOPE, Refusals).
+impl From<Refusal> for u8 {
+    ghost from_gives = { λ refusal number. number ≡ refusal_number refusal };
+
+    fn from(refusal: Refusal) -> u8 {
+        match refusal {
             Refusal::Truncated => 1,
             Refusal::UnknownMark => 2,
             Refusal::MisplacedMark => 3,
@@ -48,11 +48,4 @@ impl Refusal {
             Refusal::ResultTooShort => 11,
         }
     }
-}
-
-// What checks find.
-#[derive(Clone, Copy)]
-pub enum Checked {
-    Passed,
-    Failed(Refusal),
 }

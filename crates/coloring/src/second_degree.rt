@@ -1,9 +1,10 @@
 // The starting colours of by-distance colouring: `color_second_degree_graph` of coloring/by_distance.rs.
-ghost use Rattle.std.specs.Prelude.{◌≡◌, ◌*◌, ◌<◌, ◌≤◌, length};
+ghost use Rattle.std.specs.Prelude.{◌≡◌, ◌<◌, length};
 ghost use Rattle.coloring.specs.SecondDegree.{starting_color, color_second_degree_graph};
 
+use crate::edge_matrix::EdgeMatrix;
 use crate::recolor::vertex_possible_colors;
-use crate::seed::{Draw, seed_extract2, seed_extract3};
+use crate::seed::{Draw, seed_extract};
 
 // The colour of spline i by the set of its free colours, and the seed that is left.
 fn starting_color(possible: u8, i: usize, seed: u64) -> Draw
@@ -13,49 +14,38 @@ fn starting_color(possible: u8, i: usize, seed: u64) -> Draw
     match possible {
         1 => Draw { value: 0, seed },
         2 => Draw { value: 1, seed },
-        3 => seed_extract2(seed),
+        3 => seed_extract::<2>(seed),
         4 => Draw { value: 2, seed },
         5 => {
-            let draw = seed_extract2(seed);
+            let draw = seed_extract::<2>(seed);
             let value = if draw.value == 0 { 2 } else { 0 };
-            Draw {
-                value,
-                seed: draw.seed,
-            }
+            Draw { value, ..draw }
         }
         6 => {
-            let draw = seed_extract2(seed);
-            Draw {
-                value: draw.value + 1,
-                seed: draw.seed,
-            }
+            let draw = seed_extract::<2>(seed);
+            let value = draw.value + 1;
+            Draw { value, ..draw }
         }
         7 => {
-            let draw = seed_extract3(seed);
-            Draw {
-                value: (draw.value + i as u64) % 3,
-                seed: draw.seed,
-            }
+            let draw = seed_extract::<3>(seed);
+            let value = (draw.value + i as u64) % 3;
+            Draw { value, ..draw }
         }
         _ => Draw { value: 0, seed },
     }
 }
 
 // Gives each spline in turn a colour that no neighbour before it has, where there is one.
-pub(crate) fn color_second_degree_graph(coloring: &mut [u8], edge_matrix: &[u8], seed: u64)
-    requires { (length edge_matrix.now ≡ length coloring.old * length coloring.old) × (length coloring.old ≤ 64) }
-    ensures { coloring.new ≡ color_second_degree_graph (length coloring.old) edge_matrix.now seed }
+pub(crate) fn color_second_degree_graph(coloring: &mut [u8], edge_matrix: EdgeMatrix, seed: u64)
+    requires { edge_matrix.n ≡ length coloring.old }
+    ensures { coloring.new ≡ color_second_degree_graph edge_matrix.entry.n edge_matrix.entry.entries.now seed }
 {
-    let n = coloring.len();
     let mut rest = seed;
-    let mut i = 0;
-    while i < n {
-        let start = i * n;
-        let end = start + i;
-        let possible = vertex_possible_colors(&coloring[..i], &edge_matrix[start..end]);
+    for i in 0..edge_matrix.n {
+        let entries = edge_matrix.row(i);
+        let possible = vertex_possible_colors(&coloring[..i], &entries[..i]);
         let draw = starting_color(possible, i, rest);
         coloring[i] = draw.value as u8;
         rest = draw.seed;
-        i += 1;
     }
 }

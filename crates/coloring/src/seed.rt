@@ -1,6 +1,6 @@
 // Draws from a seed, after coloring/mod.rs.
 ghost use Rattle.std.specs.Prelude.{◌≡◌};
-ghost use Rattle.coloring.specs.Seed.{seed_extract2, seed_extract3};
+ghost use Rattle.coloring.specs.Seed.{seed_extract};
 
 // A draw from a seed: the number drawn, and the seed that is left.
 #[derive(Clone, Copy)]
@@ -9,22 +9,13 @@ pub struct Draw {
     pub seed: u64,
 }
 
-// The seed mod 2, and its half.
-pub fn seed_extract2(seed: u64) -> Draw
-    ensures { result ≡ seed_extract2 seed }
+// The seed mod N, and its Nth part: the source's `seed_extract2` and `seed_extract3`. Of no choices, the seed itself is
+// drawn.
+pub fn seed_extract<const N: u64>(seed: u64) -> Draw
+    ensures { result ≡ seed_extract N seed }
 {
     Draw {
-        value: seed % 2,
-        seed: seed / 2,
-    }
-}
-
-// The seed mod 3, and its third.
-pub fn seed_extract3(seed: u64) -> Draw
-    ensures { result ≡ seed_extract3 seed }
-{
-    Draw {
-        value: seed % 3,
-        seed: seed / 3,
+        value: seed.checked_rem(N).unwrap_or(seed),
+        seed: seed.checked_div(N).unwrap_or(0),
     }
 }

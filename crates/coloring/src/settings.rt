@@ -1,7 +1,10 @@
 // How the edges of an outline are marked: with what, the threshold of a corner, and how a teardrop is divided.
+ghost use Rattle.std.specs.Prelude.{◌≡◌};
+ghost use Rattle.coloring.specs.declared.settings.Division.TheVariants.{Source, Balanced};
+ghost use Rattle.coloring.specs.EdgeColoring.{settings_of};
 
 // A colouring that goes round the contours with a pen.
-#[derive(Clone, Copy)]
+#[derive(Clone, Copy, PartialEq, Eq)]
 pub enum Strategy {
     Simple,
     InkTrap,
@@ -9,7 +12,7 @@ pub enum Strategy {
 
 // The byte of each edge: its colour, by a strategy that goes round the contours with a seed; the number of its spline;
 // or its colour by the distances of the splines, with a seed.
-#[derive(Clone, Copy)]
+#[derive(Clone, Copy, PartialEq, Eq)]
 pub enum Marking {
     Colors(Strategy, u64),
     Numbers,
@@ -17,7 +20,7 @@ pub enum Marking {
 }
 
 // How the edges of a contour with one corner are divided into three runs.
-#[derive(Clone, Copy)]
+#[derive(Clone, Copy, PartialEq, Eq)]
 pub enum Division {
     // the source's rule, by which the last run can have an edge more than the first
     Source,
@@ -26,9 +29,33 @@ pub enum Division {
 }
 
 // What an entry asks for: what each edge is marked with, the threshold of a corner, and how a teardrop is divided.
-#[derive(Clone, Copy)]
+#[derive(Clone, Copy, PartialEq)]
 pub struct Settings {
     pub marking: Marking,
     pub threshold: f64,
     pub division: Division,
+}
+
+impl Settings {
+    // With the division that the source has.
+    pub fn of_source(marking: Marking, threshold: f64) -> Settings
+        ensures { result ≡ settings_of Source marking threshold }
+    {
+        Settings {
+            marking,
+            threshold,
+            division: Division::Source,
+        }
+    }
+
+    // With the balanced division in its place.
+    pub fn balanced(marking: Marking, threshold: f64) -> Settings
+        ensures { result ≡ settings_of Balanced marking threshold }
+    {
+        Settings {
+            marking,
+            threshold,
+            division: Division::Balanced,
+        }
+    }
 }

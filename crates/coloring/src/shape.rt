@@ -1,168 +1,126 @@
-// The result of a whole shape: how long it is, its edges with their flags, and a byte for each of them.
-ghost use Rattle.std.specs.Prelude.{◌≡◌, ◌&&◌, [], map, ◌*◌, ◌≤◌, leb, length};
-ghost use Rattle.coloring.specs.Limits.{max_contours, max_edges, max_result_edges};
+// The result of a whole shape: how long it is, its edges, and a byte for each of them.
+ghost use Rattle.std.specs.Prelude.{◌≡◌, ◌≤◌, [], map, length};
 ghost use Rattle.coloring.specs.Places.{total};
-ghost use Rattle.coloring.specs.Corners.{found_in, cornered};
-ghost use Rattle.coloring.specs.Layout.{layout};
-ghost use Rattle.coloring.specs.Outline.{edges_of, at_entry, at_exit, colored_answer, outcome, Cut};
-ghost use Rattle.coloring.specs.Shape.{deliver_values, deliver_found, Counted};
+ghost use Rattle.coloring.specs.Corners.{found_in};
+ghost use Rattle.coloring.specs.Layout.{layout, result_edges};
+ghost use Rattle.coloring.specs.Splines.{spline_count, paint};
+ghost use Rattle.coloring.specs.Values.{middle_value};
+ghost use Rattle.coloring.specs.Outline.{cut, result_in, over_result, colored_answer, outcome, SameBuffers, RoomFrom, WrittenFrom};
+ghost use Rattle.coloring.specs.Contours.{contour_in, contours_in};
+ghost use Rattle.coloring.specs.Shape.{painted, deliver_found, Counted};
 
-use crate::layout::{lay_out, part_edges};
-use crate::limits::{MAX_RESULT_EDGES, MAX_SHAPE_SPLINES};
-use crate::outline::{Colored, Counts};
-use crate::refusal::{Checked, Refusal};
+use crate::contour::{Contour, Contours};
+use crate::corners::first_corner;
+use crate::layout::{copy_edges, result_edges, split_edges, splits};
+use crate::limits::MAX_SHAPE_SPLINES;
+use crate::outline::{Counts, ResultBuffers};
+use crate::refusal::Refusal;
 use crate::settings::Settings;
-use crate::splines::{paint_contours, part_splines};
+use crate::splines::{paint, spline_count};
+use crate::teardrop::paint_runs;
 use crate::values::{middle_value, spline_values};
 
 // How many contours and edges the result has, and how many splines; and the stand-ins of the outline.
-fn count_shape(lengths: &[u16], flags: &[bool], stand_ins: usize) -> Counts
-    requires { (total lengths.now ≡ length flags.now) × (length flags.now ≤ max_edges) × (length lengths.now ≤ max_contours) }
-    ensures { Counted lengths.now flags.now result × (result.stand_ins ≡ stand_ins) }
+fn count_shape(contours: Contours, stand_ins: usize) -> Counts
+    ensures { Counted contours.entry.lengths.now contours.entry.all.flags.now result × (result.stand_ins ≡ stand_ins) }
 {
     let mut edges: usize = 0;
     let mut splines: usize = 0;
     let mut at: usize = 0;
-    let mut i = 0;
-    while i < lengths.len() {
-        let end = at + lengths[i] as usize;
-        edges += part_edges(flags, at, end);
-        splines += part_splines(flags, at, end);
+    for length in contours.lengths {
+        let end = at + *length as usize;
+        let flags = &contours.all.flags[at..end];
+        edges += result_edges(flags);
+        splines += spline_count(flags);
         at = end;
-        i += 1;
     }
     Counts {
-        contours: lengths.len(),
+        contours: contours.lengths.len(),
         edges,
         splines,
         stand_ins,
     }
 }
 
-// Whether buffers of these lengths have room for the result.
-fn has_room(counts: Counts, lengths: usize, kinds: usize, points: usize, colors: usize) -> bool
-    requires { counts.edges ≤ max_result_edges }
-    ensures { result ≡ (leb counts.contours lengths && leb counts.edges kinds && leb (8 * counts.edges) points && leb counts.edges colors) }
-{
-    if counts.contours > lengths {
-        return false;
-    }
-    if counts.edges > kinds {
-        return false;
-    }
-    if 8 * counts.edges > points {
-        return false;
-    }
-    counts.edges <= colors
-}
-
-// Contours with their corners, and a value for each spline: 11 where the counted result is longer than a buffer; then
-// the edges, and the byte of each from the result alone.
-fn paint_shape(
+// A contour with the values of its splines, written from place `to` on: the edges that it comes to, and the byte of
+// each. Values and result stay apart: the ones are read, the other is written.
+fn write_contour(
     settings: Settings,
-    counts: Counts,
-    lengths: &[u16],
-    kinds: &[u8],
-    points: &[f64],
-    flags: &[bool],
+    contour: Contour,
     values: &[u8],
-    out_lengths: &mut [u16],
-    out_kinds: &mut [u8],
-    out_points: &mut [f64],
-    out_colors: &mut [u8],
-) -> Colored
-    requires cut { Cut lengths.now kinds.now points.now flags.now }
-    requires counted { Counted lengths.now flags.now counts × (length values.now ≡ counts.splines) }
-    ensures { outcome (colored_answer result) (at_exit out_lengths out_kinds out_points out_colors)
-        ≡ deliver_values [] settings values.now
-        (map layout (cornered lengths.now (edges_of kinds.now points.now) flags.now))
-        counts.stand_ins
-        (at_entry out_lengths out_kinds out_points out_colors) }
+    to: usize,
+    out: &mut ResultBuffers,
+)
+    requires valued { length values.now ≡ spline_count contour.flags.now }
+    requires room { RoomFrom to (result_edges contour.flags.now) out.old }
+    ensures { let laid = layout (contour_in contour.entry) in
+        WrittenFrom to laid (paint settings.division (middle_value settings.marking) values.now laid.corners) out.old out.new }
 {
-    let room = has_room(
-        counts,
-        out_lengths.len(),
-        out_kinds.len(),
-        out_points.len(),
-        out_colors.len(),
-    );
-    if !room {
-        return Colored::Refused(Refusal::ResultTooShort);
-    }
-    let contours = counts.contours;
-    let edges = counts.edges;
-    let mut out_flags = [false; MAX_RESULT_EDGES];
-    lay_out(
-        lengths,
-        kinds,
-        points,
-        flags,
-        out_lengths,
-        out_kinds,
-        out_points,
-        &mut out_flags,
-    );
     let division = settings.division;
-    let marking = settings.marking;
-    paint_contours(
-        division,
-        &out_lengths[..contours],
-        &out_flags[..edges],
-        middle_value(marking),
-        values,
-        &mut out_colors[..edges],
-    );
-    Colored::Edges(counts)
+    let middle = middle_value(settings.marking);
+    let next = to + result_edges(contour.flags);
+    if splits(contour.flags) {
+        split_edges(contour.edges, first_corner(contour.flags), to, out);
+        // the corner is now the start of the first edge
+        let colors = &mut out.colors[to..next];
+        paint_runs(division, 0, values[0], middle, values[1], colors);
+    } else {
+        copy_edges(contour.edges, to, out);
+        let colors = &mut out.colors[to..next];
+        paint(division, contour.flags, middle, values, colors);
+    }
 }
 
-// Contours with their corners, and the stand-ins of the outline: a value for each spline, or the refusal; then the
-// result.
+// All contours, one after the other, each with its own part of the values.
+fn write_contours(settings: Settings, contours: Contours, values: &[u8], out: &mut ResultBuffers)
+    requires valued { length values.now ≡ total (map spline_count (cut contours.lengths.now contours.all.flags.now)) }
+    requires lengths_room { length contours.lengths.now ≤ length out.old.lengths.now }
+    requires room { RoomFrom 0 (total (map result_edges (cut contours.lengths.now contours.all.flags.now))) out.old }
+    ensures same_buffers { SameBuffers out.old out.new }
+    ensures written { result_in out.new ≡ over_result
+        (painted settings.division (middle_value settings.marking) values.now (map layout (contours_in contours.entry))) (result_in out.old) }
+{
+    let mut at: usize = 0;
+    let mut from: usize = 0;
+    let mut to: usize = 0;
+    for (i, length) in contours.lengths.iter().enumerate() {
+        let end = at + *length as usize;
+        let contour = contours.all.part(at, end);
+        let edges = result_edges(contour.flags);
+        let up_to = from + spline_count(contour.flags);
+        out.lengths[i] = edges as u16;
+        write_contour(settings, contour, &values[from..up_to], to, out);
+        at = end;
+        from = up_to;
+        to += edges;
+    }
+}
+
+// Contours with their corners, and the stand-ins of the outline: a value for each spline, or the refusal; 11 where the
+// counted result is longer than a buffer; then the result.
 pub(crate) fn color_shape(
     settings: Settings,
-    lengths: &[u16],
-    kinds: &[u8],
-    points: &[f64],
-    flags: &[bool],
+    contours: Contours,
     stand_ins: usize,
     distances: &[f64],
-    out_lengths: &mut [u16],
-    out_kinds: &mut [u8],
-    out_points: &mut [f64],
-    out_colors: &mut [u8],
-) -> Colored
-    requires { Cut lengths.now kinds.now points.now flags.now }
-    ensures { outcome (colored_answer result) (at_exit out_lengths out_kinds out_points out_colors)
-        ≡ deliver_found [] settings distances.now
-        (found_in (cornered lengths.now (edges_of kinds.now points.now) flags.now) stand_ins)
-        (at_entry out_lengths out_kinds out_points out_colors) }
+    out: &mut ResultBuffers,
+) -> Result<Counts, Refusal>
+    ensures same_buffers { SameBuffers out.old out.new }
+    ensures delivered { outcome (colored_answer result) (result_in out.new)
+        ≡ deliver_found [] settings distances.now (found_in (contours_in contours.entry) stand_ins) (result_in out.old) }
 {
-    let counts = count_shape(lengths, flags, stand_ins);
+    let counts = count_shape(contours, stand_ins);
     let splines = counts.splines;
-    let marking = settings.marking;
     let mut values = [0u8; MAX_SHAPE_SPLINES];
-    let checked = spline_values(
-        marking,
+    spline_values(
+        settings.marking,
         distances,
-        lengths,
-        kinds,
-        points,
-        flags,
+        contours,
         &mut values[..splines],
-    );
-    if let Checked::Failed(refusal) = checked {
-        return Colored::Refused(refusal);
+    )?;
+    if !out.have_room(counts) {
+        return Err(Refusal::ResultTooShort);
     }
-    paint_shape(
-        settings,
-        counts,
-        lengths,
-        kinds,
-        points,
-        flags,
-        &values[..splines],
-        out_lengths,
-        out_kinds,
-        out_points,
-        out_colors,
-    )
+    write_contours(settings, contours, &values[..splines], out);
+    Ok(counts)
 }

@@ -6,21 +6,17 @@ ghost use Rattle.coloring.specs.Simple.{simple_colors};
 use crate::switching::{Pen, banned_before, switch_color, switch_color_banned};
 
 // Two splines or more.
-pub(crate) fn simple_colors(pen: Pen, colors: &mut [u8]) -> Pen
+pub(crate) fn simple_colors(mut pen: Pen, colors: &mut [u8]) -> Pen
     requires { 0 < length colors.old }
     ensures { ColorsHeld (simple_colors (length colors.old - 1) pen) colors.new result }
 {
     let k = colors.len();
-    let first = switch_color(pen);
-    let initial = first.color;
-    colors[0] = initial.bits();
-    let mut pen = first;
-    let mut i = 1;
-    while i < k {
-        pen = switch_color_banned(pen, banned_before(initial, k - 1 - i));
-        let color = pen.color;
-        colors[i] = color.bits();
-        i += 1;
+    pen = switch_color(pen);
+    let initial_color = pen.color;
+    colors[0] = initial_color.bits();
+    for i in 1..k {
+        pen = switch_color_banned(pen, banned_before(initial_color, k - 1 - i));
+        colors[i] = pen.color.bits();
     }
     pen
 }

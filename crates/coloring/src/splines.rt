@@ -12,10 +12,11 @@ use crate::settings::Division;
 use crate::teardrop::paint_runs;
 
 // How many splines a contour has.
+#[tactic(auto, unfolding(crate::specs::Splines::spline_count))]
 pub(crate) fn spline_count(flags: &[bool]) -> usize
     ensures { result ≡ spline_count flags.now }
 {
-    if flags.len() == 0 {
+    if flags.is_empty() {
         return 0;
     }
     let corners = count_corners(flags);
@@ -23,14 +24,6 @@ pub(crate) fn spline_count(flags: &[bool]) -> usize
         return corners + 1;
     }
     corners
-}
-
-// How many splines the contour of the edges from `at` up to `end` has.
-pub(crate) fn part_splines(flags: &[bool], at: usize, end: usize) -> usize
-    requires { (at ≤ end) × (end ≤ length flags.now) }
-    ensures { result ≡ spline_count (take (end - at) (drop at flags.now)) }
-{
-    spline_count(&flags[at..end])
 }
 
 // Each edge takes its spline's value. What stands before the first corner belongs to the last spline.
@@ -41,25 +34,21 @@ fn spread(flags: &[bool], values: &[u8], out: &mut [u8])
 {
     let mut value = values[values.len() - 1];
     let mut next = 0;
-    let mut i = 0;
-    while i < flags.len() {
-        if flags[i] {
-            if next < values.len() {
-                value = values[next];
-                next += 1;
-            }
+    for (i, flag) in flags.iter().enumerate() {
+        if *flag && next < values.len() {
+            value = values[next];
+            next += 1;
         }
         out[i] = value;
-        i += 1;
     }
 }
 
 // The values of a contour's edges, from those of its splines.
-fn paint(division: Division, flags: &[bool], middle: u8, values: &[u8], out: &mut [u8])
+pub(crate) fn paint(division: Division, flags: &[bool], middle: u8, values: &[u8], out: &mut [u8])
     requires { Paintable flags.now values.now out.old }
     ensures { out.new ≡ paint division middle values.now flags.now }
 {
-    if flags.len() == 0 {
+    if flags.is_empty() {
         return;
     }
     if count_corners(flags) == 1 {
@@ -74,56 +63,4 @@ fn paint(division: Division, flags: &[bool], middle: u8, values: &[u8], out: &mu
         return;
     }
     spread(flags, values, out);
-}
-
-// The contour of the edges from `at` up to `end`, from the values from place `from` up to `to`.
-fn paint_part(
-    division: Division,
-    flags: &[bool],
-    at: usize,
-    end: usize,
-    middle: u8,
-    values: &[u8],
-    from: usize,
-    to: usize,
-    out: &mut [u8],
-)
-    requires part { (at ≤ end) × (end ≤ length flags.now) × (length flags.now ≤ max_result_edges) × (length out.old ≡ length flags.now) }
-    requires to_value { (to ≡ from + spline_count (take (end - at) (drop at flags.now))) × (to ≤ length values.now) }
-    ensures { take end out.new ≡ take at out.old
-        ++ paint division middle (take (to - from) (drop from values.now)) (take (end - at) (drop at flags.now)) }
-{
-    paint(
-        division,
-        &flags[at..end],
-        middle,
-        &values[from..to],
-        &mut out[at..end],
-    );
-}
-
-// The values of all edges, contour by contour, each from its own part of the splines' values.
-pub(crate) fn paint_contours(
-    division: Division,
-    lengths: &[u16],
-    flags: &[bool],
-    middle: u8,
-    values: &[u8],
-    out: &mut [u8],
-)
-    requires sizes { (total lengths.now ≡ length flags.now) × (length flags.now ≤ max_result_edges) × (length out.old ≡ length flags.now) }
-    requires values_len { length values.now ≡ total (map spline_count (cut lengths.now flags.now)) }
-    ensures { out.new ≡ flatten (paint_contours division middle values.now (cut lengths.now flags.now)) }
-{
-    let mut at: usize = 0;
-    let mut from: usize = 0;
-    let mut i: usize = 0;
-    while i < lengths.len() {
-        let end = at + lengths[i] as usize;
-        let to = from + part_splines(flags, at, end);
-        paint_part(division, flags, at, end, middle, values, from, to, out);
-        at = end;
-        from = to;
-        i += 1; // the next contour begins where this one ends
-    }
 }

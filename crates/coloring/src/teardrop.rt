@@ -4,21 +4,20 @@ ghost use Rattle.std.specs.Prelude.{◌≡◌, ◌≤◌, ◌<◌, length};
 ghost use Rattle.coloring.specs.Limits.{max_result_edges};
 ghost use Rattle.coloring.specs.Places.{by_place};
 ghost use Rattle.coloring.specs.Teardrop.{third_of, runs};
+ghost use Rattle.coloring.specs.Trichotomy.{number_of};
 
 use crate::settings::Division;
-use crate::trichotomy::third_by;
+use crate::trichotomy::{Third, third_by};
 
-// What a third gets: first, middle, last for -1, 0, 1.
-fn third_of(first: u8, middle: u8, last: u8, third: i32) -> u8
-    ensures { result ≡ third_of first middle last third }
+// What a third gets: a byte of the result's buffer, which the C interface hands over.
+fn third_of(first: u8, middle: u8, last: u8, third: Third) -> u8
+    ensures { result ≡ third_of first middle last (number_of third) }
 {
-    if third < 0 {
-        return first;
+    match third {
+        Third::First => first,
+        Third::Middle => middle,
+        Third::Last => last,
     }
-    if third == 0 {
-        return middle;
-    }
-    last
 }
 
 // The runs, from the corner on.
@@ -34,9 +33,7 @@ pub(crate) fn paint_runs(
     ensures { out.new ≡ by_place corner (runs division first middle last (length out.old)) }
 {
     let m = out.len();
-    let mut i = 0;
-    while i < m {
+    for i in 0..m {
         out[(corner + i) % m] = third_of(first, middle, last, third_by(division, i, m));
-        i += 1;
     }
 }

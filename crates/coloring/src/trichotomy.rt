@@ -2,44 +2,34 @@
 // whole numbers that SCOPE, Leaves, has for its float expression, and the balanced rule.
 ghost use Rattle.std.specs.Prelude.{◌≡◌, ◌≤◌, ◌<◌};
 ghost use Rattle.coloring.specs.Limits.{max_result_edges};
-ghost use Rattle.coloring.specs.Trichotomy.{symmetrical_trichotomy, balanced, third_by};
+ghost use Rattle.coloring.specs.Trichotomy.{number_of, third_by};
 
 use crate::settings::Division;
 
-// -1 near the start, 0 in the middle, 1 near the end of n places.
-fn symmetrical_trichotomy(position: usize, n: usize) -> i32
-    requires { (position < n) × (n ≤ max_result_edges) }
-    ensures { result ≡ symmetrical_trichotomy position n }
-{
-    if 46 * position < 15 * (n - 1) {
-        return -1;
-    }
-    if 46 * position < 31 * (n - 1) {
-        return 0;
-    }
-    1
+// One of the three runs.
+#[derive(Clone, Copy, PartialEq, Eq)]
+pub(crate) enum Third {
+    First,
+    Middle,
+    Last,
 }
 
-// The same with as many places of 1 as of -1.
-fn balanced(position: usize, n: usize) -> i32
+// First near the start, last near the end of n places.
+#[tactic(auto, unfolding(crate::specs::Trichotomy::symmetrical_trichotomy, crate::specs::Trichotomy::balanced))]
+pub(crate) fn third_by(division: Division, position: usize, n: usize) -> Third
     requires { (position < n) × (n ≤ max_result_edges) }
-    ensures { result ≡ balanced position n }
+    ensures { number_of result ≡ third_by division position n }
 {
     if 46 * position < 15 * (n - 1) {
-        return -1;
+        return Third::First;
     }
-    if 46 * position <= 31 * (n - 1) {
-        return 0;
-    }
-    1
-}
-
-pub(crate) fn third_by(division: Division, position: usize, n: usize) -> i32
-    requires { (position < n) × (n ≤ max_result_edges) }
-    ensures { result ≡ third_by division position n }
-{
-    match division {
-        Division::Source => symmetrical_trichotomy(position, n),
-        Division::Balanced => balanced(position, n),
+    let in_middle = match division {
+        Division::Source => 46 * position < 31 * (n - 1),
+        Division::Balanced => 46 * position <= 31 * (n - 1),
+    };
+    if in_middle {
+        Third::Middle
+    } else {
+        Third::Last
     }
 }

@@ -1,110 +1,64 @@
 // What the splines of a shape get, a byte each, contour after contour: colours drawn with a pen, numbers, or the
 // colours that their distances give.
-ghost use Rattle.std.specs.Prelude.{◌≡◌, map, ◌+◌, ◌≤◌, length};
+ghost use Rattle.std.specs.Prelude.{◌≡◌, map, ◌≤◌, length};
 ghost use Rattle.geometry.specs.EdgeColor.{bits_of};
-ghost use Rattle.coloring.specs.declared.refusal.Checked.TheVariants.{Passed};
 ghost use Rattle.coloring.specs.Answers.{checked_answer, first_refusal};
 ghost use Rattle.coloring.specs.Lists.{range};
 ghost use Rattle.coloring.specs.Limits.{max_splines};
 ghost use Rattle.coloring.specs.Places.{total};
-ghost use Rattle.coloring.specs.Switching.{init_color, ColorsHeld, ColorsHeldFrom};
-ghost use Rattle.coloring.specs.Corners.{cornered};
+ghost use Rattle.coloring.specs.Switching.{init_color, ColorsHeld};
 ghost use Rattle.coloring.specs.Splines.{spline_count};
 ghost use Rattle.coloring.specs.Values.{spline_colors, shape_colors, spline_color, spline_values, middle_value, check_marking};
-ghost use Rattle.coloring.specs.Outline.{edges_of, cut, whole, Matching, Cut, Part, part};
+ghost use Rattle.coloring.specs.Outline.{cut};
+ghost use Rattle.coloring.specs.Contours.{contour_in, contours_in};
 
+use crate::contour::{Contour, Contours};
 use crate::corners::count_corners;
 use crate::ink_trap::ink_trap_colors;
 use crate::limits::MAX_SPLINES;
-use crate::refusal::{Checked, Refusal};
+use crate::refusal::Refusal;
 use crate::settings::{Marking, Strategy};
 use crate::simple::simple_colors;
 use crate::spline_colors::color_splines;
-use crate::splines::part_splines;
+use crate::splines::spline_count;
 use crate::switching::{Pen, init_color, switch_each};
 use geometry::edge_color::EdgeColor;
+
+// In the place of a spline's number: the edge is White.
+const NO_SPLINE: u8 = 255;
 
 // ---- colours
 
 // The colours of a contour's splines, and the pen after them.
-fn spline_colors(
-    strategy: Strategy,
-    kinds: &[u8],
-    points: &[f64],
-    flags: &[bool],
-    pen: Pen,
-    colors: &mut [u8],
-) -> Pen
-    requires { Matching kinds.now points.now flags.now × (length colors.old ≡ spline_count flags.now) }
-    ensures { ColorsHeld (spline_colors strategy pen (whole kinds.now points.now flags.now)) colors.new result }
+fn spline_colors(strategy: Strategy, contour: Contour, pen: Pen, colors: &mut [u8]) -> Pen
+    requires { length colors.old ≡ spline_count contour.flags.now }
+    ensures { ColorsHeld (spline_colors strategy pen (contour_in contour.entry)) colors.new result }
 {
-    if count_corners(flags) < 2 {
+    if count_corners(contour.flags) < 2 {
         return switch_each(pen, colors);
     }
+    // no closure: the strategy is one of the settings, plain data that specs/ reads too
     match strategy {
         Strategy::Simple => simple_colors(pen, colors),
-        Strategy::InkTrap => ink_trap_colors(kinds, points, flags, pen, colors),
+        Strategy::InkTrap => ink_trap_colors(contour, pen, colors),
     }
-}
-
-// The contour of the edges from `at` up to `end`, its colours into the places from `to` up to `next`.
-fn part_colors(
-    strategy: Strategy,
-    kinds: &[u8],
-    points: &[f64],
-    flags: &[bool],
-    at: usize,
-    end: usize,
-    pen: Pen,
-    to: usize,
-    next: usize,
-    colors: &mut [u8],
-) -> Pen
-    requires part { Part kinds.now points.now flags.now at end }
-    requires next_value { (next ≡ to + spline_count (part kinds.now points.now flags.now at end).corners) × (next ≤ length colors.old) }
-    ensures { ColorsHeldFrom to next (spline_colors strategy pen (part kinds.now points.now flags.now at end))
-        colors.old colors.new result }
-{
-    let from = 8 * at;
-    let up_to = 8 * end;
-    spline_colors(
-        strategy,
-        &kinds[at..end],
-        &points[from..up_to],
-        &flags[at..end],
-        pen,
-        &mut colors[to..next],
-    )
 }
 
 // All contours, one after the other, each with the pen that the one before left.
-fn shape_colors(
-    strategy: Strategy,
-    lengths: &[u16],
-    kinds: &[u8],
-    points: &[f64],
-    flags: &[bool],
-    seed: u64,
-    colors: &mut [u8],
-)
-    requires cut { Cut lengths.now kinds.now points.now flags.now }
-    requires colors_len { length colors.old ≡ total (map spline_count (cut lengths.now flags.now)) }
-    ensures { colors.new ≡ map bits_of (shape_colors strategy (init_color seed)
-        (cornered lengths.now (edges_of kinds.now points.now) flags.now)) }
+fn shape_colors(strategy: Strategy, contours: Contours, seed: u64, colors: &mut [u8])
+    requires { length colors.old ≡ total (map spline_count (cut contours.lengths.now contours.all.flags.now)) }
+    ensures { colors.new ≡ map bits_of (shape_colors strategy (init_color seed) (contours_in contours.entry)) }
 {
     let mut pen = init_color(seed);
     let mut at: usize = 0;
     let mut to: usize = 0;
-    let mut i: usize = 0;
-    while i < lengths.len() {
-        let end = at + lengths[i] as usize;
-        let next = to + part_splines(flags, at, end);
-        pen = part_colors(
-            strategy, kinds, points, flags, at, end, pen, to, next, colors,
-        );
+    for length in contours.lengths {
+        let end = at + *length as usize;
+        let contour = contours.all.part(at, end);
+        let next = to + spline_count(contour.flags);
+        pen = spline_colors(strategy, contour, pen, &mut colors[to..next]);
         at = end;
         to = next;
-        i += 1;
     }
 }
 
@@ -115,16 +69,14 @@ fn count_up(numbers: &mut [u8])
     requires { length numbers.old ≤ max_splines }
     ensures { numbers.new ≡ range 0 (length numbers.old) }
 {
-    let mut i = 0;
-    while i < numbers.len() {
-        numbers[i] = i as u8;
-        i += 1;
+    for (i, number) in numbers.iter_mut().enumerate() {
+        *number = i as u8;
     }
 }
 
 // ---- colours by distance
 
-// The colour of a spline by its number.
+// The colour of a spline by its number, as the colours of a spline table stand in bytes of the C interface.
 fn spline_color(color: u8) -> EdgeColor
     ensures { result ≡ spline_color color }
 {
@@ -139,11 +91,8 @@ fn spline_color(color: u8) -> EdgeColor
 fn color_numbers(colors: &mut [u8])
     ensures { colors.new ≡ map (λ color. bits_of (spline_color color)) colors.old }
 {
-    let mut i = 0;
-    while i < colors.len() {
-        let color = spline_color(colors[i]);
-        colors[i] = color.bits();
-        i += 1;
+    for color in colors.iter_mut() {
+        *color = spline_color(*color).bits();
     }
 }
 
@@ -154,9 +103,8 @@ pub(crate) fn middle_value(marking: Marking) -> u8
     ensures { result ≡ middle_value marking }
 {
     match marking {
-        Marking::Colors(_, _) => 7,
-        Marking::Numbers => 255,
-        Marking::Distances(_) => 7,
+        Marking::Colors(_, _) | Marking::Distances(_) => EdgeColor::White.bits(),
+        Marking::Numbers => NO_SPLINE,
     }
 }
 
@@ -164,34 +112,29 @@ pub(crate) fn middle_value(marking: Marking) -> u8
 pub(crate) fn spline_values(
     marking: Marking,
     distances: &[f64],
-    lengths: &[u16],
-    kinds: &[u8],
-    points: &[f64],
-    flags: &[bool],
+    contours: Contours,
     values: &mut [u8],
-) -> Checked
-    requires cut { Cut lengths.now kinds.now points.now flags.now }
-    requires values_len { length values.old ≡ total (map spline_count (cut lengths.now flags.now)) }
+) -> Result<(), Refusal>
+    requires { length values.old ≡ total (map spline_count (cut contours.lengths.now contours.all.flags.now)) }
     ensures answer { checked_answer result ≡ first_refusal (check_marking marking (length values.old) distances.now) }
-    ensures bytes { result ≡ Passed → values.new ≡ spline_values marking distances.now
-        (cornered lengths.now (edges_of kinds.now points.now) flags.now) }
+    ensures bytes { result ≡ Ok tt → values.new ≡ spline_values marking distances.now (contours_in contours.entry) }
 {
     match marking {
         Marking::Colors(strategy, seed) => {
-            shape_colors(strategy, lengths, kinds, points, flags, seed, values);
-            Checked::Passed
+            shape_colors(strategy, contours, seed, values);
+            Ok(())
         }
         Marking::Numbers => {
             if values.len() > MAX_SPLINES {
-                return Checked::Failed(Refusal::TooMany);
+                return Err(Refusal::TooMany);
             }
             count_up(values);
-            Checked::Passed
+            Ok(())
         }
         Marking::Distances(seed) => {
-            let checked = color_splines(distances, seed, values);
+            color_splines(distances, seed, values)?;
             color_numbers(values);
-            checked
+            Ok(())
         }
     }
 }

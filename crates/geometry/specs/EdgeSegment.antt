@@ -1,5 +1,5 @@
 -- What the functions of geometry/edge_segment.rs give, case by case, in the source's order of roundings.
-use Rattle.std.specs.Prelude.{ℕ, zero, suc, ◌+◌, ◌*◌, ◌≡◌, refl, Bool, false, cond, ◌&&◌, List, [], ◌∷◌, get_or, pos, Float}
+use Rattle.std.specs.Prelude.{ℕ, zero, suc, ◌+◌, ◌*◌, ◌≡◌, refl, Bool, false, cond, ◌&&◌, List, [], ◌∷◌, get_or, pos, Float, Option, Some, None}
 use Rattle.std.proofs.Common.{arith}
 use Rattle.std.specs.Float.Ieee as Ieee
 use Rattle.std.specs.Float.{nan, fin, binary64}
@@ -12,8 +12,6 @@ use Rattle.geometry.specs.declared.edge_segment.EdgeSegment.TheVariants.{Line, Q
 use Rattle.geometry.specs.declared.edge_segment.Directions.{Directions}
 use Rattle.geometry.specs.declared.edge_segment.Thirds.{Thirds}
 use Rattle.geometry.specs.declared.edge_segment.Stored.{Stored}
-use Rattle.geometry.specs.declared.edge_segment.Decoded.{Decoded}
-use Rattle.geometry.specs.declared.edge_segment.Decoded.TheVariants.{Edge, UnknownKind}
 
 -- a * (1 - t) + b * t
 unfoldable pub vmix : Vector2 → Vector2 → Float → Vector2
@@ -159,23 +157,21 @@ split_quadratic p0 p1 p2 =
       third = Quadratic b (vmix p1 p2 two_thirds) p2;
     }
 
-unfoldable pub start_control : Vector2 → Vector2 → Vector2
-start_control p0 p1 = cond (eq p0 p1) p0 (vmix p0 p1 third)
-
-unfoldable pub end_control : Vector2 → Vector2 → Vector2
-end_control p2 p3 = cond (eq p2 p3) p3 (vmix p2 p3 two_thirds)
+-- the control point between p and q at t or, where they are equal, the end of the edge, which is one of the two
+unfoldable pub control_between : Vector2 → Vector2 → Float → Vector2 → Vector2
+control_between p q t end = cond (eq p q) end (vmix p q t)
 
 unfoldable pub split_cubic : Vector2 → Vector2 → Vector2 → Vector2 → Thirds
 split_cubic p0 p1 p2 p3 =
     let a = cubic_point p0 p1 p2 p3 third in
     let b = cubic_point p0 p1 p2 p3 two_thirds in
     record {
-      first = Cubic p0 (start_control p0 p1) (quadratic_point p0 p1 p2 third) a;
+      first = Cubic p0 (control_between p0 p1 third p0) (quadratic_point p0 p1 p2 third) a;
       second = Cubic a
           (vmix (quadratic_point p0 p1 p2 third) (quadratic_point p1 p2 p3 third) two_thirds)
           (vmix (quadratic_point p0 p1 p2 two_thirds) (quadratic_point p1 p2 p3 two_thirds) third)
           b;
-      third = Cubic b (quadratic_point p1 p2 p3 two_thirds) (end_control p2 p3) p3;
+      third = Cubic b (quadratic_point p1 p2 p3 two_thirds) (control_between p2 p3 two_thirds p3) p3;
     }
 
 unfoldable pub split_in_thirds : EdgeSegment → Thirds
@@ -200,9 +196,9 @@ pub data DecodedAnswer : Type 0 where
   edge : EdgeSegment → DecodedAnswer
   refused : ℕ → DecodedAnswer
 
-abbrev pub decoded_answer : Decoded → DecodedAnswer
-decoded_answer (Edge e) = edge e
-decoded_answer UnknownKind = refused 5
+abbrev pub decoded_answer : Option EdgeSegment → DecodedAnswer
+decoded_answer (Some e) = edge e
+decoded_answer None = refused 5
 
 -- the edge of a kind and its places, those beyond its control points ignored; an unknown kind is 5
 unfoldable pub from_stored : ℕ → List Float → DecodedAnswer

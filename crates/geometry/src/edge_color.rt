@@ -2,7 +2,7 @@
 ghost use Rattle.std.specs.Prelude.{◌≡◌};
 ghost use Rattle.geometry.specs.EdgeColor.{bits_of, from_bits, has_red, has_green, has_blue, has_channel};
 
-#[derive(Clone, Copy)]
+#[derive(Clone, Copy, Default, PartialEq, Eq)]
 pub enum EdgeColor {
     Black,
     Red,
@@ -11,6 +11,7 @@ pub enum EdgeColor {
     Blue,
     Magenta,
     Cyan,
+    #[default]
     White,
 }
 
@@ -18,16 +19,7 @@ impl EdgeColor {
     pub fn bits(self) -> u8
         ensures { result ≡ bits_of self }
     {
-        match self {
-            EdgeColor::Black => 0,
-            EdgeColor::Red => 1,
-            EdgeColor::Green => 2,
-            EdgeColor::Yellow => 3,
-            EdgeColor::Blue => 4,
-            EdgeColor::Magenta => 5,
-            EdgeColor::Cyan => 6,
-            EdgeColor::White => 7,
-        }
+        self as u8
     }
 
     // The colour of the three low bits of b.
@@ -74,11 +66,5 @@ impl EdgeColor {
             2 => self.has_blue(),
             _ => false,
         }
-    }
-
-    pub fn default() -> EdgeColor
-        ensures { result ≡ EdgeColor.White }
-    {
-        EdgeColor::White
     }
 }

@@ -4,8 +4,7 @@ use mathlib.Core.Bool.{true}
 use mathlib.Core.List.{List, [], map, flatten}
 use Prim.Native.Nat.{ℕ, ◌≤◌, ◌<◌}
 use native.Mathlib.Omega.{arith}
-use lib.ListN.{length, take, drop, length-append, length-map}
-use lib.Seq.{take_at}
+use lib.ListN.{length, take, length-map}
 use borrow.Author.Tests.{le-leb}
 use Rattle.geometry.specs.declared.edge_segment.EdgeSegment.{EdgeSegment}
 use Rattle.coloring.specs.Lists.{over}
@@ -22,6 +21,8 @@ use Rattle.job.specs.Job.{Job, Reading, read_job}
 use Rattle.job.specs.Color.{corners_in, job_counts, check_job, colored_edges, edge_colors, colored, color_job}
 use Rattle.job.specs.Color.{color_reading, color_file, check_reading, check_file, HoldsResults}
 use Rattle.job.specs.Listing.{listing, refusal_line, job_text, reading_text, file_text, list_file}
+pub use Rattle.job.proofs.buffers.BufferLaws.{take-over}
+use Rattle.job.proofs.buffers.BufferLaws.{within-over}
 use Rattle.job.proofs.listing.ListingLaws.{listing-few, refusal-few}
 use Rattle.job.proofs.color.ColorLaws.{map-flatten, numbered}
 use Rattle.job.proofs.color.ShapeLaws.{ShapeOf, shape_of}
@@ -57,14 +58,6 @@ pub record Front (file : List ℕ) (contours edges stand_ins : ℕ) (new : Resul
       × (total (take contours new.lengths) ≡ length (take edges new.kinds)) × (length (take edges new.colors) ≡ length (take edges new.kinds))
   pub text : file_text file
       ≡ listing (cut (take contours new.lengths) (take edges new.kinds)) (cut (take contours new.lengths) (take edges new.colors)) stand_ins
-
-pub take-over : {A : Type 0} {n : ℕ} {new : List A} (xs ys : List A) → new ≡ over xs ys → n ≡ length xs → take n new ≡ xs
-unfolding over
-take-over {n = n} xs ys e h = rw e (take_at xs _ n (sym h))
-
-within-over : {A : Type 0} {n : ℕ} {new : List A} (xs ys : List A) → new ≡ over xs ys → n ≡ length xs → n ≤ length new
-unfolding over
-within-over xs ys e h = rw e (omega (arith, h, length-append xs (drop (length xs) ys)))
 
 -- what is stored of a shape is cut into its contours again
 stored_listing : (edges : List (List EdgeSegment)) (colors : List (List ℕ)) (stand_ins : ℕ) → sizes colors ≡ sizes edges

@@ -18,8 +18,7 @@ use Rattle.job.specs.Limits.{max_file, deciding_bytes}
 use Rattle.job.specs.declared.records.Kind.{Kind}
 use Rattle.job.specs.declared.records.Mark.{Mark}
 use Rattle.job.specs.declared.records.Mark.TheVariants.{Header, Balanced, Contour, Edge, Distances, End}
-use Rattle.job.specs.declared.records.Marked.{Marked}
-use Rattle.job.specs.declared.records.Marked.TheVariants.{Known, Unknown}
+use Rattle.std.specs.Prelude.{Option, Some, None}
 use Rattle.job.specs.declared.records.State.{State}
 use Rattle.job.specs.declared.progress.Progress.{Progress}
 use Rattle.job.specs.Patterns.{number, words, floats, is_threshold, is_coordinate, is_distance}
@@ -97,7 +96,7 @@ module _ (more : List ℕ) where
   known_more : (s : State) (mark : Mark) (bytes : List ℕ) → (Allowed s mark → body_size mark ≤ length bytes)
       → (Allowed s mark → read_body mark (take (body_size mark) bytes) (drop (body_size mark) bytes ++ more) ≡ extend more
       (read_body mark (take (body_size mark) bytes) (drop (body_size mark) bytes)))
-      → read_marked s (Known mark) (bytes ++ more) ≡ extend more (read_marked s (Known mark) bytes)
+      → read_marked s (Some mark) (bytes ++ more) ≡ extend more (read_marked s (Some mark) bytes)
   unfolding read_marked
   known_more s mark bytes size body =
       let n = body_size mark in
@@ -111,26 +110,26 @@ module _ (more : List ℕ) where
       let two : leb n (length (bytes ++ more)) ≡ true = le-leb n (length (bytes ++ more)) (omega (arith, length-append bytes more)) in
       rw (one, two, take-append-le n bytes more whole, drop-append-le n bytes more whole) (body may)))
 
-  marked_more : (s : State) (m : Marked) (bytes : List ℕ) → 1 ≤ length bytes → (closing s.phase ≡ false → 16132 ≤ length bytes)
+  marked_more : (s : State) (m : Option Mark) (bytes : List ℕ) → 1 ≤ length bytes → (closing s.phase ≡ false → 16132 ≤ length bytes)
       → read_marked s m (bytes ++ more) ≡ extend more (read_marked s m bytes)
-  marked_more s Unknown bytes some many = unfold read_marked in refl
-  marked_more s (Known Header) bytes some many =
+  marked_more s None bytes some many = unfold read_marked in refl
+  marked_more s (Some Header) bytes some many =
       unfold read_body in
       known_more s Header bytes (λ may. omega (arith, many (at-start s.phase may))) (λ may. header-more (take 17 bytes) (drop 17 bytes))
-  marked_more s (Known Balanced) bytes some many = unfold read_body in known_more s Balanced bytes (λ may. omega arith) (λ may. refl)
-  marked_more s (Known Contour) bytes some many = unfold read_body in known_more s Contour bytes (λ may. omega arith) (λ may. refl)
-  marked_more s (Known (Edge kind)) bytes some many =
+  marked_more s (Some Balanced) bytes some many = unfold read_body in known_more s Balanced bytes (λ may. omega arith) (λ may. refl)
+  marked_more s (Some Contour) bytes some many = unfold read_body in known_more s Contour bytes (λ may. omega arith) (λ may. refl)
+  marked_more s (Some (Edge kind)) bytes some many =
       unfold read_body in
       known_more s (Edge kind) bytes (λ may. omega (arith, many (in_contour s.phase may), controls-few kind))
       (λ may. edge_more kind (take (16 * controls kind) bytes) (drop (16 * controls kind) bytes))
-  marked_more s (Known Distances) bytes some many =
+  marked_more s (Some Distances) bytes some many =
       unfold read_body in
       known_more s Distances bytes (λ may. omega (arith, many (due may)))
       (λ may. distances-more (take 2 bytes) (drop 2 bytes) (rw length-drop (omega (arith, many (due may)))))
     where
       due : Allowed s Distances → closing s.phase ≡ false
       due may = among-contours s.phase (and_left (among s.phase) (by_distance s.numbers.header.strategy) may)
-  marked_more s (Known End) bytes some many = unfold read_body in known_more s End bytes (λ may. omega arith) (λ may. end_more bytes some)
+  marked_more s (Some End) bytes some many = unfold read_body in known_more s End bytes (λ may. omega arith) (λ may. end_more bytes some)
 
   record_more : (s : State) (bytes : List ℕ) → 3 ≤ length bytes → (closing s.phase ≡ false → 16134 ≤ length bytes)
       → read_record s (bytes ++ more) ≡ extend more (read_record s bytes)

@@ -4,14 +4,14 @@ use mathlib.Core.List.{List, map, ◌++◌, flatten}
 use Rattle.geometry.specs.declared.edge_segment.EdgeSegment.{EdgeSegment}
 use Rattle.geometry.specs.EdgeSegment.{to_stored}
 use Rattle.coloring.specs.Lists.{over}
-use Rattle.coloring.specs.Outline.{kind_stored, places_stored}
+use Rattle.coloring.specs.Outline.{Outline, kind_stored, places_stored}
 use Rattle.job.specs.declared.records.Kind.{Kind}
-use Rattle.job.specs.declared.records.Kind.TheVariants.{Line, Quadratic, Cubic}
 use Rattle.job.specs.declared.records.Mark.TheVariants as mark
 use Rattle.job.specs.declared.records.Item.{Item}
 use Rattle.job.specs.declared.records.Item.TheVariants.{Header, Balanced, Contour, Edge, Distances}
 use Rattle.job.specs.Patterns.{words, floats}
-use Rattle.job.specs.Records.{controls, body_size, edge_of}
+use Rattle.job.specs.declared.buffers.JobBuffers.{JobBuffers}
+use Rattle.job.specs.Records.{kind_number, controls, body_size, edge_of}
 use Rattle.job.specs.declared.progress.Numbers.{Numbers}
 use Rattle.job.specs.Job.{Job}
 
@@ -59,17 +59,27 @@ has_room n old = room_for n (length old.lengths) (length old.kinds) (length old.
 abbrev pub buffers : List ℕ → List ℕ → List Float → List Float → Buffers
 buffers lengths kinds points distances = record { lengths = lengths; kinds = kinds; points = points; distances = distances }
 
--- four buffers are these
-pub record Hold (b : Buffers) (lengths kinds : List ℕ) (points distances : List Float) : Type 0 where
-  pub lengths_are : lengths ≡ b.lengths
-  pub kinds_are : kinds ≡ b.kinds
-  pub points_are : points ≡ b.points
-  pub distances_are : distances ≡ b.distances
+-- what the buffers of a job hold
+abbrev pub buffers_in : JobBuffers → Buffers
+buffers_in b = buffers b.lengths.now b.kinds.now b.points.now b.distances.now
 
-abbrev pub kind_number : Kind → ℕ
-kind_number Line = 1
-kind_number Quadratic = 2
-kind_number Cubic = 3
+-- the parts of buffers that a job with these numbers takes, and the outline in buffers
+abbrev pub part_of : Numbers → Buffers → Buffers
+part_of n b = buffers (take n.contours b.lengths) (take n.edges b.kinds) (take (8 * n.edges) b.points) (take n.distances b.distances)
+
+abbrev pub outline_of : Buffers → Outline
+outline_of b = record { lengths = b.lengths; kinds = b.kinds; points = b.points }
+
+-- the four references lead where they led, to as many places
+pub record SameJobBuffers (old new : JobBuffers) : Type 0 where
+  pub lengths_same : new.lengths.ghost_name ≡ old.lengths.ghost_name
+  pub kinds_same : new.kinds.ghost_name ≡ old.kinds.ghost_name
+  pub points_same : new.points.ghost_name ≡ old.points.ghost_name
+  pub distances_same : new.distances.ghost_name ≡ old.distances.ghost_name
+  pub lengths_long : length new.lengths.now ≡ length old.lengths.now
+  pub kinds_long : length new.kinds.now ≡ length old.kinds.now
+  pub points_long : length new.points.now ≡ length old.points.now
+  pub distances_long : length new.distances.now ≡ length old.distances.now
 
 -- the eight places of an edge of a kind, from its bytes
 unfoldable pub points_read : Kind → List ℕ → List Float
@@ -80,19 +90,13 @@ unfoldable pub written : Item → Numbers → List ℕ → Buffers → Buffers
 unfolding points_read
 written (Header h) n bytes b = b
 written Balanced n bytes b = b
-written Contour n bytes b = record { lengths = set b.lengths n.contours 0; kinds = b.kinds; points = b.points; distances = b.distances }
-written (Edge kind) n bytes b = record {
+written Contour n bytes b = record b { lengths = set b.lengths n.contours 0 }
+written (Edge kind) n bytes b = record b {
   lengths = set b.lengths (n.contours - 1) (get_or b.lengths (n.contours - 1) 0 + 1);
   kinds = set b.kinds n.edges (kind_number kind);
   points = take (8 * n.edges) b.points ++ (points_read kind (take (body_size (mark.Edge kind)) (drop 2 bytes)) ++ drop 8 (drop (8 * n.edges) b.points));
-  distances = b.distances;
 }
-written (Distances count) n bytes b = record {
-  lengths = b.lengths;
-  kinds = b.kinds;
-  points = b.points;
-  distances = over (floats (words count (drop 4 bytes))) b.distances;
-}
+written (Distances count) n bytes b = record b { distances = over (floats (words count (drop 4 bytes))) b.distances }
 
 -- there is room for a record
 abbrev pub RecordFits : Item → Numbers → List ℕ → Buffers → Type 0

@@ -1,5 +1,5 @@
 -- What colouring a job gives, and reading and colouring a file in one (SCOPE, Refusals: a file read to its end).
-use Rattle.std.specs.Prelude.{ℕ, ◌-◌, ◌*◌, ◌/◌, ◌≤◌, ◌≡◌, Bool, List, [], ◌∷◌, map, leb, eqb, length}
+use Rattle.std.specs.Prelude.{ℕ, ◌-◌, ◌*◌, ◌/◌, ◌≤◌, Bool, List, [], ◌∷◌, map, leb, eqb, length}
 use Rattle.geometry.specs.declared.edge_segment.EdgeSegment.{EdgeSegment}
 use Rattle.coloring.specs.Limits.{max_contours, max_edges, max_result_edges, max_splines, max_distances}
 use Rattle.coloring.specs.declared.outline.Counts.{Counts}
@@ -11,7 +11,7 @@ use Rattle.coloring.specs.Corners.{Cornered, Found, find_corners, edges_in, flag
 use Rattle.coloring.specs.Layout.{layout}
 use Rattle.coloring.specs.Splines.{spline_total, paint_contours}
 use Rattle.coloring.specs.Values.{spline_values, middle_value, check_marking}
-use Rattle.coloring.specs.Outline.{Outline, Result, Outcome, outcome, encode, deliver}
+use Rattle.coloring.specs.Outline.{Result, Outcome, outcome, encode, deliver}
 use Rattle.coloring.specs.Shape.{counts_of}
 use Rattle.coloring.specs.EdgeColoring.{settings_of}
 use Rattle.coloring.specs.Answers.{Answer, gives, refusal, succeeds, Check, unless, in_order}
@@ -19,7 +19,6 @@ use Rattle.job.specs.declared.progress.Numbers as Numbers
 use Rattle.job.specs.declared.records.Strategy.{Strategy}
 use Rattle.job.specs.declared.records.Strategy.TheVariants as strategy
 use Rattle.job.specs.Job.{threshold_of, Job, Reading, read_job}
-use Rattle.job.specs.Progress.{answer_of}
 use Rattle.job.specs.Buffers.{Buffers}
 use Rattle.job.specs.Limits.{max_places, max_result_places}
 
@@ -111,9 +110,6 @@ accepted file = succeeds (accept_job file)
 
 -- ---- in the words of contracts
 
-abbrev pub outline_of : Buffers → Outline
-outline_of b = record { lengths = b.lengths; kinds = b.kinds; points = b.points }
-
 -- what a job with these numbers asks of the colouring of its outline
 abbrev pub job_settings : Numbers.Numbers → Settings
 job_settings n = settings_of n.division (marking_by n.header.strategy n.header.seed) (threshold_of n.header)
@@ -125,11 +121,6 @@ paired (gives counts) distances =
     let splines = counts.splines in
     in_order (unless 4 (leb splines max_splines) ∷ unless 8 (eqb distances (splines * (splines - 1) / 2)) ∷ []) refusal (gives counts)
 paired (refusal number) distances = refusal number
-
--- a file was read, with these numbers, and its strategy asks for distances
-pub record AsksDistances (reading : Reading) (n : Numbers.Numbers) : Type 0 where
-  pub numbers_are : gives n ≡ answer_of reading
-  pub asks : n.header.strategy ≡ strategy.ByDistance
 
 -- four buffers that hold every job
 pub record HoldsJobs (b : Buffers) : Type 0 where

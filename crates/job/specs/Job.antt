@@ -36,11 +36,11 @@ with_edge (c ∷ d ∷ contours) e = c ∷ with_edge (d ∷ contours) e
 -- a job with a record more
 unfoldable pub with_record : Job → Record → Job
 unfolding with_edge
-with_record job (header h) = record { header = h; division = job.division; contours = job.contours; distances = job.distances }
-with_record job balanced = record { header = job.header; division = Balanced; contours = job.contours; distances = job.distances }
-with_record job contour = record { header = job.header; division = job.division; contours = job.contours ++ ([] ∷ []); distances = job.distances }
-with_record job (edge e) = record { header = job.header; division = job.division; contours = with_edge job.contours e; distances = job.distances }
-with_record job (distances ds) = record { header = job.header; division = job.division; contours = job.contours; distances = ds }
+with_record job (header h) = record job { header = h }
+with_record job balanced = record job { division = Balanced }
+with_record job contour = record job { contours = job.contours ++ ([] ∷ []) }
+with_record job (edge e) = record job { contours = with_edge job.contours e }
+with_record job (distances ds) = record job { distances = ds }
 
 -- what reading a file gives: its job, or the number of its first refusal
 abbrev pub Reading : Type 0

@@ -1,15 +1,15 @@
 -- The text of an answer (docs/FORMAT.md): a line for each edge of the result, then `edges` and their count, last
 -- `standins` and how many stand-ins the outline has; or one line with the refusal's number.
-use Rattle.std.specs.Prelude.{ℕ, zero, suc, ◌+◌, ◌/◌, ◌%◌, ◌≤◌, ◌≡◌, true, false, length, ltb}
+use Rattle.std.specs.Prelude.{ℕ, zero, suc, ◌+◌, ◌/◌, ◌%◌, ◌≤◌, ◌≡◌, true, false, length, ltb, Result, Ok, Err}
 use mathlib.Core.List.{List, [], ◌∷◌, ◌++◌, map, flatten}
 use Rattle.coloring.specs.Refusal.{refusal_number}
+use Rattle.coloring.specs.declared.refusal.Refusal.{Refusal}
 use Rattle.coloring.specs.Lists.{over, over_from}
 use Rattle.coloring.specs.Corners.{find_corners}
 use Rattle.coloring.specs.Outline.{kind_stored}
 use Rattle.coloring.specs.Answers.{Answer, gives, refusal, in_order}
 use Rattle.coloring.specs.Fill.{FillOutcome, fill}
-use Rattle.job.specs.declared.listing.Listed.{Listed}
-use Rattle.job.specs.declared.listing.Listed.TheVariants.{Bytes, Refused}
+use Rattle.job.specs.declared.listing.Writer.{Writer}
 use Rattle.job.specs.Job.{Job, Reading, read_job}
 use Rattle.job.specs.Color.{corners_in, check_job, colored_edges, edge_colors}
 
@@ -112,18 +112,22 @@ list_file file old =
 -- ---- in the words of contracts
 
 -- how many bytes, or the number of a refusal
-abbrev pub listed_answer : Listed → Answer ℕ
-listed_answer (Bytes n) = gives n
-listed_answer (Refused r) = refusal (refusal_number r)
+abbrev pub listed_answer : Result ℕ Refusal → Answer ℕ
+listed_answer (Ok n) = gives n
+listed_answer (Err r) = refusal (refusal_number r)
 
 -- a number and the byte after it
 abbrev pub field : ℕ → ℕ → List ℕ
 field n byte = decimal n ++ (byte ∷ [])
 
--- a text written at a place, and the place after it
-pub record Pasted (text : List ℕ) (at : ℕ) (old : List ℕ) (next : ℕ) (new : List ℕ) : Type 0 where
-  pub place : next ≡ at + length text
-  pub holds : new ≡ over_from at text old
+-- a writer has room for a text, and writes it
+pub record HasRoom (w : Writer) (text : List ℕ) : Type 0 where
+  pub fits : w.at + length text ≤ length w.out.now
+
+pub record Writes (old : Writer) (text : List ℕ) (new : Writer) : Type 0 where
+  pub place : new.at ≡ old.at + length text
+  pub holds : new.out.now ≡ over_from old.at text old.out.now
+  pub same : new.out.ghost_name ≡ old.out.ghost_name
 
 -- a text over what stood there, and its length
 pub record Printed (text old : List ℕ) (n : ℕ) (new : List ℕ) : Type 0 where

@@ -46,10 +46,7 @@ sought (Passing left) at Balanced = Passing left
 sought (Passing left) at (Edge kind) = Passing left
 sought (Passing left) at (Distances count) = Passing left
 sought (Open from) at (Edge kind) = Open from
-sought (Open from) at (Header h) = Done (record { start = from; end = at })
-sought (Open from) at Balanced = Done (record { start = from; end = at })
-sought (Open from) at Contour = Done (record { start = from; end = at })
-sought (Open from) at (Distances count) = Done (record { start = from; end = at })
+sought (Open from) at _ = Done (record { start = from; end = at })
 sought (Done span) at item = Done span
 
 -- what was found when the records end at a place; nothing where there are too few contours

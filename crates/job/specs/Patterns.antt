@@ -4,8 +4,6 @@
 use Rattle.std.specs.Prelude.{ℕ, zero, suc, ◌+◌, ◌*◌, ◌/◌, ◌%◌, Bool, ◌||◌, List, [], ◌∷◌, ◌++◌, map, take, drop, leb, ltb, eqb, Float}
 use Rattle.std.specs.Float.{binary64}
 use Rattle.std.specs.Float.Ieee.{of_bits, to_bits}
-use Rattle.job.specs.declared.patterns.Range.{Range}
-use Rattle.job.specs.declared.patterns.Range.TheVariants.{Coordinate, Distance}
 
 -- the number of some bytes
 unfoldable pub number : List ℕ → ℕ
@@ -51,8 +49,3 @@ is_coordinate pattern = leb (magnitude pattern) 0x4130_0000_0000_0000
 -- finite and not below zero: below the pattern of infinity, or −0
 abbrev pub is_distance : ℕ → Bool
 is_distance pattern = ltb pattern 0x7FF0_0000_0000_0000 || eqb pattern sign_bit
-
--- the two of these that many numbers in a file have to keep to
-abbrev pub within : Range → ℕ → Bool
-within Coordinate pattern = is_coordinate pattern
-within Distance pattern = is_distance pattern

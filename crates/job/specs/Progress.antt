@@ -1,14 +1,13 @@
 -- How far a file is read, and the numbers of its job.
-use Rattle.std.specs.Prelude.{ℕ, ◌+◌, ◌<◌, ◌^◌, length}
+use Rattle.std.specs.Prelude.{ℕ, ◌+◌, ◌<◌, ◌^◌, length, Result, Ok, Err}
 use mathlib.Core.List.{List, flatten}
 use Rattle.geometry.specs.declared.edge_segment.EdgeSegment.{EdgeSegment}
 use Rattle.coloring.specs.Refusal.{refusal_number}
+use Rattle.coloring.specs.declared.refusal.Refusal.{Refusal}
 use Rattle.coloring.specs.Answers.{Answer, gives, refusal}
 use Rattle.job.specs.declared.records.Item.{Item}
 use Rattle.job.specs.declared.progress.Numbers.{Numbers}
 use Rattle.job.specs.declared.progress.Progress.{Progress}
-use Rattle.job.specs.declared.progress.Read.{Read}
-use Rattle.job.specs.declared.progress.Read.TheVariants as read
 use Rattle.job.specs.Records.{start, after}
 use Rattle.job.specs.Job.{Job, Reading}
 
@@ -27,9 +26,9 @@ numbers_of job = record {
 }
 
 -- what is answered of a file: the numbers of its job, or the number of a refusal
-abbrev pub read_answer : Read → Answer Numbers
-read_answer (read.Job n) = gives n
-read_answer (read.Refused r) = refusal (refusal_number r)
+abbrev pub read_answer : Result Numbers Refusal → Answer Numbers
+read_answer (Ok n) = gives n
+read_answer (Err r) = refusal (refusal_number r)
 
 abbrev pub answer_of : Reading → Answer Numbers
 answer_of (gives job) = gives (numbers_of job)

@@ -25,7 +25,7 @@ read_into (gives job) old =
 
 -- ---- in the words of contracts
 
--- the four buffers of a job at entry and at exit
+-- of buffers that are passed one by one: the four buffers of a job at entry and at exit
 abbrev pub job_at_entry : MutBuffer ℕ → MutBuffer ℕ → MutBuffer Float → MutBuffer Float → Buffers
 job_at_entry lengths kinds points distances = buffers lengths.entry.now kinds.entry.now points.entry.now distances.entry.now
 

@@ -1,10 +1,12 @@
 -- The records of a job file up to its end or its first fault (SCOPE, Job file and Refusals).
 use Rattle.std.specs.Prelude.{ℕ, zero, suc, ◌+◌, ◌*◌, Bool, true, false, not, cond, ◌&&◌, ◌||◌, List, [], ◌∷◌, ◌++◌, length, take, drop, get_or, leb, ltb}
-use Rattle.std.specs.Prelude.{eqb, Float}
+use Rattle.std.specs.Prelude.{eqb, Float, Option, Some, None, Result, Ok, Err}
 use Rattle.geometry.specs.EdgeSegment.{point_at, to_stored}
 use Rattle.geometry.specs.declared.edge_segment.EdgeSegment.{EdgeSegment}
 use Rattle.geometry.specs.declared.edge_segment.EdgeSegment.TheVariants as segment
 use Rattle.coloring.specs.Refusal.{refusal_number}
+use Rattle.coloring.specs.declared.refusal.Refusal.{Refusal}
+use Rattle.coloring.specs.declared.refusal.Refusal.TheVariants.{UnknownKind}
 use Rattle.coloring.specs.Lists.{all}
 use Rattle.coloring.specs.Limits.{max_contours, max_edges, max_distances}
 use Rattle.coloring.specs.declared.settings.Division.TheVariants as division
@@ -15,16 +17,12 @@ use Rattle.job.specs.declared.records.Kind.{Kind}
 use Rattle.job.specs.declared.records.Kind.TheVariants.{Line, Quadratic, Cubic}
 use Rattle.job.specs.declared.records.Mark.{Mark}
 use Rattle.job.specs.declared.records.Mark.TheVariants.{Header, Balanced, Contour, Edge, Distances, End}
-use Rattle.job.specs.declared.records.Marked.{Marked}
-use Rattle.job.specs.declared.records.Marked.TheVariants.{Known, Unknown}
 use Rattle.job.specs.declared.records.Phase.{Phase}
 use Rattle.job.specs.declared.records.Phase.TheVariants.{Start, Headed, Outside, Inside, Closing}
 use Rattle.job.specs.declared.records.State.{State}
 use Rattle.job.specs.declared.progress.Numbers.{Numbers}
 use Rattle.job.specs.declared.records.Item.{Item}
 use Rattle.job.specs.declared.records.Item.TheVariants as item
-use Rattle.job.specs.declared.records.Found.{Found}
-use Rattle.job.specs.declared.records.Found.TheVariants as found
 use Rattle.job.specs.Patterns.{number, little, words, floats, float_bytes, is_threshold, is_coordinate, is_distance}
 
 -- ---- marks
@@ -44,13 +42,19 @@ abbrev pub marks : List Mark
 marks = Header ∷ Balanced ∷ Contour ∷ Edge Line ∷ Edge Quadratic ∷ Edge Cubic ∷ Distances ∷ End ∷ []
 
 -- the mark of these that has the two letters
-unfoldable pub mark_among : List Mark → ℕ → ℕ → Marked
-mark_among [] a b = Unknown
-mark_among (m ∷ rest) a b = cond (eqb a (letters m).0 && eqb b (letters m).1) (Known m) (mark_among rest a b)
+unfoldable pub mark_among : List Mark → ℕ → ℕ → Option Mark
+mark_among [] a b = None
+mark_among (m ∷ rest) a b = cond (eqb a (letters m).0 && eqb b (letters m).1) (Some m) (mark_among rest a b)
 
-unfoldable pub mark_of : ℕ → ℕ → Marked
+unfoldable pub mark_of : ℕ → ℕ → Option Mark
 unfolding mark_among
 mark_of a b = mark_among marks a b
+
+-- 1 line, 2 quadratic, 3 cubic
+abbrev pub kind_number : Kind → ℕ
+kind_number Line = 1
+kind_number Quadratic = 2
+kind_number Cubic = 3
 
 -- the control points of an edge
 abbrev pub controls : Kind → ℕ
@@ -86,11 +90,15 @@ known_strategy n = leb 1 n && leb n 3
 unfoldable pub strategy_of : ℕ → Strategy
 strategy_of n = cond (eqb n 1) Simple (cond (eqb n 2) InkTrap ByDistance)
 
+-- the strategy of a number
+abbrev pub strategy_numbered : ℕ → Result Strategy Refusal
+unfolding strategy_of
+strategy_numbered n = cond (known_strategy n) (Ok (strategy_of n)) (Err UnknownKind)
+
 -- the strategy that asks for distances
 abbrev pub by_distance : Strategy → Bool
-by_distance Simple = false
-by_distance InkTrap = false
 by_distance ByDistance = true
+by_distance _ = false
 
 -- ---- what may stand where
 
@@ -102,42 +110,28 @@ start = record { phase = Start; numbers = record { header = no_header; division 
 
 abbrev pub at_start : Phase → Bool
 at_start Start = true
-at_start Headed = false
-at_start Outside = false
-at_start Inside = false
-at_start Closing = false
+at_start _ = false
 
 -- directly after JB
 abbrev pub headed : Phase → Bool
-headed Start = false
 headed Headed = true
-headed Outside = false
-headed Inside = false
-headed Closing = false
+headed _ = false
 
 -- in a contour
 abbrev pub inside : Phase → Bool
-inside Start = false
-inside Headed = false
-inside Outside = false
 inside Inside = true
-inside Closing = false
+inside _ = false
 
 -- among the contours: after JB, before DS
 abbrev pub among : Phase → Bool
 among Start = false
-among Headed = true
-among Outside = true
-among Inside = true
 among Closing = false
+among _ = true
 
 -- after DS
 abbrev pub closing : Phase → Bool
-closing Start = false
-closing Headed = false
-closing Outside = false
-closing Inside = false
 closing Closing = true
+closing _ = false
 
 abbrev pub allowed : Phase → Strategy → Mark → Bool
 allowed phase strategy Header = at_start phase
@@ -149,12 +143,9 @@ allowed phase strategy End = closing phase || among phase && not (by_distance st
 
 -- whether one more is within the maximum; distances are counted in their record
 abbrev pub below_maximum : Numbers → Mark → Bool
-below_maximum n Header = true
-below_maximum n Balanced = true
 below_maximum n Contour = ltb n.contours max_contours
 below_maximum n (Edge kind) = ltb n.edges max_edges
-below_maximum n Distances = true
-below_maximum n End = true
+below_maximum n _ = true
 
 -- ---- one record
 
@@ -199,14 +190,14 @@ read_header body rest =
     (next (header (record { strategy = strategy_of strategy; seed = seed; threshold = threshold })) rest))
 
 unfoldable pub read_edge : Kind → List ℕ → List ℕ → Step
-unfolding words floats all
+unfolding words floats
 read_edge kind body rest =
     let coordinates = words (2 * controls kind) body in
     step_if (all is_coordinate coordinates) 7
     (next (edge (edge_of kind (floats coordinates))) rest)
 
 unfoldable pub read_distances : List ℕ → List ℕ → Step
-unfolding number words floats all
+unfolding number words floats
 read_distances body rest =
     let count = number body in
     let patterns = words count rest in
@@ -230,10 +221,10 @@ read_body Distances body rest = read_distances body rest
 read_body End body rest = read_end rest
 
 -- 2, 3, 4, 1 for the rest, then the fields
-unfoldable pub read_marked : State → Marked → List ℕ → Step
+unfoldable pub read_marked : State → Option Mark → List ℕ → Step
 unfolding read_body
-read_marked s Unknown bytes = fails 2
-read_marked s (Known mark) bytes =
+read_marked s None bytes = fails 2
+read_marked s (Some mark) bytes =
     step_if (allowed s.phase s.numbers.header.strategy mark) 3
     (step_if (below_maximum s.numbers mark) 4
     (step_if (leb (body_size mark) (length bytes)) 1
@@ -293,11 +284,11 @@ phase_after phase (item.Distances count) = Closing
 
 -- the numbers with a record more
 abbrev pub counted : Numbers → Item → Numbers
-counted n (item.Header h) = record { header = h; division = n.division; contours = n.contours; edges = n.edges; distances = n.distances }
-counted n item.Balanced = record { header = n.header; division = division.Balanced; contours = n.contours; edges = n.edges; distances = n.distances }
-counted n item.Contour = record { header = n.header; division = n.division; contours = n.contours + 1; edges = n.edges; distances = n.distances }
-counted n (item.Edge kind) = record { header = n.header; division = n.division; contours = n.contours; edges = n.edges + 1; distances = n.distances }
-counted n (item.Distances count) = record { header = n.header; division = n.division; contours = n.contours; edges = n.edges; distances = count }
+counted n (item.Header h) = record n { header = h }
+counted n item.Balanced = record n { division = division.Balanced }
+counted n item.Contour = record n { contours = n.contours + 1 }
+counted n (item.Edge kind) = record n { edges = n.edges + 1 }
+counted n (item.Distances count) = record n { distances = count }
 
 abbrev pub after : State → Item → State
 after s item = record { phase = phase_after s.phase item; numbers = counted s.numbers item }
@@ -333,10 +324,23 @@ pub data Finding : Type 0 where
   finished : Finding
   faulty : ℕ → Finding
 
-abbrev pub found_answer : Found → Finding
-found_answer (found.Item item size) = finds item size
-found_answer found.End = finished
-found_answer (found.Fails r) = faulty (refusal_number r)
+-- how many bytes the record of an item takes
+abbrev pub item_size : Item → ℕ
+item_size (item.Header h) = 2 + header_size
+item_size item.Balanced = 2
+item_size item.Contour = 2
+item_size (item.Edge kind) = 2 + 16 * controls kind
+item_size (item.Distances count) = 4 + 8 * count
+
+-- what the code reads: an item or a refusal, and with the end
+abbrev pub item_answer : Result Item Refusal → Finding
+item_answer (Ok item) = finds item (item_size item)
+item_answer (Err r) = faulty (refusal_number r)
+
+abbrev pub found_answer : Result (Option Item) Refusal → Finding
+found_answer (Ok (Some item)) = finds item (item_size item)
+found_answer (Ok None) = finished
+found_answer (Err r) = faulty (refusal_number r)
 
 abbrev pub found_of : Step → Finding
 found_of (next r rest) = finds (item_of r) (record_size r)

@@ -1,7 +1,7 @@
 // The job file: its records, the reader, the part of one contour, and the text of an answer.
 #![tactic(auto)]
 
-mod buffers;
+pub mod buffers;
 pub mod color;
 pub mod limits;
 pub mod listing;

@@ -2,15 +2,14 @@
 ghost use Rattle.std.specs.Prelude.{◌≡◌, length, true};
 ghost use Rattle.job.specs.Job.{read_job};
 ghost use Rattle.coloring.specs.Answers.{succeeds};
-ghost use Rattle.job.specs.Color.{accepted};
 ghost use Rattle.job.specs.Part.{sought, span_of, place_in, contour_place, contour_part, Inside};
 
-use crate::progress::Read;
-use crate::records::{Found, Item};
-use crate::{color, progress, records};
+use crate::color;
+use crate::progress::Progress;
+use crate::records::Item;
 
 // From a byte up to another.
-#[derive(Clone, Copy)]
+#[derive(Clone, Copy, PartialEq, Eq, Debug, Default)]
 pub struct Span {
     pub start: usize,
     pub end: usize,
@@ -26,43 +25,30 @@ pub enum Seek {
     Done(Span),
 }
 
-// One record further, which starts at a place.
-fn sought(q: Seek, at: usize, item: Item) -> Seek
-    ensures { result ≡ sought q at item }
-{
-    match q {
-        Seek::Passing(left) => match item {
-            Item::Contour => {
-                if left == 0 {
-                    Seek::Open(at)
-                } else {
-                    Seek::Passing(left - 1)
-                }
-            }
-            Item::Header(_) => Seek::Passing(left),
-            Item::Balanced => Seek::Passing(left),
-            Item::Edge(_) => Seek::Passing(left),
-            Item::Distances(_) => Seek::Passing(left),
-        },
-        Seek::Open(start) => match item {
-            Item::Edge(_) => Seek::Open(start),
-            Item::Header(_) => Seek::Done(Span { start, end: at }),
-            Item::Balanced => Seek::Done(Span { start, end: at }),
-            Item::Contour => Seek::Done(Span { start, end: at }),
-            Item::Distances(_) => Seek::Done(Span { start, end: at }),
-        },
-        Seek::Done(span) => Seek::Done(span),
+impl Seek {
+    // One record further, which starts at a place.
+    #[tactic(auto, unfolding(crate::specs::Part::sought))]
+    fn after(self, at: usize, item: Item) -> Seek
+        ensures { result ≡ sought self at item }
+    {
+        match (self, item) {
+            (Seek::Passing(0), Item::Contour) => Seek::Open(at),
+            (Seek::Passing(left), Item::Contour) => Seek::Passing(left - 1),
+            (Seek::Open(_), Item::Edge(_)) => self,
+            (Seek::Open(start), _) => Seek::Done(Span { start, end: at }),
+            _ => self,
+        }
     }
-}
 
-// What was found when the records end at a place.
-fn span_of(q: Seek, at: usize) -> Span
-    ensures { result ≡ span_of q at }
-{
-    match q {
-        Seek::Passing(_) => Span { start: 0, end: 0 },
-        Seek::Open(start) => Span { start, end: at },
-        Seek::Done(span) => span,
+    // What was found when the records end at a place.
+    fn span(self, at: usize) -> Span
+        ensures { result ≡ span_of self at }
+    {
+        match self {
+            Seek::Passing(_) => Span::default(),
+            Seek::Open(start) => Span { start, end: at },
+            Seek::Done(span) => span,
+        }
     }
 }
 
@@ -72,34 +58,13 @@ fn contour_span(file: &[u8], number: usize) -> Span
     ensures value { result ≡ place_in (read_job file.now) number }
     ensures inside { Inside result (length file.now) }
 {
-    let mut p = progress::begin();
+    let mut p = Progress::begin();
     let mut q = Seek::Passing(number);
-    loop {
-        let at = p.at;
-        let state = p.state;
-        match records::read_record(state, &file[at..]) {
-            Found::Item(item, size) => {
-                q = sought(q, at, item);
-                p = progress::advance(p, item, size);
-            }
-            Found::End => {
-                return span_of(q, at);
-            }
-            Found::Fails(_) => {
-                return Span { start: 0, end: 0 };
-            }
-        }
+    while let Ok(Some(item)) = p.next(file) {
+        q = q.after(p.at, item);
+        p = p.advance(item);
     }
-}
-
-// Whether a file is accepted.
-fn accepted(file: &[u8]) -> bool
-    ensures { result ≡ accepted file.now }
-{
-    match color::accept(file) {
-        Read::Job(_) => true,
-        Read::Refused(_) => false,
-    }
+    q.span(p.at)
 }
 
 // Where the bytes of a contour stand, its mark first; from 0 up to 0 for a refused file and for a number too large.
@@ -107,18 +72,17 @@ pub fn contour_place(file: &[u8], number: usize) -> Span
     ensures value { result ≡ contour_place file.now number }
     ensures inside { Inside result (length file.now) }
 {
-    if !accepted(file) {
-        return Span { start: 0, end: 0 };
+    if color::accept(file).is_err() {
+        return Span::default();
     }
     contour_span(file, number)
 }
 
 // The bytes of a contour. Empty for a refused file and for a number too large.
+#[tactic(auto, unfolding(crate::specs::Part::contour_part))]
 pub fn contour_part(file: &[u8], number: usize) -> &[u8]
     ensures { result.now ≡ contour_part file.now number }
 {
     let span = contour_place(file, number);
-    let start = span.start;
-    let end = span.end;
-    &file[start..end]
+    &file[span.start..span.end]
 }

@@ -1,11 +1,10 @@
 // How far a file is read, record by record, and the numbers of its job.
-ghost use Rattle.std.specs.Prelude.{◌≡◌, ◌<◌};
+ghost use Rattle.std.specs.Prelude.{◌≡◌, ◌<◌, ◌≤◌, length, drop};
 ghost use Rattle.job.specs.Job.{read_job};
-ghost use Rattle.job.specs.Records.{phase_after, counted};
+ghost use Rattle.job.specs.Records.{phase_after, counted, item_size, found_answer, found_of, read_record};
 ghost use Rattle.job.specs.Progress.{read_answer, begin, advanced, answer_of, CanAdvance};
 
-use crate::records;
-use crate::records::{Found, Header, Item, Phase, State, Strategy};
+use crate::records::{Header, Item, Phase, State, Strategy, read_record};
 use coloring::refusal::Refusal;
 use coloring::settings::Division;
 
@@ -19,11 +18,46 @@ pub struct Numbers {
     pub distances: usize,
 }
 
-// The answer of reading a file.
-#[derive(Clone, Copy)]
-pub enum Read {
-    Job(Numbers),
-    Refused(Refusal),
+impl Numbers {
+    // With a record more.
+    fn with(self, item: Item) -> Numbers
+        requires { (self.contours < 65536) × (self.edges < 65536) }
+        ensures { result ≡ counted self item }
+    {
+        match item {
+            Item::Header(header) => Numbers { header, ..self },
+            Item::Balanced => Numbers {
+                division: Division::Balanced,
+                ..self
+            },
+            Item::Contour => Numbers {
+                contours: self.contours + 1,
+                ..self
+            },
+            Item::Edge(_) => Numbers {
+                edges: self.edges + 1,
+                ..self
+            },
+            Item::Distances(count) => Numbers {
+                distances: usize::from(count),
+                ..self
+            },
+        }
+    }
+}
+
+impl Phase {
+    fn after(self, item: Item) -> Phase
+        ensures { result ≡ phase_after self item }
+    {
+        match item {
+            Item::Header(_) => Phase::Headed,
+            Item::Balanced => Phase::Outside,
+            Item::Contour => Phase::Inside,
+            Item::Edge(_) => self,
+            Item::Distances(_) => Phase::Closing,
+        }
+    }
 }
 
 // How far a file is read: a place, and what was read before it.
@@ -33,125 +67,60 @@ pub struct Progress {
     pub state: State,
 }
 
-pub(crate) fn begin() -> Progress
-    ensures { result ≡ begin }
-{
-    let header = Header {
-        strategy: Strategy::Simple,
-        seed: 0,
-        threshold: 0,
-    };
-    let numbers = Numbers {
-        header,
-        division: Division::Source,
-        contours: 0,
-        edges: 0,
-        distances: 0,
-    };
-    let state = State {
-        phase: Phase::Start,
-        numbers,
-    };
-    Progress { at: 0, state }
-}
-
-fn phase_after(phase: Phase, item: Item) -> Phase
-    ensures { result ≡ phase_after phase item }
-{
-    match item {
-        Item::Header(_) => Phase::Headed,
-        Item::Balanced => Phase::Outside,
-        Item::Contour => Phase::Inside,
-        Item::Edge(_) => phase,
-        Item::Distances(_) => Phase::Closing,
+impl Progress {
+    pub(crate) fn begin() -> Progress
+        ensures { result ≡ begin }
+    {
+        let header = Header {
+            strategy: Strategy::Simple,
+            seed: 0,
+            threshold: 0,
+        };
+        let numbers = Numbers {
+            header,
+            division: Division::Source,
+            contours: 0,
+            edges: 0,
+            distances: 0,
+        };
+        let state = State {
+            phase: Phase::Start,
+            numbers,
+        };
+        Progress { at: 0, state }
     }
-}
 
-// The numbers with a record more.
-fn counted(n: Numbers, item: Item) -> Numbers
-    requires { (n.contours < 65536) × (n.edges < 65536) }
-    ensures { result ≡ counted n item }
-{
-    let header = n.header;
-    let division = n.division;
-    match item {
-        Item::Header(h) => Numbers {
-            header: h,
-            division,
-            contours: n.contours,
-            edges: n.edges,
-            distances: n.distances,
-        },
-        Item::Balanced => Numbers {
-            header,
-            division: Division::Balanced,
-            contours: n.contours,
-            edges: n.edges,
-            distances: n.distances,
-        },
-        Item::Contour => Numbers {
-            header,
-            division,
-            contours: n.contours + 1,
-            edges: n.edges,
-            distances: n.distances,
-        },
-        Item::Edge(_) => Numbers {
-            header,
-            division,
-            contours: n.contours,
-            edges: n.edges + 1,
-            distances: n.distances,
-        },
-        Item::Distances(count) => Numbers {
-            header,
-            division,
-            contours: n.contours,
-            edges: n.edges,
-            distances: count,
-        },
+    // The record at that place, or the end.
+    pub(crate) fn next(self, file: &[u8]) -> Result<Option<Item>, Refusal>
+        requires { self.at ≤ length file.now }
+        ensures { found_answer result ≡ found_of (read_record self.state (drop self.at file.now)) }
+    {
+        read_record(self.state, &file[self.at..])
     }
-}
 
-// One record further, which takes so many bytes.
-pub(crate) fn advance(p: Progress, item: Item, size: usize) -> Progress
-    requires { CanAdvance p size }
-    ensures { result ≡ advanced p item size }
-{
-    let s = p.state;
-    let before = s.phase;
-    let numbers = s.numbers;
-    let phase = phase_after(before, item);
-    let more = counted(numbers, item);
-    let state = State {
-        phase,
-        numbers: more,
-    };
-    Progress {
-        at: p.at + size,
-        state,
+    // One record further.
+    pub(crate) fn advance(self, item: Item) -> Progress
+        requires { CanAdvance self (item_size item) }
+        ensures { result ≡ advanced self item (item_size item) }
+    {
+        let State { phase, numbers } = self.state;
+        Progress {
+            at: self.at + item.size(),
+            state: State {
+                phase: phase.after(item),
+                numbers: numbers.with(item),
+            },
+        }
     }
 }
 
 // The numbers of a file's job, or its first refusal.
-pub(crate) fn scan(file: &[u8]) -> Read
+pub(crate) fn scan(file: &[u8]) -> Result<Numbers, Refusal>
     ensures { read_answer result ≡ answer_of (read_job file.now) }
 {
-    let mut p = begin();
-    loop {
-        let at = p.at;
-        let state = p.state;
-        match records::read_record(state, &file[at..]) {
-            Found::Item(item, size) => {
-                p = advance(p, item, size);
-            }
-            Found::End => {
-                let numbers = state.numbers;
-                return Read::Job(numbers);
-            }
-            Found::Fails(refusal) => {
-                return Read::Refused(refusal);
-            }
-        }
+    let mut p = Progress::begin();
+    while let Some(item) = p.next(file)? {
+        p = p.advance(item);
     }
+    Ok(p.state.numbers)
 }

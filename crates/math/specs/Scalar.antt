@@ -28,11 +28,11 @@ numbers = (refl, refl, refl, refl)
 
 -- the smaller of the two: the other one where one is a NaN, the first where they are equal, as -0 and 0 are
 abbrev pub min_of : Float → Float → Float
-min_of a b = cond (Ieee.lt b a) b (cond (Ieee.ne a a) b a)
+min_of a b = cond (Ieee.lt b a) b (cond (Ieee.is_nan a) b a)
 
 -- the larger of the two, likewise
 abbrev pub max_of : Float → Float → Float
-max_of a b = cond (Ieee.lt a b) b (cond (Ieee.ne a a) b a)
+max_of a b = cond (Ieee.lt a b) b (cond (Ieee.is_nan a) b a)
 
 -- the middle of three
 abbrev pub median : Float → Float → Float → Float

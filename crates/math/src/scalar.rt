@@ -1,5 +1,5 @@
-// Scalar helpers of math/scalar.rs. The minimum and the maximum of two numbers, which Rust takes
-// from its library, are functions here.
+// Scalar helpers of math/scalar.rs. The minimum and the maximum of two numbers are functions here: std's `min` and
+// `max` promise either of two equal numbers, as -0 and 0 are, and the first one is promised here.
 ghost use Rattle.std.specs.Prelude.{◌≡◌};
 ghost use Rattle.math.specs.Scalar.{min_of, max_of, median, mix, clamp, clamp01, sign, non_zero_sign};
 
@@ -10,7 +10,7 @@ pub fn min(a: f64, b: f64) -> f64
     if b < a {
         return b;
     }
-    if a != a { b } else { a }
+    if a.is_nan() { b } else { a }
 }
 
 // The larger of a and b: the other one where one is a NaN, a where they are equal.
@@ -20,7 +20,7 @@ pub fn max(a: f64, b: f64) -> f64
     if a < b {
         return b;
     }
-    if a != a { b } else { a }
+    if a.is_nan() { b } else { a }
 }
 
 // Middle of three values.
@@ -37,7 +37,7 @@ pub fn mix(a: f64, b: f64, w: f64) -> f64
     (1.0 - w) * a + w * b
 }
 
-// Clamp to [a, b]. Defined for every a and b: below a it is a, else above b it is b, else n.
+// Clamp to [a, b]. Defined for every a and b, unlike std's `clamp`: below a it is a, else above b it is b, else n.
 pub fn clamp(n: f64, a: f64, b: f64) -> f64
     ensures { result ≡ clamp n a b }
 {
@@ -54,7 +54,7 @@ pub fn clamp01(n: f64) -> f64
     clamp(n, 0.0, 1.0)
 }
 
-// 1 for positive, -1 for negative, 0 for a zero and a NaN.
+// 1 for positive, -1 for negative, 0 for a zero and a NaN: the source's numbers, not std's `signum`.
 pub fn sign(n: f64) -> i32
     ensures { result ≡ sign n }
 {

@@ -1,19 +1,20 @@
-// The plane vector of math/vector2.rs, by value. Its operators are methods: `a + b` is `a.add(b)`, `v * s` is
-// `v.mul_scalar(s)`, and `s * v` is `scale(s, v)`.
+// The plane vector of math/vector2.rs, by value, with the source's operators.
 ghost use Rattle.std.specs.Prelude.{◌≡◌};
 ghost use Rattle.math.specs.Vector2.{zero_vector, new, splat, squared_length, length_of, normalize, orthogonal, orthonormal, is_nonzero};
-ghost use Rattle.math.specs.Vector2.{dot, cross, add, sub, neg, mul, div, mul_scalar, div_scalar, scale, eq};
+ghost use Rattle.math.specs.Vector2.{dot, cross, add, sub, neg, mul, div, mul_scalar, div_scalar, scale};
 
 use crate::sqrt::sqrt_near;
+use std::ops::{Add, Div, Mul, Neg, Sub};
 
 // A vector, or a point, of the plane.
-#[derive(Clone, Copy)]
+#[derive(Clone, Copy, PartialEq)]
 pub struct Vector2 {
     pub x: f64,
     pub y: f64,
 }
 
-// A vector by its length, and whether that was 0, so that another stands in for it.
+// A vector by its length, and whether that was 0, so that another stands in for it. No Option: both have a vector,
+// which callers use alike, and the flag is only counted.
 #[derive(Clone, Copy)]
 pub struct Normalized {
     pub vector: Vector2,
@@ -21,12 +22,7 @@ pub struct Normalized {
 }
 
 impl Vector2 {
-    // The source's constant ZERO.
-    pub fn zero() -> Vector2
-        ensures { result ≡ zero_vector }
-    {
-        Vector2 { x: 0.0, y: 0.0 }
-    }
+    pub const ZERO: Vector2 = Vector2 { x: 0.0, y: 0.0 };
 
     pub fn new(x: f64, y: f64) -> Vector2
         ensures { result ≡ new x y }
@@ -41,6 +37,7 @@ impl Vector2 {
         Vector2 { x: v, y: v }
     }
 
+    #[tactic(auto, unfolding(crate::specs::Vector2::squared_length))]
     pub fn squared_length(self) -> f64
         ensures { result ≡ squared_length self }
     {
@@ -48,6 +45,7 @@ impl Vector2 {
     }
 
     // Where one component is 0, their sum may be the length.
+    #[tactic(auto, unfolding(crate::specs::Vector2::length_of))]
     pub fn length(self) -> f64
         ensures { result ≡ length_of self }
     {
@@ -56,6 +54,7 @@ impl Vector2 {
 
     // The vector divided by its length. Of length 0 it is (0, 0) where `allow_zero` is true, else (0, 1), and the
     // answer says so.
+    #[tactic(auto, unfolding(crate::specs::Vector2::normalize, crate::specs::Vector2::div_scalar))]
     pub fn normalize(self, allow_zero: bool) -> Normalized
         ensures { result ≡ normalize self allow_zero }
     {
@@ -77,6 +76,7 @@ impl Vector2 {
     }
 
     // A vector of the same length orthogonal to this one.
+    #[tactic(auto, unfolding(crate::specs::Vector2::orthogonal))]
     pub fn orthogonal(self, polarity: bool) -> Vector2
         ensures { result ≡ orthogonal self polarity }
     {
@@ -94,6 +94,7 @@ impl Vector2 {
     }
 
     // A unit-length vector orthogonal to this one.
+    #[tactic(auto, unfolding(crate::specs::Vector2::orthonormal, crate::specs::Vector2::orthogonal, crate::specs::Vector2::div_scalar))]
     pub fn orthonormal(self, polarity: bool, allow_zero: bool) -> Vector2
         ensures { result ≡ orthonormal self polarity allow_zero }
     {
@@ -119,80 +120,109 @@ impl Vector2 {
     }
 
     // True when a component is not a zero: of a NaN too.
+    #[tactic(auto, unfolding(crate::specs::Vector2::is_nonzero))]
     pub fn is_nonzero(self) -> bool
         ensures { result ≡ is_nonzero self }
     {
         self.x != 0.0 || self.y != 0.0
     }
+}
 
-    // The source's `==`: both components equal, -0 and 0 among them.
-    pub fn eq(self, o: Vector2) -> bool
-        ensures { result ≡ eq self o }
-    {
-        self.x == o.x && self.y == o.y
-    }
+#[tactic(auto, unfolding(crate::specs::Vector2::add))]
+impl Add for Vector2 {
+    type Output = Vector2;
 
-    pub fn add(self, o: Vector2) -> Vector2
-        ensures { result ≡ add self o }
-    {
+    ghost add_gives = { λ a b r. r ≡ add a b };
+
+    fn add(self, o: Vector2) -> Vector2 {
         Vector2 {
             x: self.x + o.x,
             y: self.y + o.y,
         }
     }
+}
 
-    pub fn sub(self, o: Vector2) -> Vector2
-        ensures { result ≡ sub self o }
-    {
+#[tactic(auto, unfolding(crate::specs::Vector2::sub))]
+impl Sub for Vector2 {
+    type Output = Vector2;
+
+    ghost sub_gives = { λ a b r. r ≡ sub a b };
+
+    fn sub(self, o: Vector2) -> Vector2 {
         Vector2 {
             x: self.x - o.x,
             y: self.y - o.y,
         }
     }
+}
 
-    pub fn neg(self) -> Vector2
-        ensures { result ≡ neg self }
-    {
+#[tactic(auto, unfolding(crate::specs::Vector2::neg))]
+impl Neg for Vector2 {
+    type Output = Vector2;
+
+    ghost neg_gives = { λ v r. r ≡ neg v };
+
+    fn neg(self) -> Vector2 {
         Vector2 {
             x: -self.x,
             y: -self.y,
         }
     }
+}
 
-    // Vector times vector, by components.
-    pub fn mul(self, o: Vector2) -> Vector2
-        ensures { result ≡ mul self o }
-    {
+// Vector times vector, by components.
+#[tactic(auto, unfolding(crate::specs::Vector2::mul))]
+impl Mul for Vector2 {
+    type Output = Vector2;
+
+    ghost mul_gives = { λ a b r. r ≡ mul a b };
+
+    fn mul(self, o: Vector2) -> Vector2 {
         Vector2 {
             x: self.x * o.x,
             y: self.y * o.y,
         }
     }
+}
 
-    // Vector by vector, by components.
-    pub fn div(self, o: Vector2) -> Vector2
-        ensures { result ≡ div self o }
-    {
+// Vector by vector, by components.
+#[tactic(auto, unfolding(crate::specs::Vector2::div))]
+impl Div for Vector2 {
+    type Output = Vector2;
+
+    ghost div_gives = { λ a b r. r ≡ div a b };
+
+    fn div(self, o: Vector2) -> Vector2 {
         Vector2 {
             x: self.x / o.x,
             y: self.y / o.y,
         }
     }
+}
 
-    // Vector times number.
-    pub fn mul_scalar(self, s: f64) -> Vector2
-        ensures { result ≡ mul_scalar self s }
-    {
+// Vector times number.
+#[tactic(auto, unfolding(crate::specs::Vector2::mul_scalar))]
+impl Mul<f64> for Vector2 {
+    type Output = Vector2;
+
+    ghost mul_gives = { λ v s r. r ≡ mul_scalar v s };
+
+    fn mul(self, s: f64) -> Vector2 {
         Vector2 {
             x: self.x * s,
             y: self.y * s,
         }
     }
+}
 
-    // Vector by number.
-    pub fn div_scalar(self, s: f64) -> Vector2
-        ensures { result ≡ div_scalar self s }
-    {
+// Vector by number.
+#[tactic(auto, unfolding(crate::specs::Vector2::div_scalar))]
+impl Div<f64> for Vector2 {
+    type Output = Vector2;
+
+    ghost div_gives = { λ v s r. r ≡ div_scalar v s };
+
+    fn div(self, s: f64) -> Vector2 {
         Vector2 {
             x: self.x / s,
             y: self.y / s,
@@ -201,16 +231,22 @@ impl Vector2 {
 }
 
 // Number times vector.
-pub fn scale(s: f64, v: Vector2) -> Vector2
-    ensures { result ≡ scale s v }
-{
-    Vector2 {
-        x: s * v.x,
-        y: s * v.y,
+#[tactic(auto, unfolding(crate::specs::Vector2::scale))]
+impl Mul<Vector2> for f64 {
+    type Output = Vector2;
+
+    ghost mul_gives = { λ s v r. r ≡ scale s v };
+
+    fn mul(self, v: Vector2) -> Vector2 {
+        Vector2 {
+            x: self * v.x,
+            y: self * v.y,
+        }
     }
 }
 
 // Dot product.
+#[tactic(auto, unfolding(crate::specs::Vector2::dot))]
 pub fn dot(a: Vector2, b: Vector2) -> f64
     ensures { result ≡ dot a b }
 {
@@ -218,6 +254,7 @@ pub fn dot(a: Vector2, b: Vector2) -> f64
 }
 
 // Cross product: its third component.
+#[tactic(auto, unfolding(crate::specs::Vector2::cross))]
 pub fn cross(a: Vector2, b: Vector2) -> f64
     ensures { result ≡ cross a b }
 {

@@ -1,120 +1,90 @@
 // Records of edges and their colours, 20 words each: the function's number; a kind or a colour, eight places, a
 // parameter; a number and eight places that are the answer. Where the kind is unknown the answer is the number 0.
-use crate::leaves::vector;
-use crate::words::{number, same, word};
+// Kept as numbers: each is matched once, by the arm that names its function.
+use crate::words::{Reader, is_vector, same, vector};
 use geometry::edge_color::EdgeColor;
-use geometry::edge_segment::{Decoded, EdgeSegment, Thirds};
+use geometry::edge_segment::EdgeSegment;
+use math::bits::float;
 use math::vector2::{Normalized, Vector2};
 
-// The inputs of the record at the start of s.
-fn byte(s: &[u8]) -> u8 {
-    (word(s, 8) % 256) as u8
+// The answer of a record.
+#[derive(Clone, Copy)]
+struct Answer {
+    number: u64,
+    places: [u64; 8],
 }
 
-fn edge(s: &[u8]) -> Decoded {
-    let places = [
-        number(s, 16),
-        number(s, 24),
-        number(s, 32),
-        number(s, 40),
-        number(s, 48),
-        number(s, 56),
-        number(s, 64),
-        number(s, 72),
-    ];
-    EdgeSegment::from_stored(byte(s), places)
-}
+impl Answer {
+    fn is_vector(&self, v: Vector2) -> bool {
+        is_vector(v, self.places[0], self.places[1])
+    }
 
-// Whether an answer is the record's.
-fn is_number(s: &[u8], n: u64) -> bool {
-    n == word(s, 88)
-}
+    // The number is 1 where the length was 0.
+    fn is_direction(&self, d: Normalized) -> bool {
+        u64::from(d.zero_length) == self.number && self.is_vector(d.vector)
+    }
 
-fn is_flag(s: &[u8], b: bool) -> bool {
-    is_number(s, if b { 1 } else { 0 })
-}
-
-fn is_vector(s: &[u8], v: Vector2) -> bool {
-    same(v.x, word(s, 96)) && same(v.y, word(s, 104))
-}
-
-// The number is 1 where the length was 0.
-fn is_direction(s: &[u8], d: Normalized) -> bool {
-    is_flag(s, d.zero_length) && is_vector(s, d.vector)
-}
-
-fn are_places(s: &[u8], p: [f64; 8]) -> bool {
-    let first = same(p[0], word(s, 96)) && same(p[1], word(s, 104));
-    let second = same(p[2], word(s, 112)) && same(p[3], word(s, 120));
-    let third = same(p[4], word(s, 128)) && same(p[5], word(s, 136));
-    let fourth = same(p[6], word(s, 144)) && same(p[7], word(s, 152));
-    first && second && third && fourth
-}
-
-fn is_edge(s: &[u8], e: EdgeSegment) -> bool {
-    let stored = e.to_stored();
-    let places = stored.points;
-    is_number(s, stored.kind as u64) && are_places(s, places)
-}
-
-// The parameter is the place in the split.
-fn is_third(s: &[u8], t: Thirds) -> bool {
-    let first = t.first;
-    let second = t.second;
-    let third = t.third;
-    match word(s, 80) {
-        0 => is_edge(s, first),
-        1 => is_edge(s, second),
-        _ => is_edge(s, third),
+    fn is_edge(&self, e: EdgeSegment) -> bool {
+        let stored = e.to_stored();
+        u64::from(stored.kind) == self.number
+            && stored
+                .points
+                .iter()
+                .zip(&self.places)
+                .all(|(x, bits)| same(*x, *bits))
     }
 }
 
-fn edges(s: &[u8], f: u64, e: EdgeSegment) -> bool {
-    let t = number(s, 80);
+// The parameter is t, or the place in the split.
+fn is_edge_right(f: u64, e: EdgeSegment, parameter: u64, answer: &Answer) -> bool {
+    let t = float(parameter);
     match f {
-        32 => is_third(s, e.split_in_thirds()),
-        33 => is_direction(s, e.direction(t).normalize(false)),
-        34 => is_vector(s, e.direction(t)),
-        35 => is_vector(s, e.point(t)),
-        39 => is_number(s, e.order() as u64),
-        _ => is_edge(s, e),
+        32 => {
+            let thirds = e.split_in_thirds();
+            answer.is_edge(match parameter {
+                0 => thirds.first,
+                1 => thirds.second,
+                _ => thirds.third,
+            })
+        }
+        33 => answer.is_direction(e.direction(t).normalize(false)),
+        34 => answer.is_vector(e.direction(t)),
+        35 => answer.is_vector(e.point(t)),
+        39 => e.order() as u64 == answer.number,
+        _ => answer.is_edge(e),
     }
 }
 
-fn constructors(s: &[u8], f: u64) -> bool {
-    let p0 = vector(s, 16, 24);
-    let p1 = vector(s, 32, 40);
-    let p2 = vector(s, 48, 56);
-    let p3 = vector(s, 64, 72);
-    match f {
-        36 => is_edge(s, EdgeSegment::line(p0, p1)),
-        37 => is_edge(s, EdgeSegment::quadratic(p0, p1, p2)),
-        _ => is_edge(s, EdgeSegment::cubic(p0, p1, p2, p3)),
-    }
-}
-
-fn colors(s: &[u8], f: u64) -> bool {
-    let c = EdgeColor::from_bits(byte(s));
-    match f {
-        41 => is_number(s, c.bits() as u64),
-        42 => is_flag(s, c.has_red()),
-        43 => is_flag(s, c.has_green()),
-        44 => is_flag(s, c.has_blue()),
-        45 => is_flag(s, c.has_channel(word(s, 80) as usize)),
-        _ => is_number(s, EdgeColor::default().bits() as u64),
-    }
-}
-
-// Whether the answer to the record at the start of s is as recorded.
+// Whether the answer to the record s is as recorded.
 pub(crate) fn is_right(s: &[u8], f: u64) -> bool {
-    if 40 < f {
-        return colors(s, f);
-    }
+    let mut record = Reader::new(s);
+    let [_, first] = record.words::<2>();
+    let places = record.words::<8>();
+    let [parameter, number] = record.words::<2>();
+    let answer = Answer {
+        number,
+        places: record.words::<8>(),
+    };
+    let byte = (first % 256) as u8;
+    let color = EdgeColor::from_bits(byte);
+    let [x0, y0, x1, y1, x2, y2, x3, y3] = places;
+    let p0 = vector(x0, y0);
+    let p1 = vector(x1, y1);
+    let p2 = vector(x2, y2);
+    let p3 = vector(x3, y3);
     match f {
-        36 | 37 | 38 => constructors(s, f),
-        _ => match edge(s) {
-            Decoded::Edge(e) => edges(s, f, e),
-            Decoded::UnknownKind => is_number(s, 0),
+        36 => answer.is_edge(EdgeSegment::line(p0, p1)),
+        37 => answer.is_edge(EdgeSegment::quadratic(p0, p1, p2)),
+        38 => answer.is_edge(EdgeSegment::cubic(p0, p1, p2, p3)),
+        41 => u64::from(color.bits()) == number,
+        42 => u64::from(color.has_red()) == number,
+        43 => u64::from(color.has_green()) == number,
+        44 => u64::from(color.has_blue()) == number,
+        45 => u64::from(color.has_channel(parameter as usize)) == number,
+        46 => u64::from(EdgeColor::default().bits()) == number,
+        _ => match EdgeSegment::from_stored(byte, places.map(float)) {
+            Some(e) => is_edge_right(f, e, parameter, &answer),
+            None => number == 0,
         },
     }
 }

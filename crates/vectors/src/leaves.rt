@@ -1,100 +1,50 @@
 // Records of the number leaves, eight words each: the function's number, five inputs, two outputs.
-use crate::words::{number, same, word};
+// Kept as numbers: each is matched once, by the arm that names its function.
+use crate::words::{Reader, is_vector, same, vector};
+use math::bits::float;
 use math::vector2::{self, Vector2};
 use math::{scalar, sqrt};
 
-// The inputs of the record at the start of s.
-pub(crate) fn vector(s: &[u8], x: usize, y: usize) -> Vector2 {
-    Vector2 {
-        x: number(s, x),
-        y: number(s, y),
-    }
+// Whether a sign is the recorded one, an i32 widened.
+fn is_sign(sign: i32, word: u64) -> bool {
+    i64::from(sign).cast_unsigned() == word
 }
 
-fn flag(s: &[u8], at: usize) -> bool {
-    word(s, at) != 0
-}
-
-// Whether an answer is the record's.
-fn is_number(s: &[u8], x: f64) -> bool {
-    same(x, word(s, 48))
-}
-
-fn is_vector(s: &[u8], v: Vector2) -> bool {
-    same(v.x, word(s, 48)) && same(v.y, word(s, 56))
-}
-
-fn is_flag(s: &[u8], b: bool) -> bool {
-    let w = word(s, 48);
-    if b { w == 1 } else { w == 0 }
-}
-
-fn is_sign(s: &[u8], i: i32) -> bool {
-    match word(s, 48) {
-        0 => i == 0,
-        1 => i == 1,
-        0xFFFF_FFFF_FFFF_FFFF => i == -1,
-        _ => false,
-    }
-}
-
-fn roots_and_scalars(s: &[u8], f: u64) -> bool {
-    let a = number(s, 8);
-    let b = number(s, 16);
-    let c = number(s, 24);
-    match f {
-        0 => sqrt::sqrt_bits(word(s, 8)) == word(s, 48),
-        1 => is_number(s, sqrt::sqrt(a)),
-        2 => is_number(s, scalar::median(a, b, c)),
-        3 => is_number(s, scalar::mix(a, b, c)),
-        4 => is_number(s, scalar::clamp01(a)),
-        5 => is_number(s, scalar::clamp(a, b, c)),
-        6 => is_sign(s, scalar::sign(a)),
-        _ => is_sign(s, scalar::non_zero_sign(a)),
-    }
-}
-
-fn vectors_of_one(s: &[u8], f: u64) -> bool {
-    let v = vector(s, 8, 16);
-    match f {
-        8 => is_vector(s, Vector2::zero()),
-        9 => is_vector(s, Vector2::new(number(s, 8), number(s, 16))),
-        10 => is_vector(s, Vector2::splat(number(s, 8))),
-        11 => is_number(s, v.squared_length()),
-        12 => is_number(s, v.length()),
-        13 => is_vector(s, v.normalize(flag(s, 24)).vector),
-        14 => is_vector(s, v.orthogonal(flag(s, 24))),
-        15 => is_vector(s, v.orthonormal(flag(s, 24), flag(s, 32))),
-        16 => is_flag(s, v.is_nonzero()),
-        _ => is_flag(s, v.normalize(flag(s, 24)).zero_length),
-    }
-}
-
-fn operators(s: &[u8], f: u64) -> bool {
-    let v = vector(s, 8, 16);
-    let w = vector(s, 24, 32);
-    match f {
-        17 => is_flag(s, v.eq(w)),
-        18 => is_number(s, vector2::dot(v, w)),
-        19 => is_number(s, vector2::cross(v, w)),
-        20 => is_vector(s, v.add(w)),
-        21 => is_vector(s, v.sub(w)),
-        22 => is_vector(s, v.neg()),
-        23 => is_vector(s, v.mul(w)),
-        24 => is_vector(s, v.div(w)),
-        25 => is_vector(s, v.mul_scalar(number(s, 24))),
-        26 => is_vector(s, v.div_scalar(number(s, 24))),
-        _ => is_vector(s, vector2::scale(number(s, 24), v)),
-    }
-}
-
-// Whether the answer to the record at the start of s is as recorded.
+// Whether the answer to the record s is as recorded.
 pub(crate) fn is_right(s: &[u8], f: u64) -> bool {
-    if f < 8 {
-        return roots_and_scalars(s, f);
-    }
+    let [_, a, b, c, d, _, first, second] = Reader::new(s).words::<8>();
+    let [x, y, z] = [float(a), float(b), float(c)];
+    let v = vector(a, b);
+    let w = vector(c, d);
     match f {
-        8 | 9 | 10 | 11 | 12 | 13 | 14 | 15 | 16 | 28 => vectors_of_one(s, f),
-        _ => operators(s, f),
+        0 => sqrt::sqrt_bits(a) == first,
+        1 => same(sqrt::sqrt(x), first),
+        2 => same(scalar::median(x, y, z), first),
+        3 => same(scalar::mix(x, y, z), first),
+        4 => same(scalar::clamp01(x), first),
+        5 => same(scalar::clamp(x, y, z), first),
+        6 => is_sign(scalar::sign(x), first),
+        7 => is_sign(scalar::non_zero_sign(x), first),
+        8 => is_vector(Vector2::ZERO, first, second),
+        9 => is_vector(Vector2::new(x, y), first, second),
+        10 => is_vector(Vector2::splat(x), first, second),
+        11 => same(v.squared_length(), first),
+        12 => same(v.length(), first),
+        13 => is_vector(v.normalize(c != 0).vector, first, second),
+        14 => is_vector(v.orthogonal(c != 0), first, second),
+        15 => is_vector(v.orthonormal(c != 0, d != 0), first, second),
+        16 => u64::from(v.is_nonzero()) == first,
+        17 => u64::from(v == w) == first,
+        18 => same(vector2::dot(v, w), first),
+        19 => same(vector2::cross(v, w), first),
+        20 => is_vector(v + w, first, second),
+        21 => is_vector(v - w, first, second),
+        22 => is_vector(-v, first, second),
+        23 => is_vector(v * w, first, second),
+        24 => is_vector(v / w, first, second),
+        25 => is_vector(v * z, first, second),
+        26 => is_vector(v / z, first, second),
+        27 => is_vector(z * v, first, second),
+        _ => u64::from(v.normalize(c != 0).zero_length) == first,
     }
 }

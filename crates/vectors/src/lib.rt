@@ -6,6 +6,7 @@
 #![tactic(auto)]
 
 mod edges;
+mod function;
 mod jobs;
 mod leaves;
 mod reading;
@@ -15,74 +16,55 @@ mod words;
 
 ghost use Rattle.std.specs.Prelude.{◌≡◌, cond, ◌≤◌};
 ghost use Rattle.vectors.specs.Words.{headed};
-ghost use Rattle.vectors.specs.Records.{record_bytes, known, is_record};
+ghost use Rattle.vectors.specs.Records.{record_bytes, is_record};
 
+use function::Function;
 use words::word;
 
 // Whether a heading stands at the start of s.
 pub fn is_heading(s: &[u8]) -> bool
     ensures { result ≡ headed s.now }
 {
-    word(s, 0) == 0xFFFF_FFFF_FFFF_FFFF
+    word(s, 0) == u64::MAX
 }
 
 // How many bytes the heading or the record at the start of s has.
+#[tactic(auto, unfolding(crate::specs::Records::record_bytes))]
 pub fn record_bytes(s: &[u8]) -> u64
     ensures { result ≡ record_bytes s.now }
 {
-    if is_heading(s) {
-        return 24;
+    match word(s, 0) {
+        u64::MAX => 24,
+        0..=31 => 64,
+        32..=63 => 160,
+        _ => word(s, 8),
     }
-    let f = word(s, 0);
-    if f < 32 {
-        return 64;
-    }
-    if f < 64 { 160 } else { word(s, 8) }
-}
-
-// Whether there is a function of this number.
-fn is_known(f: u64) -> bool
-    ensures { result ≡ known f }
-{
-    (f < 29) | ((32 <= f) & (f < 47)) | ((64 <= f) & (f < 77))
 }
 
 // Whether s is a record, and nothing else.
+#[tactic(auto, unfolding(crate::specs::Records::is_record))]
 fn is_record(s: &[u8]) -> bool
     ensures { result ≡ is_record s.now }
 {
-    is_known(word(s, 0)) & (s.len() as u64 == record_bytes(s))
+    Function::try_from(word(s, 0)).is_ok() && s.len() as u64 == record_bytes(s)
 }
 
 // Whether the call of a record is answered as recorded.
 fn is_right(s: &[u8]) -> bool {
-    let f = word(s, 0);
-    if f < 32 {
-        return leaves::is_right(s, f);
+    match Function::try_from(word(s, 0)) {
+        Ok(Function::Leaf(f)) => leaves::is_right(s, f),
+        Ok(Function::Edge(f)) => edges::is_right(s, f),
+        Ok(Function::Offers) => tables::is_right(s),
+        Ok(Function::Job) => jobs::is_right(s),
+        Ok(Function::ReadJob) => reading::is_right(s),
+        Ok(Function::Color(call)) => shapes::is_right(s, call),
+        Err(_) => false,
     }
-    if f < 64 {
-        return edges::is_right(s, f);
-    }
-    match f {
-        64 => tables::is_right(s),
-        69 => jobs::is_right(s),
-        70 => reading::is_right(s),
-        _ => shapes::is_right(s),
-    }
-}
-
-fn one_if(b: bool) -> u64
-    ensures { result ≤ 1 }
-{
-    if b { 1 } else { 0 }
 }
 
 // 1 where the call of a record is answered as recorded, and else 0. What is no record is never right.
 pub fn vectors_right(s: &[u8]) -> u64
     ensures { result ≤ cond (is_record s.now) 1 0 }
 {
-    if is_record(s) {
-        return one_if(is_right(s));
-    }
-    0
+    u64::from(is_record(s) && is_right(s))
 }

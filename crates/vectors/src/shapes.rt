@@ -5,9 +5,11 @@
 // job file (71) the threshold's word has the bytes of the file, and what goes in is the file. The directions of an
 // outline (72) go to the buffer of point places, four an edge, and the marks of stand-ins to that of colours, two an
 // edge; they are the whole result. 73 to 76 are 65 to 68 by the balanced division.
-ghost use Rattle.std.specs.Prelude.{◌≤◌, ◌<◌, ◌*◌, length};
+ghost use Rattle.std.specs.Prelude.{length};
 
-use crate::words::{load, number, part, same, size, word};
+use crate::function::{Call, Entry};
+use crate::words::{Reader, are_bytes, are_words, load_words, same, size};
+use capi::answers::{COUNT, REFUSED};
 use capi::balanced::{
     merelsplum_collect_splines_balanced, merelsplum_edge_coloring_by_distance_balanced,
     merelsplum_edge_coloring_ink_trap_balanced, merelsplum_edge_coloring_simple_balanced,
@@ -16,477 +18,263 @@ use capi::by_distance::{merelsplum_collect_splines, merelsplum_edge_coloring_by_
 use capi::directions::merelsplum_edge_directions;
 use capi::edge_coloring::{merelsplum_edge_coloring_ink_trap, merelsplum_edge_coloring_simple};
 use capi::job_file::merelsplum_job_color;
+use coloring::outline::{OutlineBuffers, ResultBuffers};
 use math::bits::float;
 
-// What a result buffer holds before the call.
+// What a place of a result buffer holds before the call.
 pub(crate) const LENGTH: u16 = 0xA5A5;
 
 pub(crate) const BYTE: u8 = 0xA5;
 
 pub(crate) const PLACE: u64 = 0xC0FE_2408_0000_0000;
 
-// ---- out of a record
-
-fn narrow(w: u64) -> u16 {
-    (w % 65536) as u16
+pub(crate) fn are_lengths(s: &[u8], lengths: &[u16]) -> bool {
+    are_words(s, lengths, u64::from(LENGTH), |x, w| u64::from(x) == w)
 }
 
-// Stores x at place i of t, where there is such a place.
-fn put_length(t: &mut [u16], i: usize, x: u16) {
-    if i < t.len() {
-        t[i] = x;
+pub(crate) fn are_points(s: &[u8], points: &[f64]) -> bool {
+    are_words(s, points, PLACE, same)
+}
+
+// The words at the start of a record, behind its bytes.
+#[derive(Clone, Copy)]
+struct Head {
+    threshold: u64,
+    seed: u64,
+    lengths: u64,
+    kinds: u64,
+    points: u64,
+    out_lengths: u64,
+    out_kinds: u64,
+    out_points: u64,
+    out_colors: u64,
+    answer: u64,
+    start: u64,
+}
+
+impl Head {
+    fn read(record: &mut Reader) -> Head {
+        let [
+            _,
+            _,
+            threshold,
+            seed,
+            lengths,
+            kinds,
+            points,
+            a,
+            b,
+            c,
+            d,
+            answer,
+            start,
+        ] = record.words::<13>();
+        Head {
+            threshold,
+            seed,
+            lengths,
+            kinds,
+            points,
+            out_lengths: a,
+            out_kinds: b,
+            out_points: c,
+            out_colors: d,
+            answer,
+            start,
+        }
+    }
+
+    // How many contours, edges, colours and point places the result has: none where the call is refused.
+    fn result_sizes(&self, call: Call) -> [usize; 4] {
+        if self.answer / REFUSED == 1 {
+            return [0; 4];
+        }
+        let edges = (self.answer % COUNT) as usize;
+        match call {
+            Call::Outline(Entry::Directions) => [0, 0, 2 * edges, 4 * edges],
+            _ => [self.lengths as usize, edges, edges, 8 * edges],
+        }
     }
 }
 
-fn put_point(t: &mut [f64], i: usize, x: f64) {
-    if i < t.len() {
-        t[i] = x;
-    }
+// What goes into a colouring.
+#[derive(Clone, Copy)]
+struct Input<'a> {
+    outline: OutlineBuffers<'a>,
+    threshold: f64,
+    seed: u64,
+    distances: &'a [f64],
 }
 
-// Puts the words of s at the start of t, as contour lengths.
-fn load_lengths(s: &[u8], t: &mut [u16]) {
-    let mut at = 0;
-    let mut i = 0;
-    while 8 <= s.len() - at {
-        put_length(t, i, narrow(word(s, at)));
-        at += 8;
-        i += 1;
-    }
-}
-
-// The same as point places.
-fn load_points(s: &[u8], t: &mut [f64]) {
-    let mut at = 0;
-    let mut i = 0;
-    while 8 <= s.len() - at {
-        put_point(t, i, number(s, at));
-        at += 8;
-        i += 1;
-    }
-}
-
-// n, or 0 where it is above the most that there can be.
-fn within(n: usize, most: usize) -> usize
-    ensures { result ≤ most }
+// A colouring by a strategy, the collecting pass, and a colouring by distance.
+fn by_strategy<F>(color: F, i: Input, out: &mut ResultBuffers) -> u64
+where
+    F: FnOnce(&[u16], &[u8], &[f64], f64, u64, &mut [u16], &mut [u8], &mut [f64], &mut [u8]) -> u64,
+    requires { F.IsAlwaysCallable color }
 {
-    if n <= most { n } else { 0 }
-}
-
-// ---- the call
-
-// Makes the call of the record at the start of s by the balanced division, on these buffers.
-fn call_balanced(
-    s: &[u8],
-    lengths: &[u16],
-    kinds: &[u8],
-    points: &[f64],
-    distances: &[f64],
-    out_lengths: &mut [u16],
-    out_kinds: &mut [u8],
-    out_points: &mut [f64],
-    out_colors: &mut [u8],
-) -> u64 {
-    let threshold = number(s, 16);
-    let seed = word(s, 24);
-    let f = word(s, 0);
-    if f == 73 {
-        return merelsplum_edge_coloring_simple_balanced(
-            lengths,
-            kinds,
-            points,
-            threshold,
-            seed,
-            out_lengths,
-            out_kinds,
-            out_points,
-            out_colors,
-        );
-    }
-    if f == 74 {
-        return merelsplum_edge_coloring_ink_trap_balanced(
-            lengths,
-            kinds,
-            points,
-            threshold,
-            seed,
-            out_lengths,
-            out_kinds,
-            out_points,
-            out_colors,
-        );
-    }
-    if f == 75 {
-        return merelsplum_collect_splines_balanced(
-            lengths,
-            kinds,
-            points,
-            threshold,
-            out_lengths,
-            out_kinds,
-            out_points,
-            out_colors,
-        );
-    }
-    merelsplum_edge_coloring_by_distance_balanced(
-        lengths,
-        kinds,
-        points,
-        threshold,
-        seed,
-        distances,
-        out_lengths,
-        out_kinds,
-        out_points,
-        out_colors,
+    color(
+        i.outline.lengths,
+        i.outline.kinds,
+        i.outline.points,
+        i.threshold,
+        i.seed,
+        out.lengths,
+        out.kinds,
+        out.points,
+        out.colors,
     )
 }
 
-// Makes the call of the record at the start of s, on these buffers.
-fn call(
-    s: &[u8],
-    lengths: &[u16],
-    kinds: &[u8],
-    points: &[f64],
-    distances: &[f64],
-    out_lengths: &mut [u16],
-    out_kinds: &mut [u8],
-    out_points: &mut [f64],
-    out_colors: &mut [u8],
-) -> u64 {
-    let threshold = number(s, 16);
-    let seed = word(s, 24);
-    let f = word(s, 0);
-    if f == 65 {
-        return merelsplum_edge_coloring_simple(
-            lengths,
-            kinds,
-            points,
-            threshold,
-            seed,
-            out_lengths,
-            out_kinds,
-            out_points,
-            out_colors,
-        );
-    }
-    if f == 66 {
-        return merelsplum_edge_coloring_ink_trap(
-            lengths,
-            kinds,
-            points,
-            threshold,
-            seed,
-            out_lengths,
-            out_kinds,
-            out_points,
-            out_colors,
-        );
-    }
-    if f == 67 {
-        return merelsplum_collect_splines(
-            lengths,
-            kinds,
-            points,
-            threshold,
-            out_lengths,
-            out_kinds,
-            out_points,
-            out_colors,
-        );
-    }
-    if f == 72 {
-        return merelsplum_edge_directions(lengths, kinds, points, out_points, out_colors);
-    }
-    if 72 < f {
-        return call_balanced(
-            s,
-            lengths,
-            kinds,
-            points,
-            distances,
-            out_lengths,
-            out_kinds,
-            out_points,
-            out_colors,
-        );
-    }
-    merelsplum_edge_coloring_by_distance(
-        lengths,
-        kinds,
-        points,
-        threshold,
-        seed,
-        distances,
-        out_lengths,
-        out_kinds,
-        out_points,
-        out_colors,
-    )
-}
-
-// The same on the parts of these buffers that have the recorded lengths, and on n distances.
-fn call_on_parts(
-    s: &[u8],
-    lengths: &[u16],
-    kinds: &[u8],
-    points: &[f64],
-    distances: &[f64],
-    n: usize,
-    out_lengths: &mut [u16],
-    out_kinds: &mut [u8],
-    out_points: &mut [f64],
-    out_colors: &mut [u8],
-) -> u64 {
-    let h = within(n, distances.len());
-    let a = size(s, 32, lengths.len());
-    let b = size(s, 40, kinds.len());
-    let c = size(s, 48, points.len());
-    let d = size(s, 56, out_lengths.len());
-    let e = size(s, 64, out_kinds.len());
-    let f = size(s, 72, out_points.len());
-    let g = size(s, 80, out_colors.len());
-    call(
-        s,
-        &lengths[..a],
-        &kinds[..b],
-        &points[..c],
-        &distances[..h],
-        &mut out_lengths[..d],
-        &mut out_kinds[..e],
-        &mut out_points[..f],
-        &mut out_colors[..g],
-    )
-}
-
-// How many distances go in: what stands between the place at and the result.
-fn distance_count(s: &[u8], at: usize) -> usize
-    ensures { result ≤ 2020 }
+fn collected<F>(collect: F, i: Input, out: &mut ResultBuffers) -> u64
+where
+    F: FnOnce(&[u16], &[u8], &[f64], f64, &mut [u16], &mut [u8], &mut [f64], &mut [u8]) -> u64,
+    requires { F.IsAlwaysCallable collect }
 {
-    let end = size(s, 96, 300000);
-    if end < at {
-        return 0;
-    }
-    within((end - at) / 8, 2020)
+    collect(
+        i.outline.lengths,
+        i.outline.kinds,
+        i.outline.points,
+        i.threshold,
+        out.lengths,
+        out.kinds,
+        out.points,
+        out.colors,
+    )
 }
 
-// Makes the call of the record at the start of s, with results to these buffers.
-fn color(
-    s: &[u8],
-    out_lengths: &mut [u16],
-    out_kinds: &mut [u8],
-    out_points: &mut [f64],
-    out_colors: &mut [u8],
-) -> u64 {
-    let mut lengths = [0u16; 80];
-    let mut kinds = [0u8; 264];
+fn by_distance<F>(color: F, i: Input, out: &mut ResultBuffers) -> u64
+where
+    F: FnOnce(
+        &[u16],
+        &[u8],
+        &[f64],
+        f64,
+        u64,
+        &[f64],
+        &mut [u16],
+        &mut [u8],
+        &mut [f64],
+        &mut [u8],
+    ) -> u64,
+    requires { F.IsAlwaysCallable color }
+{
+    color(
+        i.outline.lengths,
+        i.outline.kinds,
+        i.outline.points,
+        i.threshold,
+        i.seed,
+        i.distances,
+        out.lengths,
+        out.kinds,
+        out.points,
+        out.colors,
+    )
+}
+
+fn call_on(entry: Entry, input: Input, out: &mut ResultBuffers) -> u64 {
+    match entry {
+        Entry::Simple => by_strategy(merelsplum_edge_coloring_simple, input, out),
+        Entry::InkTrap => by_strategy(merelsplum_edge_coloring_ink_trap, input, out),
+        Entry::CollectSplines => collected(merelsplum_collect_splines, input, out),
+        Entry::ByDistance => by_distance(merelsplum_edge_coloring_by_distance, input, out),
+        Entry::Directions => merelsplum_edge_directions(
+            input.outline.lengths,
+            input.outline.kinds,
+            input.outline.points,
+            out.points,
+            out.colors,
+        ),
+        Entry::SimpleBalanced => by_strategy(merelsplum_edge_coloring_simple_balanced, input, out),
+        Entry::InkTrapBalanced => by_strategy(
+            merelsplum_edge_coloring_ink_trap_balanced,
+            input,
+            out,
+        ),
+        Entry::CollectSplinesBalanced => collected(merelsplum_collect_splines_balanced, input, out),
+        Entry::ByDistanceBalanced => by_distance(
+            merelsplum_edge_coloring_by_distance_balanced,
+            input,
+            out,
+        ),
+    }
+}
+
+// Makes the call of an entry on the outline that goes in, whose end are the distances.
+fn call_entry(entry: Entry, head: &Head, mut record: Reader, out: &mut ResultBuffers) -> u64 {
+    let mut lengths = [0; 80];
     let mut points = [0.0; 2120];
     let mut distances = [0.0; 2020];
-    let l = size(s, 32, 80);
-    let k = size(s, 40, 264);
-    let p = size(s, 48, 2120);
-    let from = 104 + 8 * l;
-    load_lengths(part(s, 104, 8 * l), &mut lengths);
-    load(part(s, from, k), &mut kinds);
-    load_points(part(s, from + k, 8 * p), &mut points);
-    let at = from + k + 8 * p;
-    let d = distance_count(s, at);
-    load_points(part(s, at, 8 * d), &mut distances);
-    call_on_parts(
-        s,
-        &lengths,
-        &kinds,
-        &points,
-        &distances,
-        d,
-        out_lengths,
-        out_kinds,
-        out_points,
-        out_colors,
-    )
+    let outline = OutlineBuffers {
+        lengths: load_words(
+            record.words_of(head.lengths as usize),
+            &mut lengths,
+            |w| (w % 65536) as u16,
+        ),
+        kinds: record.part(head.kinds as usize),
+        points: load_words(record.words_of(head.points as usize), &mut points, float),
+    };
+    let input = Input {
+        outline,
+        threshold: float(head.threshold),
+        seed: head.seed,
+        distances: load_words(record.rest, &mut distances, float),
+    };
+    call_on(entry, input, out)
 }
 
-// The same where it is that of a job file.
-fn color_file(
-    s: &[u8],
-    out_lengths: &mut [u16],
-    out_kinds: &mut [u8],
-    out_points: &mut [f64],
-    out_colors: &mut [u8],
-) -> u64 {
-    let d = size(s, 56, out_lengths.len());
-    let e = size(s, 64, out_kinds.len());
-    let f = size(s, 72, out_points.len());
-    let g = size(s, 80, out_colors.len());
-    let file = part(s, 104, size(s, 16, 65536));
-    merelsplum_job_color(
-        file,
-        &mut out_lengths[..d],
-        &mut out_kinds[..e],
-        &mut out_points[..f],
-        &mut out_colors[..g],
-    )
+fn call_file(file: &[u8], out: &mut ResultBuffers) -> u64 {
+    merelsplum_job_color(file, out.lengths, out.kinds, out.points, out.colors)
 }
 
-fn answer(
-    s: &[u8],
-    out_lengths: &mut [u16],
-    out_kinds: &mut [u8],
-    out_points: &mut [f64],
-    out_colors: &mut [u8],
-) -> u64 {
-    if word(s, 0) == 71 {
-        return color_file(s, out_lengths, out_kinds, out_points, out_colors);
+// Makes a call with what goes in, an outline or a job file.
+fn make(call: Call, head: &Head, mut input: Reader, out: &mut ResultBuffers) -> u64 {
+    match call {
+        Call::Outline(entry) => call_entry(entry, head, input, out),
+        Call::JobFile => call_file(input.part(head.threshold as usize), out),
     }
-    color(s, out_lengths, out_kinds, out_points, out_colors)
 }
 
-// ---- the result
-
-fn wide(x: u16) -> u64 {
-    x as u64
+// What the four result buffers hold after a call.
+#[derive(Clone, Copy)]
+struct Written<'a> {
+    lengths: &'a [u16],
+    kinds: &'a [u8],
+    points: &'a [f64],
+    colors: &'a [u8],
 }
 
-// The word of s from at on, or another where s ends before.
-fn word_or(s: &[u8], at: usize, other: u64) -> u64 {
-    if at < s.len() { word(s, at) } else { other }
-}
-
-// Whether a buffer holds what s records, and after that what stood there before.
-pub(crate) fn is_lengths(s: &[u8], lengths: &[u16]) -> bool
-    requires { length lengths.now ≤ 4100 }
-{
-    let mut i = 0;
-    while i < lengths.len() {
-        if wide(lengths[i]) != word_or(s, 8 * i, wide(LENGTH)) {
-            return false;
-        }
-        i += 1;
+impl Written<'_> {
+    // Whether it is what a record goes on with: contours, edges, colours and point places, so many.
+    fn is_next(self, mut record: Reader, [contours, edges, marks, places]: [usize; 4]) -> bool {
+        are_lengths(record.words_of(contours), self.lengths)
+            && are_bytes(record.part(edges), self.kinds, BYTE)
+            && are_bytes(record.part(marks), self.colors, BYTE)
+            && are_points(record.words_of(places), self.points)
     }
-    true
 }
 
-pub(crate) fn is_points(s: &[u8], points: &[f64]) -> bool
-    requires { length points.now ≤ 4100 }
-{
-    let mut i = 0;
-    while i < points.len() {
-        if !same(points[i], word_or(s, 8 * i, PLACE)) {
-            return false;
-        }
-        i += 1;
-    }
-    true
-}
-
-pub(crate) fn is_bytes(s: &[u8], bytes: &[u8]) -> bool {
-    let mut expected = [BYTE; 540];
-    load(s, &mut expected);
-    bytes == expected.as_slice()
-}
-
-// Whether four buffers hold the result of l contours, n kinds, m colours and p point places at the place at of s.
-fn is_result(
-    s: &[u8],
-    at: usize,
-    l: usize,
-    n: usize,
-    m: usize,
-    p: usize,
-    lengths: &[u16],
-    kinds: &[u8],
-    points: &[f64],
-    colors: &[u8],
-) -> bool
-    requires places { (at ≤ 300000) × (l ≤ 80) × (n ≤ 540) × (m ≤ 1080) × (p ≤ 4320) }
-    requires buffers { (length lengths.now ≤ 4100) × (length points.now ≤ 4100) }
-{
-    let from = at + 8 * l;
-    if !is_lengths(part(s, at, 8 * l), lengths) {
-        return false;
-    }
-    if !is_bytes(part(s, from, n), kinds) {
-        return false;
-    }
-    if !is_bytes(part(s, from + n, m), colors) {
-        return false;
-    }
-    is_points(part(s, from + n + m, 8 * p), points)
-}
-
-fn is_refusal(answer: u64) -> bool {
-    answer / 4294967296 == 1
-}
-
-// The contours, the kinds, the colours and the point places of the result that the record at the start of s has: none
-// where the call is refused. Directions have colours, two an edge, and point places, four an edge.
-fn contours(s: &[u8]) -> usize
-    ensures { result ≤ 80 }
-{
-    if is_refusal(word(s, 88)) {
-        return 0;
-    }
-    if word(s, 0) == 72 {
-        return 0;
-    }
-    size(s, 32, 80)
-}
-
-fn answered(s: &[u8]) -> usize
-    ensures { result ≤ 540 }
-{
-    if is_refusal(word(s, 88)) {
-        return 0;
-    }
-    within((word(s, 88) % 65536) as usize, 540)
-}
-
-fn edges(s: &[u8]) -> usize
-    ensures { result ≤ 540 }
-{
-    if word(s, 0) == 72 {
-        return 0;
-    }
-    answered(s)
-}
-
-fn marks(s: &[u8]) -> usize
-    ensures { result ≤ 1080 }
-{
-    if word(s, 0) == 72 {
-        return 2 * answered(s);
-    }
-    answered(s)
-}
-
-fn places(s: &[u8]) -> usize
-    ensures { result ≤ 4320 }
-{
-    if word(s, 0) == 72 {
-        return 4 * answered(s);
-    }
-    8 * answered(s)
-}
-
-// Makes the call of the record at the start of s: whether its answer and all four buffers are as recorded.
-pub(crate) fn is_right(s: &[u8]) -> bool {
+// Makes the call of the record s: whether its answer and all four buffers are as recorded.
+pub(crate) fn is_right(s: &[u8], call: Call) -> bool {
+    let mut record = Reader::new(s);
+    let head = Head::read(&mut record);
+    let input = Reader::new(record.part(size(head.start, s.len()).saturating_sub(104)));
     let mut lengths = [LENGTH; 90];
     let mut kinds = [BYTE; 540];
     let mut points = [float(PLACE); 4100];
     let mut colors = [BYTE; 540];
-    if answer(s, &mut lengths, &mut kinds, &mut points, &mut colors) != word(s, 88) {
-        return false;
-    }
-    is_result(
-        s,
-        size(s, 96, 300000),
-        contours(s),
-        edges(s),
-        marks(s),
-        places(s),
-        &lengths,
-        &kinds,
-        &points,
-        &colors,
-    )
+    let mut out = ResultBuffers {
+        lengths: &mut lengths[..size(head.out_lengths, 90)],
+        kinds: &mut kinds[..size(head.out_kinds, 540)],
+        points: &mut points[..size(head.out_points, 4100)],
+        colors: &mut colors[..size(head.out_colors, 540)],
+    };
+    let answer = make(call, &head, input, &mut out);
+    let written = Written {
+        lengths: &lengths,
+        kinds: &kinds,
+        points: &points,
+        colors: &colors,
+    };
+    answer == head.answer && written.is_next(record, head.result_sizes(call))
 }

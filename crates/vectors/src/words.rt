@@ -1,76 +1,144 @@
-// Words, floats and parts out of bytes, and the comparison of a float with a recorded pattern. The records of one part
+// Words, floats and parts out of bytes, and whether a value is the one that a word records. The records of one part
 // follow a heading: a word of ones and the part's name, 16 bytes.
-ghost use Rattle.std.specs.Prelude.{◌≡◌, ◌+◌, ◌≤◌, ◌<◌, length};
-ghost use Rattle.vectors.specs.Words.{half_at, word_at, matches};
+ghost use Rattle.std.specs.Prelude.{◌≡◌, ◌≤◌};
+ghost use Rattle.vectors.specs.Words.{word_at, matches};
 
 use math::bits::float;
-
-fn wide(x: u8) -> u64
-    ensures { (result ≡ x) × (result < 256) }
-{
-    x as u64
-}
-
-// Four bytes from at on as a number, the lowest first.
-fn half(s: &[u8], at: usize) -> u64
-    requires { at + 4 ≤ length s.now }
-    ensures { (result ≡ half_at s.now at) × (result < 4294967296) }
-{
-    wide(s[at]) + 256 * wide(s[at + 1]) + 65536 * wide(s[at + 2]) + 16777216 * wide(s[at + 3])
-}
+use math::vector2::Vector2;
 
 // The word of eight bytes from at on, the lowest first, and 0 where s ends before.
+#[tactic(auto, unfolding(crate::specs::Words::word_at))]
 pub(crate) fn word(s: &[u8], at: usize) -> u64
     ensures { result ≡ word_at s.now at }
 {
-    if s.len() < 8 {
-        return 0;
+    if let Some(rest) = s.get(at..)
+        && let Some(bytes) = rest.first_chunk()
+    {
+        return u64::from_le_bytes(*bytes);
     }
-    if s.len() - 8 < at {
-        return 0;
-    }
-    half(s, at) + 4294967296 * half(s, at + 4)
+    0
 }
 
-// The float whose pattern is recorded at the place at of s.
-pub(crate) fn number(s: &[u8], at: usize) -> f64 {
-    float(word(s, at))
+// What is left of a record, read from its start on.
+#[derive(Clone, Copy)]
+pub(crate) struct Reader<'a> {
+    pub(crate) rest: &'a [u8],
+}
+
+impl<'a> Reader<'a> {
+    pub(crate) fn new(s: &'a [u8]) -> Reader<'a> {
+        Reader { rest: s }
+    }
+
+    // The next len bytes, or none where fewer are left.
+    pub(crate) fn part(&mut self, len: usize) -> &'a [u8] {
+        match self.rest.split_at_checked(len) {
+            Some((part, rest)) => {
+                self.rest = rest;
+                part
+            }
+            None => &[],
+        }
+    }
+
+    // The bytes of the next count words.
+    pub(crate) fn words_of(&mut self, count: usize) -> &'a [u8] {
+        self.part(count.saturating_mul(8))
+    }
+
+    // The next words, each 0 where none is left.
+    pub(crate) fn words<const N: usize>(&mut self) -> [u64; N] {
+        let mut words = [0; N];
+        for place in words.iter_mut() {
+            *place = word(self.part(8), 0);
+        }
+        words
+    }
 }
 
 // Whether x is the float of the recorded pattern, bit for bit; one NaN is as good as another.
+#[tactic(auto, unfolding(crate::specs::Words::matches))]
 pub(crate) fn same(x: f64, bits: u64) -> bool
     ensures { result ≡ matches x bits }
 {
-    if x != x {
+    if x.is_nan() {
         return 0x7FF0_0000_0000_0000 < bits % 0x8000_0000_0000_0000;
     }
     f64::to_bits(x) == bits
 }
 
-// A number that is recorded at the place at of s, or 0 where it is above the most that there can be.
-pub(crate) fn size(s: &[u8], at: usize, most: usize) -> usize
+pub(crate) fn is_vector(v: Vector2, x: u64, y: u64) -> bool {
+    same(v.x, x) && same(v.y, y)
+}
+
+pub(crate) fn vector(x: u64, y: u64) -> Vector2 {
+    Vector2 {
+        x: float(x),
+        y: float(y),
+    }
+}
+
+// A recorded number, or 0 where it is above the most that there can be.
+pub(crate) fn size(w: u64, most: usize) -> usize
     ensures { result ≤ most }
 {
-    let w = word(s, at);
     if w <= most as u64 { w as usize } else { 0 }
 }
 
-// The part of s of len bytes from at on, or none where s ends before.
-pub(crate) fn part(s: &[u8], at: usize, len: usize) -> &[u8]
-    ensures { length result.now ≤ len }
-{
-    if at <= s.len() {
-        if len <= s.len() - at {
-            let end = at + len;
-            return &s[at..end];
-        }
+// Puts s at the start of t, where it fits: the part of t that has it.
+pub(crate) fn load<'t>(s: &[u8], t: &'t mut [u8]) -> &'t mut [u8] {
+    if t.len() < s.len() {
+        return &mut t[..0];
     }
-    &s[..0]
+    let start = &mut t[..s.len()];
+    start.copy_from_slice(s);
+    start
 }
 
-// Puts s at the start of t, where it fits.
-pub(crate) fn load(s: &[u8], t: &mut [u8]) {
-    if s.len() <= t.len() {
-        t[..s.len()].copy_from_slice(s);
+// Puts the values of the words of s at the start of t, where all fit: the part of t that has them.
+pub(crate) fn load_words<'t, T: Drop, F: Fn(u64) -> T>(
+    s: &[u8],
+    t: &'t mut [T],
+    value: F,
+) -> &'t [T]
+    requires { F.IsAlwaysCallable value }
+{
+    let words = s.as_chunks().0;
+    if t.len() < words.len() {
+        return &[];
     }
+    let start = &mut t[..words.len()];
+    for (place, bytes) in start.iter_mut().zip(words) {
+        *place = value(u64::from_le_bytes(*bytes));
+    }
+    start
+}
+
+// Whether a buffer holds the bytes of s, and after them what stood there before.
+pub(crate) fn are_bytes(s: &[u8], buffer: &[u8], before: u8) -> bool {
+    match buffer.strip_prefix(s) {
+        Some(rest) => rest.iter().all(|x| *x == before),
+        None => false,
+    }
+}
+
+// The same for the values of the words of s.
+pub(crate) fn are_words<T: Copy, F: Fn(T, u64) -> bool>(
+    s: &[u8],
+    buffer: &[T],
+    before: u64,
+    is: F,
+) -> bool
+    requires { F.IsAlwaysCallable is }
+{
+    let recorded = s.as_chunks().0;
+    if buffer.len() < recorded.len() {
+        return false;
+    }
+    let (start, rest) = buffer.split_at(recorded.len());
+    start
+        .iter()
+        .zip(recorded)
+        .all(|(x, bytes)| is(*x, u64::from_le_bytes(*bytes)))
+        && rest.iter().all(|x| is(*x, before))
 }

@@ -1,4 +1,5 @@
 // The export that the comparison with the Rust calls: the function of `vectors` that has its name, with its clause.
+// Kept apart from `vectors`: a crate is a library or an archive, and `replay` uses `vectors`.
 #![tactic(auto)]
 
 ghost use Rattle.std.specs.Prelude.{cond, ◌≤◌};

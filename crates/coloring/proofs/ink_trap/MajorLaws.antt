@@ -1,11 +1,10 @@
 -- Where no corner is minor, as with two or three corners, ink-trap colouring gives the colours of simple colouring.
 use mathlib.Core.Path.{◌≡◌, refl, ap, sym, ◌∙◌}
-use mathlib.Core.Bool.{Bool, true, false, cond}
+use mathlib.Core.Bool.{false, cond}
 use mathlib.Core.List.{List, [], ◌∷◌, map}
 use Prim.Native.Nat.{ℕ, zero, suc, ◌+◌, ◌-◌, ◌%◌, ◌^◌, ◌≤◌, ◌<◌}
 use native.Mathlib.Nat.{zero-mul}
 use native.Mathlib.Omega.{arith}
-use lib.Dec.{eqb}
 use lib.Ieee.{Float}
 use lib.ListN.{length, get_or}
 use Rattle.geometry.specs.declared.edge_color.EdgeColor.{EdgeColor}
@@ -35,11 +34,7 @@ none-shared Cyan = refl
 none-shared White = refl
 
 never_banned : (left : ℕ) → banned_before Black left ≡ Black
-never_banned left = either (eqb left 0)
-  where
-    either : (b : Bool) → cond b Black Black ≡ Black
-    either true = refl
-    either false = refl
+never_banned left = grind arith
 
 banned_black : (left : ℕ) (pen : Pen) → switch_color_banned (banned_before Black left) pen ≡ switch_color pen
 unfolding switch_color_banned
@@ -54,11 +49,7 @@ black_stays pen e = rw (e, zero-mul (2 ^ (1 + (seed_extract2 pen.seed).value)))
 -- the first of them, and those after it
 heads : (k : InkTrapCorner) (cs : List InkTrapCorner) → major_count (k ∷ cs) ≡ length (k ∷ cs) → (k.minor ≡ false) × (major_count cs ≡ length cs)
 unfolding major_count
-heads k cs e = at k.minor e (majors_most cs)
-  where
-    at : (m : Bool) → cond m 0 1 + major_count cs ≡ suc (length cs) → major_count cs ≤ length cs → (m ≡ false) × (major_count cs ≡ length cs)
-    at true e h = absurd (omega arith)
-    at false e h = (refl, omega arith)
+heads k cs e = (grind (arith, majors_most cs), grind (arith, majors_most cs))
 
 all_major : (cs : List InkTrapCorner) → major_count cs ≡ length cs → (i : ℕ) → (get_or cs i no_corner).minor ≡ false
 all_major [] e i = refl

@@ -16,7 +16,7 @@ use Rattle.coloring.specs.Corners.{Cornered, estimate_edge_length, corners_from,
 use Rattle.coloring.specs.Outline.{any_edge}
 use Rattle.coloring.specs.InkTrap.{Measured, corner_at, major_count, measure_from, measure_corners}
 
-abbrev longer : Float → EdgeSegment → Float
+abbrev pub longer : Float → EdgeSegment → Float
 longer s e = Ieee.add binary64 s (estimate_edge_length e)
 
 -- `count` corners stand in the array, and the edges from `index` on are still to be measured
@@ -36,15 +36,12 @@ module _ (count index : ℕ) (s : Float) (array : List InkTrapCorner) (edges : L
   measuring-ends h = rw (drop_of_length-le edges {i = index} h, append-nil)
 
   module _ (h : index < length edges) (l : index < length flags) where
-    -- k and `estimate` are what the calls answer, array', count' and s' what stands after them
-    pub measuring_corner : {k : InkTrapCorner} {array' : List InkTrapCorner} {count' : ℕ} {s' estimate : Float}
-        → count < length array → get_or flags index false ≡ true → k ≡ corner_at index s → array' ≡ set array count k → s' ≡ f0 → count' ≡ count + 1
-        → estimate ≡ estimate_edge_length (get_or edges index any_edge)
-        → measuring count index s array edges flags ≡ measuring count' (index + 1) (Ieee.add binary64 s' estimate) array' edges flags
+    pub measuring_corner : count < length array → get_or flags index false ≡ true
+        → measuring count index s array edges flags
+        ≡ measuring (count + 1) (index + 1) (longer f0 (get_or edges index any_edge)) (set array count (corner_at index s)) edges flags
     unfolding measuring measure_from
-    measuring_corner r t k array-is s-is count-is estimate-is =
-        rw (array-is, s-is, count-is, estimate-is, k)
-        (rw (
+    measuring_corner r t =
+        rw (
           drop-cons edges index any_edge h,
           drop-cons flags index false l,
           t,
@@ -52,14 +49,12 @@ module _ (count index : ℕ) (s : Float) (array : List InkTrapCorner) (edges : L
           add-one index,
           take-suc-set array count (corner_at index s) r,
           append_snoc,
-        ))
+        )
 
-    pub measuring-edge : {array' : List InkTrapCorner} {count' : ℕ} {s' estimate : Float} → get_or flags index false ≡ false
-        → array' ≡ array → s' ≡ s → count' ≡ count → estimate ≡ estimate_edge_length (get_or edges index any_edge)
-        → measuring count index s array edges flags ≡ measuring count' (index + 1) (Ieee.add binary64 s' estimate) array' edges flags
+    pub measuring-edge : get_or flags index false ≡ false
+        → measuring count index s array edges flags ≡ measuring count (index + 1) (longer s (get_or edges index any_edge)) array edges flags
     unfolding measuring measure_from
-    measuring-edge t array-is s-is count-is estimate-is =
-        rw (array-is, s-is, count-is, estimate-is, drop-cons edges index any_edge h, drop-cons flags index false l, t, add-one index)
+    measuring-edge t = rw (drop-cons edges index any_edge h, drop-cons flags index false l, t, add-one index)
 
 -- ---- what is known of measured corners
 

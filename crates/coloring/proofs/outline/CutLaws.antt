@@ -2,15 +2,16 @@
 use mathlib.Core.Path.{◌≡◌, refl, ap}
 use mathlib.Core.Bool.{Bool}
 use mathlib.Core.List.{List, [], ◌∷◌, map}
-use Prim.Native.Nat.{ℕ, suc, ◌+◌, ◌≤◌, ◌<◌}
+use Prim.Native.Nat.{ℕ, suc, ◌+◌, ◌-◌, ◌≤◌, ◌<◌}
 use native.Mathlib.Omega.{arith}
 use native.Mathlib.Numerals.{add-one}
 use lib.ListN.{length, get_or, take, drop, length-drop, drop_of_length-le}
 use lib.Seq.{drop-cons, drop-drop, length-take-le}
 use Rattle.geometry.specs.declared.edge_segment.EdgeSegment.{EdgeSegment}
 use Rattle.coloring.specs.Places.{total}
-use Rattle.coloring.specs.Corners.{cornered}
+use Rattle.coloring.specs.Corners.{Cornered, cornered}
 use Rattle.coloring.specs.Outline.{cut}
+use Rattle.coloring.specs.Contours.{part}
 use Rattle.coloring.specs.Sizes.{sizes}
 use Rattle.coloring.proofs.outline.CheckLaws.{total-step}
 
@@ -67,10 +68,20 @@ module _ {A : Type 0} where
   cut-sizes [] xs h = refl
   cut-sizes (n ∷ lengths) xs h = rw (length-take-le n xs (omega arith), cut-sizes lengths (drop n xs) (rw length-drop (omega arith)))
 
+-- the contour at i, of the edges from `at` on; as the part up to its end
+abbrev pub next_part : List ℕ → List EdgeSegment → List Bool → ℕ → ℕ → Cornered
+next_part lengths xs flags at i = record { edges = take (get_or lengths i 0) (drop at xs); corners = take (get_or lengths i 0) (drop at flags) }
+
+pub part-next : (lengths : List ℕ) (contour : Cornered) (at i : ℕ)
+    → part contour at (at + get_or lengths i 0) ≡ next_part lengths contour.edges contour.corners at i
+part-next lengths contour at i =
+    let n : at + get_or lengths i 0 - at ≡ get_or lengths i 0 = omega arith in
+    rw n
+
 module _ (lengths : List ℕ) (xs : List EdgeSegment) (flags : List Bool) (i at : ℕ) where
   pub cornered-step : i < length lengths
       → cornered (drop i lengths) (drop at xs) (drop at flags)
-      ≡ record { edges = take (get_or lengths i 0) (drop at xs); corners = take (get_or lengths i 0) (drop at flags) }
+      ≡ next_part lengths xs flags at i
       ∷ cornered (drop (i + 1) lengths) (drop (at + get_or lengths i 0) xs) (drop (at + get_or lengths i 0) flags)
   unfolding cornered
   cornered-step h = rw (add-one, drop-cons lengths i 0 h, ← drop-drop (get_or lengths i 0) at xs, ← drop-drop (get_or lengths i 0) at flags)

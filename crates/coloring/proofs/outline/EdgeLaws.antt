@@ -1,14 +1,13 @@
 -- The edges of outline buffers: as many as kinds, each from its own eight places, and those of a part of the buffers.
 use mathlib.Core.Path.{◌≡◌, refl, ap}
 use mathlib.Core.List.{List, [], ◌∷◌}
-use mathlib.Core.Bool.{Bool}
 use Prim.Native.Nat.{ℕ, zero, suc, ◌+◌, ◌-◌, ◌*◌, ◌≤◌, ◌<◌}
 use native.Mathlib.Omega.{arith}
 use lib.Ieee.{Float}
-use lib.ListN.{length, take, drop, get_or, length-take, length-drop}
+use lib.ListN.{length, take, drop, get_or}
 use lib.Seq.{drop-drop, take-take}
 use Rattle.geometry.specs.declared.edge_segment.EdgeSegment.{EdgeSegment}
-use Rattle.coloring.specs.Outline.{edge_stored, edges_of, Matching, Part}
+use Rattle.coloring.specs.Outline.{edge_stored, edges_of}
 use Rattle.coloring.proofs.Lists.{drop-take}
 
 pub edges-length : (kinds : List ℕ) (points : List Float) → length (edges_of kinds points) ≡ length kinds
@@ -52,12 +51,3 @@ pub edges-between : (at end : ℕ) (kinds : List ℕ) (points : List Float) → 
 edges-between at end kinds points h =
     let m : 8 * end - 8 * at ≡ 8 * (end - at) = omega arith in
     rw m (edges-part at (end - at) kinds points)
-
-pub part-matching : {kinds : List ℕ} {points : List Float} {flags : List Bool} {at end : ℕ} → Part kinds points flags at end
-    → Matching (take (end - at) (drop at kinds)) (take (8 * end - 8 * at) (drop (8 * at) points)) (take (end - at) (drop at flags))
-part-matching p =
-    record {
-      places = simp (length-take, length-drop) (omega (arith, p.matching.places));
-      flagged = simp (length-take, length-drop) (omega (arith, p.matching.flagged));
-      few = simp (length-take, length-drop) (omega (arith, p.matching.few));
-    }

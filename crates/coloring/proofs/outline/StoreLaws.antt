@@ -1,17 +1,16 @@
--- Edges that are being stored in two buffers: kinds, and eight point places an edge.
+-- Edges that are written to the buffers of a result: kinds, and eight point places an edge.
 use mathlib.Core.Path.{◌≡◌, refl, sym, ap, ◌∙◌}
 use mathlib.Core.List.{List, [], ◌∷◌, ◌++◌, map, map-append, append_assoc, flatten}
 use Prim.Native.Nat.{ℕ, ◌+◌, ◌*◌, ◌≤◌}
 use native.Mathlib.Omega.{arith}
-use lib.Ieee.{Float}
-use lib.ListN.{length, set, length-append, length-set, length-map}
+use lib.ListN.{length, length-map}
 use Rattle.geometry.specs.declared.edge_segment.EdgeSegment.{EdgeSegment}
-use Rattle.coloring.specs.Lists.{over_from}
-use Rattle.coloring.proofs.Writing.{over-length, over_nothing, over-more, over-next, over-all}
-use Rattle.coloring.specs.Outline.{kind_stored, places_stored}
-use Rattle.coloring.specs.Sizes.{places-length, points-length}
+use Rattle.coloring.specs.declared.outline.ResultBuffers.{ResultBuffers}
+use Rattle.coloring.proofs.Writing.{over_nothing, over-more}
+use Rattle.coloring.specs.Outline.{kind_stored, places_stored, SameBuffers, StoredFrom}
+use Rattle.coloring.specs.Sizes.{points-length}
 
-flatten-append : {A : Type 0} (xs ys : List (List A)) → flatten (xs ++ ys) ≡ flatten xs ++ flatten ys
+pub flatten-append : {A : Type 0} (xs ys : List (List A)) → flatten (xs ++ ys) ≡ flatten xs ++ flatten ys
 unfolding flatten
 flatten-append [] ys = refl
 flatten-append (x ∷ xs) ys = rw (flatten-append xs ys, append_assoc)
@@ -20,75 +19,65 @@ flatten-append (x ∷ xs) ys = rw (flatten-append xs ys, append_assoc)
 pub points-append : (xs ys : List EdgeSegment) → flatten (map places_stored (xs ++ ys)) ≡ flatten (map places_stored xs) ++ flatten (map places_stored ys)
 points-append xs ys = rw (map-append places_stored xs ys) (flatten-append (map places_stored xs) (map places_stored ys))
 
--- The buffers will be `all_kinds` and `all_points`: i edges are there already, and `rest` is still to be stored after
--- them.
-pub record Storing (all_kinds : List ℕ) (all_points : List Float) (i : ℕ) (kinds : List ℕ) (points : List Float) (rest : List EdgeSegment) : Type 0 where
-  pub room : i + length rest ≤ length kinds
-  pub eightfold : length points ≡ 8 * length kinds
-  pub kinds_so_far : all_kinds ≡ over_from i (map kind_stored rest) kinds
-  pub points_so_far : all_points ≡ over_from (8 * i) (flatten (map places_stored rest)) points
+-- ---- result buffers that are written
 
--- as many edges as the buffers hold
-pub storing_all : (edges : List EdgeSegment) (kinds : List ℕ) (points : List Float) → length kinds ≡ length edges → length points ≡ 8 * length edges
-    → Storing (map kind_stored edges) (flatten (map places_stored edges)) 0 kinds points edges
-storing_all edges kinds points k p =
+pub same_self : (out : ResultBuffers) → SameBuffers out out
+same_self out =
     record {
-      room = omega arith;
-      eightfold = omega arith;
-      kinds_so_far = sym (over-all (map kind_stored edges) kinds (k ∙ sym (length-map edges kind_stored)));
-      points_so_far = sym (over-all (flatten (map places_stored edges)) points (p ∙ sym (points-length edges)));
+      lengths_same = refl;
+      kinds_same = refl;
+      points_same = refl;
+      colors_same = refl;
+      lengths_long = refl;
+      kinds_long = refl;
+      points_long = refl;
+      colors_long = refl;
     }
 
--- some edges from place i on
-pub storing_part : (edges : List EdgeSegment) (i : ℕ) (kinds : List ℕ) (points : List Float)
-    → i + length edges ≤ length kinds → length points ≡ 8 * length kinds
-    → Storing (over_from i (map kind_stored edges) kinds) (over_from (8 * i) (flatten (map places_stored edges)) points) i kinds points edges
-storing_part edges i kinds points h p = record { room = h; eightfold = p; kinds_so_far = refl; points_so_far = refl }
+pub same_again : {a b c : ResultBuffers} → SameBuffers a b → SameBuffers b c → SameBuffers a c
+same_again p q =
+    record {
+      lengths_same = q.lengths_same ∙ p.lengths_same;
+      kinds_same = q.kinds_same ∙ p.kinds_same;
+      points_same = q.points_same ∙ p.points_same;
+      colors_same = q.colors_same ∙ p.colors_same;
+      lengths_long = q.lengths_long ∙ p.lengths_long;
+      kinds_long = q.kinds_long ∙ p.kinds_long;
+      points_long = q.points_long ∙ p.points_long;
+      colors_long = q.colors_long ∙ p.colors_long;
+    }
 
-module _ {all_kinds : List ℕ} {all_points : List Float} {i : ℕ} {kinds : List ℕ} {points : List Float} where
-  -- some edges are stored
-  pub storing_many : (edges rest : List EdgeSegment) (n m : ℕ) → length edges ≡ n → i + n ≡ m → Storing all_kinds all_points i kinds points (edges ++ rest)
-      → Storing all_kinds all_points m (over_from i (map kind_stored edges) kinds) (over_from (8 * i) (flatten (map places_stored edges)) points) rest
-  storing_many edges rest n m l q s =
-      let room : i + (length edges + length rest) ≤ length kinds = rw (length-append edges rest) at s.room in
-      let klong : length (map kind_stored edges) ≡ n = length-map edges kind_stored ∙ l in
-      let plong : length (flatten (map places_stored edges)) ≡ 8 * n = points-length edges ∙ ap (λ k. 8 * k) l in
-      let kept = over-length i n (map kind_stored edges) kinds klong (omega arith) in
-      let eight : 8 * i + 8 * n ≡ 8 * m = omega arith in
-      record {
-        room = rw kept (omega arith);
-        eightfold = rw (kept, over-length (8 * i) (8 * n) (flatten (map places_stored edges)) points plong (omega (arith, s.eightfold))) s.eightfold;
-        kinds_so_far =
-            s.kinds_so_far ∙ rw (map-append kind_stored edges rest, over-more i n (map kind_stored edges) (map kind_stored rest) kinds klong (omega arith), q);
-        points_so_far =
-            s.points_so_far
-            ∙ rw (
-              points-append edges rest,
-              over-more (8 * i) (8 * n) (flatten (map places_stored edges))
-                  (flatten (map places_stored rest)) points plong (omega (arith, s.eightfold)),
-              eight,
-            );
-      }
+pub stored_none : (i : ℕ) (out : ResultBuffers) → StoredFrom i [] out out
+unfolding flatten
+stored_none i out =
+    record {
+      same = same_self out;
+      lengths_are = refl;
+      kinds_are = sym (over_nothing i out.kinds.now);
+      points_are = sym (over_nothing (8 * i) out.points.now);
+      colors_are = refl;
+    }
 
-  -- one edge is stored
-  pub storing_one : (e : EdgeSegment) (rest : List EdgeSegment) (m : ℕ) → i + 1 ≡ m → Storing all_kinds all_points i kinds points (e ∷ rest)
-      → Storing all_kinds all_points m (set kinds i (kind_stored e)) (over_from (8 * i) (places_stored e) points) rest
-  unfolding flatten
-  storing_one e rest m q s =
-      let eight : 8 * i + 8 ≡ 8 * m = omega arith in
-      record {
-        room = simp length-set (omega (arith, s.room));
-        eightfold =
-            rw (over-length (8 * i) 8 (places_stored e) points (places-length e) (omega (arith, s.room, s.eightfold))) (simp length-set s.eightfold);
-        kinds_so_far = s.kinds_so_far ∙ rw (over-next i (kind_stored e) (map kind_stored rest) kinds (omega (arith, s.room)), q);
-        points_so_far =
-            s.points_so_far
-            ∙ rw (
-              over-more (8 * i) 8 (places_stored e) (flatten (map places_stored rest)) points (places-length e) (omega (arith, s.room, s.eightfold)),
-              eight,
-            );
-      }
-
-  pub storing_ends : Storing all_kinds all_points i kinds points [] → (kinds ≡ all_kinds) × (points ≡ all_points)
-  unfolding flatten
-  storing_ends s = (sym (s.kinds_so_far ∙ over_nothing i kinds), sym (s.points_so_far ∙ over_nothing (8 * i) points))
+-- some edges, and others after them
+pub stored_more : {i n m : ℕ} (xs ys : List EdgeSegment) {a b c : ResultBuffers} → length xs ≡ n → i + n ≡ m
+    → m ≤ length a.kinds.now → 8 * m ≤ length a.points.now → StoredFrom i xs a b → StoredFrom m ys b c → StoredFrom i (xs ++ ys) a c
+stored_more {i} {n} {m} xs ys {a} {b} {c} long next kinds_fit points_fit s t =
+    let kinds_long : length (map kind_stored xs) ≡ n = length-map xs kind_stored ∙ long in
+    let points_long : length (flatten (map places_stored xs)) ≡ 8 * n = points-length xs ∙ ap (λ k. 8 * k) long in
+    let eight : 8 * i + 8 * n ≡ 8 * m = omega arith in
+    record {
+      same = same_again s.same t.same;
+      lengths_are = t.lengths_are ∙ s.lengths_are;
+      kinds_are =
+          t.kinds_are
+          ∙ rw (s.kinds_are, map-append kind_stored xs ys, over-more i n (map kind_stored xs) (map kind_stored ys) a.kinds.now kinds_long (omega arith), next);
+      points_are =
+          t.points_are
+          ∙ rw (
+            s.points_are,
+            points-append xs ys,
+            over-more (8 * i) (8 * n) (flatten (map places_stored xs)) (flatten (map places_stored ys)) a.points.now points_long (omega arith),
+            eight,
+          );
+      colors_are = t.colors_are ∙ s.colors_are;
+    }

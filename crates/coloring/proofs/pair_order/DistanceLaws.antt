@@ -2,22 +2,18 @@
 -- transitive.
 use mathlib.Core.Path.{◌≡◌, refl, sym, ◌∙◌}
 use mathlib.Core.Bool.{true, false, ◌&&◌, false≢true}
-use mathlib.Core.List.{List, [], ◌∷◌}
-use Prim.Native.Nat.{ℕ, zero, suc, ◌*◌, ◌<◌, ◌≤◌}
+use Prim.Native.Nat.{ℕ, ◌*◌, ◌<◌, ◌≤◌}
 use native.Mathlib.Nat.{le_of_lt, zero-add, zero-mul, mul-pos, pos_of_ne-zero}
 use native.Mathlib.Decide.{ℕ_discrete}
 use native.Mathlib.Omega.{arith}
 use lib.Dec.{ltb, eqb}
 use lib.IntN.{ℤ}
-use lib.Ieee.{Float, nan, inf, fin, up, down, lt, le, eq, of_bits}
+use lib.Ieee.{Float, nan, inf, fin, is_nan, up, down, lt, le, eq, of_bits}
 use lib.Ieee.Fits.{up_pos}
 use lib.Ieee.Positive.{num, den, den_pos, through}
 use borrow.Author.Tests.{ltb-true, ltb-false, le-ltb, eqb-true}
-use Rattle.math.specs.Scalar.{f0}
-use Rattle.coloring.specs.Lists.{all}
-use Rattle.coloring.specs.PairOrder.{valid_distance, distances_valid}
-use Rattle.coloring.specs.PairNumbers.{distance_of}
-use Rattle.coloring.specs.Bools.{and_left, and_right}
+use Rattle.coloring.specs.PairOrder.{valid_distance}
+use Rattle.coloring.specs.Bools.{and_left}
 
 -- ---- one distance
 
@@ -74,14 +70,9 @@ pub not_lt_trans : (x y z : Float) → valid_distance x ≡ true → valid_dista
 not_lt_trans x y z p q r e f =
     cross z x r p ∙ le-ltb _ _ (through (num x) (num y) (num z) (den x) (den y) (den z) (den_pos y) (not_below y x q p e) (not_below z y r q f))
 
--- ---- a list of distances
-
-zero-valid : valid_distance f0 ≡ true
-unfolding valid_distance le lt eq of_bits
-zero-valid = refl
-
-pub valid-at : (distances : List Float) → distances_valid distances ≡ true → (k : ℕ) → valid_distance (distance_of distances k) ≡ true
-unfolding all
-valid-at [] h k = zero-valid
-valid-at (d ∷ distances) h zero = and_left _ _ h
-valid-at (d ∷ distances) h (suc k) = valid-at distances (and_right (valid_distance d) _ h) k
+-- it is a number
+pub valid_number : (d : Float) → valid_distance d ≡ true → is_nan d ≡ false
+unfolding valid_distance le lt eq of_bits is_nan
+valid_number nan h = cc
+valid_number (inf s) h = refl
+valid_number (fin s m e) h = refl

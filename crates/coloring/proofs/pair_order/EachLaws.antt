@@ -5,9 +5,9 @@ use native.Mathlib.Omega.{arith}
 use lib.Ieee.{Float, lt}
 use lib.ListN.{length, get_or, take, drop}
 use Rattle.coloring.specs.PairOrder.{insert_by, sort_by}
-use Rattle.coloring.specs.PairNumbers.{Each}
+use Rattle.coloring.specs.Pairs.{Each}
 use Rattle.coloring.specs.Bools.{split}
-use Rattle.coloring.proofs.pair_order.MergeLaws.{insert_here, insert_later}
+use Rattle.coloring.proofs.pair_order.InsertLaws.{insert_here, insert_later}
 
 module _ {A : Type 0} (P : A → Type 0) where
   pub each_at : (l : List A) (d : A) → Each P l → (i : ℕ) → i < length l → P (get_or l i d)

@@ -11,13 +11,12 @@ use mathlib.Core.List.{Permᴰ}
 use Prim.Native.Nat.{ℕ, zero, suc, ◌<◌, ◌≤◌}
 use native.Mathlib.Omega.{arith}
 use lib.Ieee.{Float, lt}
-use Rattle.coloring.specs.Lists.{all}
 use Rattle.coloring.specs.Sequence.{Pair}
 use Rattle.coloring.specs.PairOrder.{valid_distance, distances_valid, ValidDistances, pairs_with, pairs_from}
 use Rattle.coloring.specs.PairOrder.{SplinePair, with_distances, insert_by, sort_by, pair_order}
 use Rattle.coloring.specs.Bools.{and_left, and_right, split}
 use Rattle.coloring.proofs.pair_order.DistanceLaws.{lt_asym, not_lt_trans}
-use Rattle.coloring.proofs.pair_order.MergeLaws.{insert_here, insert_later}
+use Rattle.coloring.proofs.pair_order.InsertLaws.{insert_here, insert_later}
 
 -- ---- what the order is to be
 
@@ -30,7 +29,7 @@ abbrev pub Before : SplinePair → SplinePair → Type 0
 Before p q = (lt p.distance q.distance ≡ true) ⊎ ((lt q.distance p.distance ≡ false) × BeforePair p.pair q.pair)
 
 -- each before all that follow it
-pub Sequence : {A : Type 0} → (A → A → Type 0) → List A → Type 0
+unfoldable pub Sequence : {A : Type 0} → (A → A → Type 0) → List A → Type 0
 Sequence R [] = Unit {0}
 Sequence R (p ∷ l) = ((q : _) → Memᴰ q l → R p q) × Sequence R l
 
@@ -61,7 +60,7 @@ module _ (key : SplinePair → Float) where
 
 -- ---- two sequences of the same pairs are one
 
-Valid : List SplinePair → Type 0
+unfoldable pub Valid : List SplinePair → Type 0
 Valid l = (q : SplinePair) → Memᴰ q l → valid_distance q.distance ≡ true
 
 pair_asym : (p q : Pair) → BeforePair p q → BeforePair q p → ⊥
@@ -175,7 +174,7 @@ append_sequence (x ∷ xs) ys s t h = (
   append_sequence xs ys s.1 t (λ p q l r. h p q (Memᴰ.tail l) r),
 )
 
-from_sequence : (i k : ℕ) → Sequence BeforePair (pairs_from i k)
+pub from_sequence : (i k : ℕ) → Sequence BeforePair (pairs_from i k)
 unfolding Sequence pairs_from
 from_sequence i zero = tt
 from_sequence i (suc k) =
@@ -189,15 +188,15 @@ distances-pair (p ∷ pairs) [] q m = absurd (Memᴰ.not-nil m)
 distances-pair (p ∷ pairs) (d ∷ distances) q m =
     ⊎_elim (λ e. Memᴰ.head (ap (λ (x : SplinePair). x.pair) e)) (λ r. Memᴰ.tail (distances-pair pairs distances q r)) (Memᴰ.cases_cons m)
 
-distances-valid : (pairs : List Pair) (distances : List Float) → distances_valid distances ≡ true → Valid (with_distances pairs distances)
-unfolding Valid with_distances all
+pub distances-valid : (pairs : List Pair) (distances : List Float) → distances_valid distances ≡ true → Valid (with_distances pairs distances)
+unfolding Valid with_distances
 distances-valid [] distances h q m = absurd (Memᴰ.not-nil m)
 distances-valid (p ∷ pairs) [] h q m = absurd (Memᴰ.not-nil m)
 distances-valid (p ∷ pairs) (d ∷ distances) h q m =
     ⊎_elim (λ e. rw e (and_left (valid_distance d) (distances_valid distances) h))
     (λ r. distances-valid pairs distances (and_right (valid_distance d) (distances_valid distances) h) q r) (Memᴰ.cases_cons m)
 
-distances_sequence : (pairs : List Pair) (distances : List Float) → Sequence BeforePair pairs
+pub distances_sequence : (pairs : List Pair) (distances : List Float) → Sequence BeforePair pairs
     → Sequence (λ p q. BeforePair p.pair q.pair) (with_distances pairs distances)
 unfolding Sequence with_distances
 distances_sequence [] distances s = tt
@@ -215,10 +214,14 @@ module _ (n : ℕ) (distances : List Float) (given : ValidDistances n distances)
       let by-pair = distances_sequence (pairs_from 0 n) distances (from_sequence 0 n) in
       (sort_perm (λ p. p.distance) pairs, sort_sequence pairs (distances-valid (pairs_from 0 n) distances given.valid) by-pair)
 
-  -- and no other is
-  pub order_only : (l : List SplinePair) → Permᴰ l (with_distances (pairs_from 0 n) distances) → Sequence Before l → l ≡ pair_order n distances
+  -- and no other list of them is
+  pub order_members : (l : List SplinePair) → Sequence Before l → ((q : SplinePair) → Memᴰ q l → Memᴰ q (with_distances (pairs_from 0 n) distances))
+      → ((q : SplinePair) → Memᴰ q (with_distances (pairs_from 0 n) distances) → Memᴰ q l) → l ≡ pair_order n distances
   unfolding Valid
-  order_only l perm s =
+  order_members l s to from =
       let order = order_fits in
       one_sequence l (pair_order n distances) (λ q i. distances-valid (pairs_from 0 n) distances given.valid q (perm_mem order.0 i)) s order.1
-      (λ q i. perm_mem (Permᴰ.symm order.0) (perm_mem perm i)) (λ q i. perm_mem (Permᴰ.symm perm) (perm_mem order.0 i))
+      (λ q i. perm_mem (Permᴰ.symm order.0) (to q i)) (λ q i. from q (perm_mem order.0 i))
+
+  pub order_only : (l : List SplinePair) → Permᴰ l (with_distances (pairs_from 0 n) distances) → Sequence Before l → l ≡ pair_order n distances
+  order_only l perm s = order_members l s (λ q i. perm_mem perm i) (λ q i. perm_mem (Permᴰ.symm perm) i)

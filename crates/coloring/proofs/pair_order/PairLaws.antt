@@ -1,22 +1,19 @@
--- The pairs by their numbers: how they are written row by row, how many they are, that each is of two different
--- splines, and that the order of the numbers is the order of the pairs.
-use mathlib.Core.Path.{◌≡◌, refl, sym, ap, ap₂, ◌∙◌}
-use mathlib.Core.List.{List, [], ◌∷◌, ◌++◌, map}
+-- The pairs of splines: how they are written row by row, how many they are, and that each is of two different splines.
+use mathlib.Core.Path.{◌≡◌, refl, sym, ap, ◌∙◌}
+use mathlib.Core.List.{List, [], ◌∷◌, ◌++◌, append-nil, append_assoc, map, map-append}
 use Prim.Native.Nat.{ℕ, zero, suc, ◌+◌, ◌-◌, ◌*◌, ◌/◌, ◌<◌, ◌≤◌}
-use native.Mathlib.Nat.{sub-zero, suc-mul, mul-suc, mul-le-mul}
+use native.Mathlib.Nat.{suc-mul, mul-suc, mul-le-mul}
 use native.Mathlib.Numerals.{add-one}
 use native.Mathlib.Omega.{arith}
-use lib.Arith.{digits_div, digits_mod}
-use lib.ListN.{length, set, length-append, length-set, length-map}
-use lib.Ieee.{Float, lt}
-use Rattle.coloring.specs.Lists.{range, over_from}
+use lib.ListN.{length, get_or, take, drop, set, length-append, length-set}
+use lib.Seq.{take-suc-set, take_all}
+use lib.Ieee.{Float, nan}
+use Rattle.coloring.specs.declared.pair_order.GraphEdge.{GraphEdge}
 use Rattle.coloring.specs.Sequence.{Pair}
-use Rattle.coloring.specs.PairOrder.{pairs_with, pairs_from, with_distances, insert_by, sort_by, pair_order, ValidDistances}
-use Rattle.coloring.specs.PairNumbers.{Each, Below, distance_of, Two, code, decode, spline_pair_at, InOrder}
-use Rattle.coloring.specs.Bools.{split}
-use Rattle.coloring.proofs.Writing.{over-next, over_nothing, over-all}
-use Rattle.coloring.proofs.pair_order.MergeLaws.{insert_here, insert_later}
-use Rattle.coloring.proofs.pair_order.EachLaws.{each_append, each_sort}
+use Rattle.coloring.specs.PairOrder.{pairs_with, pairs_from, with_distances}
+use Rattle.coloring.specs.Pairs.{spline_pair, Each, Two}
+use Rattle.coloring.proofs.Lists.{drop-next}
+use Rattle.coloring.proofs.pair_order.EachLaws.{each_append}
 
 -- ---- row by row
 
@@ -51,27 +48,39 @@ module _ (n : ℕ) where
 
 -- ---- writing
 
--- the first k codes are written, and the pairs that are left make the whole
-pub record Written (n : ℕ) (codes : List ℕ) (k : ℕ) (left : List Pair) : Type 0 where
-  pub size : length codes ≡ length (pairs_from 0 n)
-  pub room : k + length left ≡ length codes
-  pub whole : map code (pairs_from 0 n) ≡ over_from k (map code left) codes
+-- the first k pairs are written, and those that are left make the whole
+pub record Written (n : ℕ) (distances : List Float) (edges : List GraphEdge) (k : ℕ) (left : List Pair) : Type 0 where
+  pub size : length edges ≡ length distances
+  pub room : k + length left ≡ length distances
+  pub whole : with_distances (pairs_from 0 n) distances ≡ map spline_pair (take k edges) ++ with_distances left (drop k distances)
 
-pub written_none : (n : ℕ) (codes : List ℕ) → length codes ≡ length (pairs_from 0 n) → Written n codes 0 (pairs_from 0 (n - 0))
-written_none n codes e =
-    rw (sub-zero n) (record { size = e; room = omega arith; whole = sym (over-all _ codes (simp length-map e)) })
+pub written_none : (n : ℕ) (distances : List Float) (edges : List GraphEdge) → length edges ≡ length distances
+    → length (pairs_from 0 n) ≡ length distances → Written n distances edges 0 (pairs_from 0 n)
+written_none n distances edges e f = record { size = e; room = omega arith; whole = refl }
 
-module _ (n : ℕ) (codes : List ℕ) (k : ℕ) where
-  pub write_next : (p : Pair) (left : List Pair) → Written n codes k (p ∷ left) → Written n (set codes k (code p)) (k + 1) left
-  write_next p left w =
+module _ (n : ℕ) (distances : List Float) (edges : List GraphEdge) (k : ℕ) where
+  pub write_next : (p : Pair) (left : List Pair) (e : GraphEdge) → spline_pair e ≡ record { pair = p; distance = get_or distances k nan }
+      → Written n distances edges k (p ∷ left) → Written n distances (set edges k e) (k + 1) left
+  unfolding with_distances
+  write_next p left e is w =
       record {
-        size = length-set codes k (code p) ∙ w.size;
-        room = simp length-set (omega (arith, w.room));
-        whole = w.whole ∙ over-next k (code p) (map code left) codes (omega (arith, w.room));
+        size = length-set edges k e ∙ w.size;
+        room = omega (arith, w.room);
+        whole =
+            w.whole
+            ∙ rw (
+              drop-next distances k nan (omega (arith, w.room)),
+              add-one,
+              take-suc-set edges k e (omega (arith, w.room, w.size)),
+              map-append,
+              append_assoc,
+              is,
+            );
       }
 
-  pub written_all : Written n codes k [] → codes ≡ map code (pairs_from 0 n)
-  written_all w = sym (w.whole ∙ over_nothing k codes)
+  pub written_all : Written n distances edges k [] → map spline_pair edges ≡ with_distances (pairs_from 0 n) distances
+  unfolding with_distances
+  written_all w = sym (w.whole ∙ rw (append-nil, take_all k edges (omega (arith, w.room, w.size))))
 
 -- ---- how many
 
@@ -116,61 +125,3 @@ module _ (n : ℕ) where
   two_from i zero h = tt
   two_from i (suc k) h =
       each_append (Two n) (pairs_with i (suc i) k) _ (two-with i (suc i) k (omega arith) (omega arith)) (two_from (suc i) k (omega arith))
-
--- ---- the order of the numbers
-
-range-map : {B : Type 0} (g : ℕ → B) (i k : ℕ) → map g (range (suc i) k) ≡ map (λ j. g (suc j)) (range i k)
-unfolding range
-range-map g i zero = refl
-range-map g i (suc k) = ap (λ l. g (suc i) ∷ l) (range-map g (suc i) k)
-
-pub range-below : (i k m : ℕ) → i + k ≤ m → Below m (range i k)
-unfolding Each range
-range-below i zero m h = tt
-range-below i (suc k) m h = (omega arith, range-below (suc i) k m (omega arith))
-
--- every pair of two numbers below 64 comes back from its code
-decode-code : (p : Pair) → p.b < 64 → decode (code p) ≡ p
-decode-code p h = ap₂ (λ a b. record { a = a; b = b }) (digits_div p.a h) (digits_mod p.a h)
-
-numbered : (n : ℕ) → n ≤ 64 → (pairs : List Pair) (distances : List Float) → Each (Two n) pairs → length distances ≡ length pairs
-    → map (spline_pair_at (map code pairs) distances) (range 0 (length distances)) ≡ with_distances pairs distances
-unfolding Each range with_distances
-numbered n few [] [] s e = refl
-numbered n few [] (d ∷ distances) s e = absurd (omega (arith, e))
-numbered n few (p ∷ pairs) [] s e = absurd (omega (arith, e))
-numbered n few (p ∷ pairs) (d ∷ distances) s e =
-    ap₂ (λ x l. x ∷ l) (ap (λ q. record { pair = q; distance = d }) (decode-code p (omega (arith, s.0.second))))
-    (range-map _ 0 (length distances) ∙ numbered n few pairs distances s.1 (omega arith))
-
--- a sort by a key goes with any map that keeps the key
-module _ {A B : Type 0} (f : A → B) (key : B → Float) where
-  insert_map : (x : A) (l : List A) → map f (insert_by (λ y. key (f y)) x l) ≡ insert_by key (f x) (map f l)
-  unfolding insert_by
-  insert_map x [] = refl
-  insert_map x (y ∷ l) =
-      let rest = insert_map x l in
-      split (lt (key (f y)) (key (f x)))
-      (λ e. ap (map f) (insert_later (λ z. key (f z)) x y l e) ∙ ap (λ m. f y ∷ m) rest ∙ sym (insert_later key (f x) (f y) (map f l) e))
-      (λ e. ap (map f) (insert_here (λ z. key (f z)) x y l e) ∙ sym (insert_here key (f x) (f y) (map f l) e))
-
-  sort_map : (l : List A) → map f (sort_by (λ x. key (f x)) l) ≡ sort_by key (map f l)
-  unfolding sort_by
-  sort_map [] = refl
-  sort_map (x ∷ l) = insert_map x (sort_by (λ y. key (f y)) l) ∙ ap (insert_by key (f x)) (sort_map l)
-
--- the numbers sorted by their distances are the pairs in order
-numbers-ordered : (n : ℕ) (distances : List Float) → ValidDistances n distances
-    → map (spline_pair_at (map code (pairs_from 0 n)) distances) (sort_by (distance_of distances) (range 0 (length distances))) ≡ pair_order n distances
-unfolding pair_order
-numbers-ordered n distances d =
-    sort_map (spline_pair_at (map code (pairs_from 0 n)) distances) (λ p. p.distance) (range 0 (length distances))
-    ∙ ap (sort_by (λ p. p.distance)) (numbered n d.few (pairs_from 0 n) distances (two_from n 0 n (omega arith)) (d.count ∙ sym (pairs-count n)))
-
-pub in_order : (n : ℕ) (distances : List Float) (codes order : List ℕ) → ValidDistances n distances → codes ≡ map code (pairs_from 0 n)
-    → order ≡ sort_by (distance_of distances) (range 0 (length distances)) → InOrder n codes order distances
-in_order n distances codes order d p q =
-    record {
-      numbers = rw (p, q, length-map, pairs-count n, ← d.count) (each_sort _ (distance_of distances) _ (range-below 0 _ _ (omega arith)));
-      ordered = rw (p, q) (numbers-ordered n distances d);
-    }

@@ -1,49 +1,16 @@
--- The queue of a walk. First the ring: its length, and what is put at its end. Then the splines that wait: they are as
--- many as there are places at most, one more may wait once it has lost its colour, and the first may be taken off once
--- it has one.
-use mathlib.Core.Path.{◌≡◌, refl, sym, ap, ◌∙◌}
+-- The splines that wait: they are as many as there are places at most, one more may wait once it has lost its colour,
+-- and the first may be taken off once it has one.
+use mathlib.Core.Path.{◌≡◌, sym, ◌∙◌}
 use mathlib.Core.Logic.{◌≢◌}
 use mathlib.Core.Bool.{Bool, true, false, cond}
 use mathlib.Core.List.{List, [], ◌∷◌, ◌++◌}
-use Prim.Native.Nat.{ℕ, zero, suc, ◌+◌, ◌-◌, ◌%◌, ◌≤◌, ◌<◌}
+use Prim.Native.Nat.{ℕ, zero, suc, ◌+◌, ◌≤◌, ◌<◌}
 use native.Mathlib.Omega.{arith}
-use native.Mathlib.Numerals.{add-one}
 use lib.Dec.{eqb}
 use lib.ListN.{length, get_or, set, length-set}
 use lib.Seq.{get_or-set_same, get_or-set_other, set-set, set_comm}
 use borrow.Author.Tests.{eq-eqb}
-use Rattle.coloring.specs.Recolor.{uncolored, ring, Waiting}
-
--- ---- the ring
-
-pub ring-length : (places : List ℕ) (head waiting : ℕ) → length (ring places head waiting) ≡ waiting
-unfolding ring
-ring-length places head zero = refl
-ring-length places head (suc waiting) = ap suc (ring-length places ((head + 1) % 64) waiting)
-
-push_at : (places : List ℕ) (head waiting p x : ℕ) → p ≡ (head + waiting) % 64 → length places ≡ 64 → head < 64 → waiting < 64
-    → ring (set places p x) head (suc waiting) ≡ ring places head waiting ++ (x ∷ [])
-unfolding ring
-push_at places head zero p x at e h k =
-    let here : p ≡ head = omega arith in
-    rw (here, get_or-set_same places head x 0 (omega arith))
-push_at places head (suc waiting) p x at e h k =
-    let here : head ≢ p = λ q. omega arith in
-    rw (get_or-set_other places p head x 0 here)
-    (ap (λ l. get_or places head 0 ∷ l) (push_at places ((head + 1) % 64) waiting p x (omega arith) e (omega arith) (omega arith)))
-
-pub ring_push : (places : List ℕ) (head waiting x : ℕ) → length places ≡ 64 → head < 64 → waiting < 64
-    → ring (set places ((head + waiting) % 64) x) head (waiting + 1) ≡ ring places head waiting ++ (x ∷ [])
-ring_push places head waiting x e h k = rw add-one (push_at places head waiting ((head + waiting) % 64) x refl e h k)
-
-pub ring_pop : (places : List ℕ) (head waiting : ℕ) → 0 < waiting
-    → ring places head waiting ≡ get_or places head 0 ∷ ring places ((head + 1) % 64) (waiting - 1)
-unfolding ring
-ring_pop places head waiting h =
-    let e : waiting ≡ suc (waiting - 1) = omega arith in
-    ap (ring places head) e
-
--- ---- the splines that wait
+use Rattle.coloring.specs.Recolor.{uncolored, Waiting}
 
 -- a spline without a colour is one of the table
 pub uncolored-inside : (coloring : List ℕ) (i : ℕ) → get_or coloring i 0 ≡ uncolored → i < length coloring

@@ -1,11 +1,10 @@
--- Taking colours away: what it does to each spline and to the queue, its first step, and the same with the queue in its
--- ring.
+-- Taking colours away: what it does to each spline and to the queue, its first step, and the steps of the code.
 use mathlib.Core.Path.{◌≡◌, refl, sym, ap, ◌∙◌, subst⁻¹}
 use mathlib.Core.Logic.{◌⊎◌, inl, inr, ◌≢◌}
 use mathlib.Core.Bool.{Bool, true, false, ◌&&◌, cond, and-false}
 use mathlib.Core.List.Memᴰ
 use mathlib.Core.List.{List, [], ◌∷◌, ◌++◌, Memᴰ}
-use Prim.Native.Nat.{ℕ, zero, suc, ◌+◌, ◌-◌, ◌%◌, ◌≤◌, ◌<◌}
+use Prim.Native.Nat.{ℕ, zero, suc, ◌+◌, ◌-◌, ◌≤◌, ◌<◌}
 use native.Mathlib.Decide.{ℕ_discrete, dec_lt}
 use native.Mathlib.Omega.{arith}
 use native.Mathlib.Numerals.{add-one}
@@ -14,9 +13,9 @@ use lib.ListN.{length, get_or, set, length-set, length-append}
 use lib.Seq.{get_or-set_same, get_or-set_other}
 use borrow.Author.Tests.{eq-eqb, ne_eqb, eqb-true}
 use Rattle.coloring.specs.Recolor.{Recoloring, uncolored, joined, uncolor_one, uncolor_from, uncolor_same_neighbors}
-use Rattle.coloring.specs.Recolor.{force, Waiting, ring, recoloring, Uncoloring}
+use Rattle.coloring.specs.Recolor.{force, Waiting, Uncoloring}
 use Rattle.coloring.proofs.Lists.{get_d_any}
-use Rattle.coloring.proofs.recolor.QueueLaws.{ring-length, ring_push, waiting_length, waiting_push}
+use Rattle.coloring.proofs.recolor.QueueLaws.{waiting_length, waiting_push}
 
 -- spline j keeps its colour, or has none and waits
 abbrev pub KeepsOrWaits : Recoloring → Recoloring → ℕ → Type 0
@@ -70,7 +69,7 @@ has_color (x ∷ coloring) zero c small e = (omega arith, e)
 has_color (x ∷ coloring) (suc i) c small e = let r = has_color coloring i c small e in (omega arith, r.1)
 
 module _ (entries : List ℕ) (c : ℕ) (small : c < 3) where
-  abbrev taken : ℕ → Recoloring → Recoloring
+  abbrev pub taken : ℕ → Recoloring → Recoloring
   taken i w = record { coloring = set w.coloring i uncolored; queue = w.queue ++ (i ∷ []) }
 
   -- ---- one spline
@@ -195,47 +194,40 @@ module _ (entries : List ℕ) (c : ℕ) (small : c < 3) where
       go (inl x) = absurd (force_gone v w j other h e (x ∙ get_or-set_other w.coloring v j c 0 other ∙ has))
       go (inr (x, m)) = m
 
--- ---- the queue in its ring
+-- ---- the steps of the code
 
-module _ {coloring places entries : List ℕ} {head waiting c : ℕ} (u : Uncoloring coloring places entries head waiting c) where
-  -- what holds of the ring before splines lose their colour holds afterwards
-  pub ring-kept : {w : Recoloring} → Uncolors (recoloring coloring places head waiting) w → (coloring' places' : List ℕ) (waiting' : ℕ)
-      → recoloring coloring' places' head waiting' ≡ w → length places' ≡ length places → Uncoloring coloring' places' entries head waiting' c
-  ring-kept {w} kept coloring' places' waiting' e l =
-      let same : length coloring' ≡ length coloring = ap (λ (v : Recoloring). length v.coloring) e ∙ kept.size in
+module _ {w : Recoloring} {entries : List ℕ} {c : ℕ} (u : Uncoloring w entries c) where
+  -- what holds before splines lose their colour holds afterwards
+  pub still_uncoloring : {v after : Recoloring} → Uncolors w v → after ≡ v → Uncoloring after entries c
+  still_uncoloring {v} {after} kept e =
+      let same : length after.coloring ≡ length w.coloring = ap (λ (r : Recoloring). length r.coloring) e ∙ kept.size in
       record {
         queued =
             record {
               few = omega (arith, u.queued.few);
-              size = l ∙ u.queued.size;
-              start = u.queued.start;
-              waits = subst⁻¹ (λ (v : Recoloring). Waiting v.coloring v.queue) e (kept.waits u.queued.waits);
+              waits = subst⁻¹ (λ (r : Recoloring). Waiting r.coloring r.queue) e (kept.waits u.queued.waits);
             };
         row = u.row ∙ sym same;
         color = u.color;
       }
 
-  module _ (i : ℕ) (inside : i < length coloring) where
+  module _ (i : ℕ) (inside : i < length w.coloring) where
     -- there is a place for a spline that still has its colour
-    pub ring-room : get_or coloring i 0 ≡ c → waiting < 64
-    ring-room e =
-        let h = waiting_length _ _ (push_colored coloring (ring places head waiting) i c u.color inside e u.queued.waits) in
-        let k = simp (length-append, length-set, ring-length) at h in
+    pub has_room : get_or w.coloring i 0 ≡ c → length w.queue < 64
+    has_room e =
+        let h = waiting_length _ _ (push_colored w.coloring w.queue i c u.color inside e u.queued.waits) in
+        let k = simp (length-append, length-set) at h in
         omega (arith, u.queued.few, k)
 
-    pub put_one : get_or entries i 0 ≢ 0 → get_or coloring i 0 ≡ c
-        → recoloring (set coloring i uncolored) (set places ((head + waiting) % 64) i) head (waiting + 1)
-        ≡ uncolor_one entries c i (recoloring coloring places head waiting)
+    pub put_one : get_or entries i 0 ≢ 0 → get_or w.coloring i 0 ≡ c → taken entries c u.color i w ≡ uncolor_one entries c i w
     unfolding joined
-    put_one h e =
-        rw (ring_push places head waiting i u.queued.size u.queued.start (ring-room e))
-        (sym (hit entries c u.color i (recoloring coloring places head waiting) (rw (ne_eqb (get_or entries i 0) 0 h)) inside e))
+    put_one h e = sym (hit entries c u.color i w (rw (ne_eqb (get_or entries i 0) 0 h)) inside e)
 
-    pub skip_entry : get_or entries i 0 ≡ 0 → recoloring coloring places head waiting ≡ uncolor_one entries c i (recoloring coloring places head waiting)
+    pub skip_entry : get_or entries i 0 ≡ 0 → w ≡ uncolor_one entries c i w
     unfolding joined
-    skip_entry e = sym (miss entries c u.color i (recoloring coloring places head waiting) (rw (eq-eqb (get_or entries i 0) 0 e)))
+    skip_entry e = sym (miss entries c u.color i w (rw (eq-eqb (get_or entries i 0) 0 e)))
 
-    pub skip_color : get_or coloring i 0 ≢ c → recoloring coloring places head waiting ≡ uncolor_one entries c i (recoloring coloring places head waiting)
+    pub skip_color : get_or w.coloring i 0 ≢ c → w ≡ uncolor_one entries c i w
     skip_color e =
-        let other : eqb (get_or coloring i uncolored) c ≡ false = ne_eqb _ c (λ f. e (get_d_any coloring i 0 uncolored inside ∙ f)) in
-        sym (miss entries c u.color i (recoloring coloring places head waiting) (rw other (and-false (joined entries i))))
+        let other : eqb (get_or w.coloring i uncolored) c ≡ false = ne_eqb _ c (λ f. e (get_d_any w.coloring i 0 uncolored inside ∙ f)) in
+        sym (miss entries c u.color i w (rw other (and-false (joined entries i))))

@@ -1,6 +1,5 @@
 -- The walk. One turn by its three cases, and what holds at the end of a walk if each turn keeps it; that `walk_fuel` is
--- never used up; the counters at which a walk can end; and the turns as the code makes them, with the queue in its
--- ring.
+-- never used up; the counters at which a walk can end; and the turns as the code makes them.
 use mathlib.Core.Path.{◌≡◌, refl, sym, ap, ◌∙◌, subst⁻¹}
 use mathlib.Core.Logic.{◌≢◌}
 use mathlib.Core.List.Memᴰ
@@ -9,14 +8,15 @@ use Prim.Native.Nat.{ℕ, zero, suc, ◌+◌, ◌-◌, ◌*◌, ◌%◌, ◌≤�
 use native.Mathlib.Nat.{suc-add, suc-mul, mul-le-mul_right}
 use native.Mathlib.Decide.{ℕ_discrete, dec_lt}
 use native.Mathlib.Omega.{arith}
-use lib.ListN.{length, get_or, set, length-set}
+use lib.ListN.{length, set, drop, length-set}
+use Rattle.std.proofs.Common.{Some, None, slice_get}
 use borrow.Author.Tests.{eq-eqb, ne_eqb, le-leb, lt-leb}
 use Rattle.coloring.specs.Recolor.{Recoloring, Walk, recolored, stopped, uncolored, joined, row}
 use Rattle.coloring.specs.Recolor.{vertex_possible_colors, first_possible_color, force, forced_step, walk, walk_fuel, walk_from}
-use Rattle.coloring.specs.Recolor.{ring, recoloring, Waiting, Uncoloring, Walking}
+use Rattle.coloring.specs.Recolor.{Waiting, Uncoloring, Walking}
 use Rattle.coloring.proofs.recolor.RowLaws.{row-length}
 use Rattle.coloring.proofs.recolor.FreeColorLaws.{none_free, used_by, step_rises}
-use Rattle.coloring.proofs.recolor.QueueLaws.{ring-length, ring_pop, uncolored-inside, waiting_length, waiting_pop}
+use Rattle.coloring.proofs.recolor.QueueLaws.{uncolored-inside, waiting_length, waiting_pop}
 use Rattle.coloring.proofs.recolor.UncolorLaws.{force_uncolors, force_joins}
 
 -- a list with an element is not empty
@@ -206,118 +206,113 @@ pub forced_same : (n : ℕ) (edge_matrix : List ℕ) (i : ℕ) (coloring queue e
 forced_same n edge_matrix i coloring queue entries s t cut e = rw (cut, e)
 
 -- a walk whose end is `whole` has come to these colours, this queue and this step
-pub record WalkInvariant (n : ℕ) (edge_matrix : List ℕ) (a c : ℕ) (whole : Walk) (coloring places : List ℕ) (head waiting step : ℕ) : Type 0 where
+pub record WalkInvariant (n : ℕ) (edge_matrix : List ℕ) (a c : ℕ) (whole : Walk) (coloring queue : List ℕ) (step : ℕ) : Type 0 where
   pub few : n ≤ 64
-  pub room : length places ≡ 64
-  pub start : head < 64
   pub low : step ≤ 17
   pub fuel : ℕ
-  pub going : Going n fuel step coloring (ring places head waiting)
-  pub rest : walk n edge_matrix a c fuel step coloring (ring places head waiting) ≡ whole
+  pub going : Going n fuel step coloring queue
+  pub rest : walk n edge_matrix a c fuel step coloring queue ≡ whole
 
-pub walk_begins : {edge_matrix : List ℕ} (a c : ℕ) {coloring places : List ℕ} {waiting : ℕ} → Walking coloring places edge_matrix a waiting
-    → WalkInvariant (length coloring) edge_matrix a c (walk_from edge_matrix a c (recoloring coloring places 0 waiting)) coloring places 0 waiting 0
+pub walk_begins : {n : ℕ} {edge_matrix : List ℕ} (a c : ℕ) {w : Recoloring} → Walking w n a
+    → WalkInvariant n edge_matrix a c (walk_from edge_matrix a c w) w.coloring w.queue 0
 unfolding walk_from
-walk_begins a c {coloring} {places} {waiting} w =
-    record {
-      few = w.queued.few;
-      room = w.queued.size;
-      start = omega arith;
+walk_begins a c {w} k =
+    rw k.size (record {
+      few = k.queued.few;
       low = omega arith;
-      fuel = walk_fuel (length coloring);
-      going = going_start (length coloring) coloring (ring places 0 waiting) refl w.queued.waits;
+      fuel = walk_fuel (length w.coloring);
+      going = going_start (length w.coloring) w.coloring w.queue refl k.queued.waits;
       rest = refl;
-    }
+    })
 
-module _ {n : ℕ} {edge_matrix : List ℕ} {a c : ℕ} {whole : Walk} {coloring places : List ℕ} {head waiting step : ℕ}
-    (g : WalkInvariant n edge_matrix a c whole coloring places head waiting step) where
-  pub walk-done : waiting ≡ 0 → recolored coloring step ≡ whole
-  unfolding ring walk
-  walk-done e = go g.fuel g.going.enough (rw e at g.rest)
+-- the queue by its first
+pub first-rest : (queue : List ℕ) (i : ℕ) → Some i ≡ slice_get queue 0 → queue ≡ i ∷ drop 1 queue
+first-rest [] i e = absurd cc
+first-rest (j ∷ queue) i e = ap (λ (k : ℕ). k ∷ queue) (sym cc)
+
+pub none_first : (queue : List ℕ) → None ≡ slice_get queue 0 → queue ≡ []
+none_first [] e = refl
+none_first (j ∷ queue) e = absurd cc
+
+pub walk-done : {n : ℕ} {edge_matrix : List ℕ} {a c : ℕ} {whole : Walk} {coloring : List ℕ} {step : ℕ}
+    → WalkInvariant n edge_matrix a c whole coloring [] step → recolored coloring step ≡ whole
+unfolding walk
+walk-done {n} {edge_matrix} {a} {c} {whole} {coloring} {step} g = go g.fuel g.going.enough g.rest
+  where
+    go : (f : ℕ) → left n step 0 < f → walk n edge_matrix a c f step coloring [] ≡ whole → recolored coloring step ≡ whole
+    go zero h r = absurd (omega arith)
+    go (suc f) h r = r
+
+-- a turn of the spline that waits longest
+module _ {n : ℕ} {edge_matrix : List ℕ} {a c : ℕ} {whole : Walk} {coloring : List ℕ} {spline : ℕ} {queue : List ℕ} {step : ℕ}
+    (g : WalkInvariant n edge_matrix a c whole coloring (spline ∷ queue) step) where
+  -- the fuel for it
+  record Turn : Type 0 where
+    fuel : ℕ
+    going : Going n (suc fuel) step coloring (spline ∷ queue)
+    rest : walk n edge_matrix a c (suc fuel) step coloring (spline ∷ queue) ≡ whole
+
+  turn : Turn
+  turn = go g.fuel g.going g.rest
     where
-      go : (f : ℕ) → left n step (length (ring places head waiting)) < f → walk n edge_matrix a c f step coloring [] ≡ whole → recolored coloring step ≡ whole
-      go zero h r = absurd (omega arith)
-      go (suc f) h r = r
+      go : (f : ℕ) → Going n f step coloring (spline ∷ queue) → walk n edge_matrix a c f step coloring (spline ∷ queue) ≡ whole → Turn
+      go zero t r = absurd (omega (arith, t.enough))
+      go (suc f) t r = record { fuel = f; going = t; rest = r }
 
-  module _ (some : 0 < waiting) where
-    abbrev spline : ℕ
-    spline = get_or places head 0
+  pub walk_stops : 16 ≤ step → stopped step ≡ whole
+  walk_stops h = sym (turn_stop n edge_matrix a c turn.fuel step coloring spline queue h) ∙ turn.rest
 
-    abbrev queue : List ℕ
-    queue = ring places ((head + 1) % 64) (waiting - 1)
+  -- it is one of the splines
+  pub walk_first : spline < n
+  unfolding Waiting
+  walk_first = omega (arith, uncolored-inside coloring spline turn.going.waits.0, turn.going.size)
 
-    -- the first of the queue, and the fuel for its turn
-    record Turn : Type 0 where
-      fuel : ℕ
-      going : Going n (suc fuel) step coloring (spline ∷ queue)
-      rest : walk n edge_matrix a c (suc fuel) step coloring (spline ∷ queue) ≡ whole
+  -- it takes a free colour
+  pub walk_free : step < 16 → free_of n edge_matrix coloring spline ≢ 0
+      → WalkInvariant n edge_matrix a c whole (set coloring spline (first_possible_color (free_of n edge_matrix coloring spline))) queue step
+  walk_free h p =
+      record {
+        few = g.few;
+        low = g.low;
+        fuel = turn.fuel;
+        going = going_free turn.going _;
+        rest = sym (turn_free n edge_matrix a c turn.fuel step coloring spline queue h p) ∙ turn.rest;
+      }
 
-    turn : Turn
-    turn = go g.fuel (rw (ring_pop places head waiting some) at g.going) (rw (ring_pop places head waiting some) at g.rest)
-      where
-        go : (f : ℕ) → Going n f step coloring (spline ∷ queue) → walk n edge_matrix a c f step coloring (spline ∷ queue) ≡ whole → Turn
-        go zero t r = absurd (omega (arith, t.enough))
-        go (suc f) t r = record { fuel = f; going = t; rest = r }
+  -- it takes a forced colour x, and the neighbours that have it may lose it
+  pub walk_uncolors : length edge_matrix ≡ n * n → (x : ℕ) → x < 3
+      → Uncoloring (record { coloring = set coloring spline x; queue = queue }) (row n edge_matrix spline) x
+  walk_uncolors e x small =
+      let free = going_free turn.going x in
+      record {
+        queued = record { few = omega (arith, g.few, free.size); waits = free.waits };
+        row = row-length n spline edge_matrix e walk_first ∙ sym free.size;
+        color = small;
+      }
 
-    pub walk_stops : 16 ≤ step → stopped step ≡ whole
-    walk_stops h = sym (turn_stop n edge_matrix a c turn.fuel step coloring spline queue h) ∙ turn.rest
+  module _ (h : step < 16) (none : free_of n edge_matrix coloring spline ≡ 0) (next : Recoloring)
+      (e : next ≡ forced n edge_matrix spline (step_of n edge_matrix a c spline step % 3) coloring queue) where
+    abbrev s' : ℕ
+    s' = step_of n edge_matrix a c spline step
 
-    -- it is one of the splines
-    pub walk_first : spline < n
-    unfolding Waiting
-    walk_first = omega (arith, uncolored-inside coloring spline turn.going.waits.0, turn.going.size)
+    after : Going n turn.fuel (suc s') next.coloring next.queue
+    after = subst⁻¹ (λ (v : Recoloring). Going n turn.fuel (suc s') v.coloring v.queue) e (going-forced turn.going edge_matrix a c h)
 
-    -- it takes a free colour
-    pub walk_free : step < 16 → free_of n edge_matrix coloring spline ≢ 0
-        → WalkInvariant n edge_matrix a c whole (set coloring spline (first_possible_color (free_of n edge_matrix coloring spline))) places ((head + 1) % 64)
-        (waiting - 1) step
-    walk_free h p =
+    pub walk_forces : WalkInvariant n edge_matrix a c whole next.coloring next.queue (suc s')
+    walk_forces =
         record {
           few = g.few;
-          room = g.room;
-          start = omega arith;
-          low = g.low;
+          low = omega (arith, (step_rises (joined (row n edge_matrix spline) a) c step).1);
           fuel = turn.fuel;
-          going = going_free turn.going _;
-          rest = sym (turn_free n edge_matrix a c turn.fuel step coloring spline queue h p) ∙ turn.rest;
+          going = after;
+          rest =
+              ap (λ (v : Recoloring). walk n edge_matrix a c turn.fuel (suc s') v.coloring v.queue) e
+              ∙ sym (turn-forced n edge_matrix a c turn.fuel step coloring spline queue h none)
+              ∙ turn.rest;
         }
 
-    -- it takes a forced colour x, and the neighbours that have it may lose it
-    pub walk_uncolors : length edge_matrix ≡ n * n → (x : ℕ) → x < 3
-        → Uncoloring (set coloring spline x) places (row n edge_matrix spline) ((head + 1) % 64) (waiting - 1) x
-    walk_uncolors e x small =
-        let free = going_free turn.going x in
-        record {
-          queued = record { few = omega (arith, g.few, free.size); size = g.room; start = omega arith; waits = free.waits };
-          row = row-length n spline edge_matrix e walk_first ∙ sym free.size;
-          color = small;
-        }
-
-    module _ (h : step < 16) (none : free_of n edge_matrix coloring spline ≡ 0) (coloring' places' : List ℕ) (waiting' : ℕ)
-        (e : recoloring coloring' places' ((head + 1) % 64) waiting'
-        ≡ forced n edge_matrix spline (step_of n edge_matrix a c spline step % 3) coloring queue) where
-      abbrev s' : ℕ
-      s' = step_of n edge_matrix a c spline step
-
-      after : Going n turn.fuel (suc s') coloring' (ring places' ((head + 1) % 64) waiting')
-      after = subst⁻¹ (λ (v : Recoloring). Going n turn.fuel (suc s') v.coloring v.queue) e (going-forced turn.going edge_matrix a c h)
-
-      pub walk_forces : length places' ≡ length places → WalkInvariant n edge_matrix a c whole coloring' places' ((head + 1) % 64) waiting' (suc s')
-      walk_forces l =
-          record {
-            few = g.few;
-            room = l ∙ g.room;
-            start = omega arith;
-            low = omega (arith, (step_rises (joined (row n edge_matrix spline) a) c step).1);
-            fuel = turn.fuel;
-            going = after;
-            rest =
-                ap (λ (v : Recoloring). walk n edge_matrix a c turn.fuel (suc s') v.coloring v.queue) e
-                ∙ sym (turn-forced n edge_matrix a c turn.fuel step coloring spline queue h none)
-                ∙ turn.rest;
-          }
-
-      pub less_forced : left n (suc s') waiting' < left n step waiting
-      less_forced =
-          let few = rw ring-length at (waiting_length coloring' (ring places' ((head + 1) % 64) waiting') after.waits) in
-          left-forced n step s' waiting' waiting h (step_rises (joined (row n edge_matrix spline) a) c step).0 (omega (arith, few, after.size))
+    pub less_forced : left n (suc s') (length next.queue) < left n step (suc (length queue))
+    less_forced =
+        let few = waiting_length next.coloring next.queue after.waits in
+        left-forced n step s' (length next.queue) (suc (length queue)) h
+        (step_rises (joined (row n edge_matrix spline) a) c step).0 (omega (arith, few, after.size))

@@ -1,14 +1,14 @@
 -- The starting colours, spline by spline: each is a colour, and the row of a spline counts only as far as there are
 -- colours.
-use mathlib.Core.Path.{◌≡◌, refl, sym, ap, ◌∙◌}
+use mathlib.Core.Path.{◌≡◌, refl, ap, ◌∙◌}
 use mathlib.Core.Bool.{Bool, true, false, not, cond, ◌&&◌, ◌||◌}
 use mathlib.Core.List.{List, [], ◌∷◌, ◌++◌}
-use Prim.Native.Nat.{ℕ, zero, suc, ◌+◌, ◌-◌, ◌*◌, ◌%◌, ◌<◌, ◌≤◌}
+use Prim.Native.Nat.{ℕ, zero, suc, ◌+◌, ◌-◌, ◌%◌, ◌<◌, ◌≤◌}
 use native.Mathlib.Nat.{not-suc-le-zero, le_of_suc-le-suc, sub-zero, zero-add}
 use native.Mathlib.Numerals.{add-one}
 use native.Mathlib.Omega.{arith}
 use lib.Dec.{eqb}
-use lib.ListN.{length, get_or, take, drop, set, length-append}
+use lib.ListN.{length, get_or, take, set, length-append}
 use lib.Seq.{length-take-le, take-suc-set, take_all}
 use Rattle.coloring.specs.declared.seed.Draw.{Draw}
 use Rattle.coloring.specs.Recolor.{row, uses, vertex_possible_colors}
@@ -41,18 +41,11 @@ uses_enough c (suc k) (x ∷ coloring) [] h = refl
 uses_enough c (suc k) (x ∷ coloring) (e ∷ entries) h =
     ap (λ b. (not (eqb e 0) && eqb x c) || b) (uses_enough c k coloring entries (le_of_suc-le-suc h))
 
-free_enough : (k : ℕ) (coloring entries : List ℕ) → length coloring ≤ k → vertex_possible_colors coloring (take k entries) ≡ vertex_possible_colors coloring
-    entries
+pub free_enough : (k : ℕ) (coloring entries : List ℕ) → length coloring ≤ k
+    → vertex_possible_colors coloring (take k entries) ≡ vertex_possible_colors coloring entries
 unfolding vertex_possible_colors
 free_enough k coloring entries h =
     rw (uses_enough 0 k coloring entries h, uses_enough 1 k coloring entries h, uses_enough 2 k coloring entries h)
-
--- the free colours of spline i, by the entries of its row with the splines before it
-pub free_before : (n i : ℕ) (coloring edge_matrix : List ℕ) → length coloring ≡ i → i ≤ n
-    → vertex_possible_colors coloring (take (i * n + i - i * n) (drop (i * n) edge_matrix)) ≡ vertex_possible_colors coloring (row n edge_matrix i)
-unfolding row
-free_before n i coloring edge_matrix size h =
-    free_enough (i * n + i - i * n) coloring _ (omega arith) ∙ sym (free_enough n coloring (drop (i * n) edge_matrix) (omega arith))
 
 -- ---- the others
 

@@ -1,28 +1,24 @@
 -- What an entry does with its buffers: a checked outline's agree, and the count decides whether the result fits.
 use mathlib.Core.Path.{◌≡◌, refl, sym, ap, ◌∙◌}
-use mathlib.Core.Bool.{Bool, true, ◌&&◌}
-use mathlib.Core.List.{List, [], ◌∷◌, ◌++◌, map, flatten}
-use Prim.Native.Nat.{ℕ, suc, ◌*◌, ◌≤◌}
+use mathlib.Core.Bool.{Bool, ◌&&◌}
+use mathlib.Core.List.{List, [], ◌∷◌, ◌++◌, map}
+use Prim.Native.Nat.{ℕ, suc, ◌*◌}
 use lib.Dec.{leb, eqb}
-use lib.Ieee.{Float}
-use lib.ListN.{length, take, drop, length-take, length-drop, length-map}
-use lib.Seq.{take_at}
+use lib.ListN.{length, take, drop, length-take, length-drop}
 use borrow.Author.Tests.{leb-true, eqb-true}
 use Rattle.geometry.specs.declared.edge_segment.EdgeSegment.{EdgeSegment}
-use Rattle.coloring.specs.Answers.{gives, Check, all_pass, first_refusal, passed_both}
-use Rattle.coloring.specs.DeliverLaws.{deliver_fits}
+use Rattle.coloring.specs.Answers.{Check, all_pass, first_refusal, passed_both}
 use Rattle.coloring.specs.Bools.{and_left, and_right}
-use Rattle.coloring.specs.Lists.{over}
 use Rattle.coloring.specs.declared.outline.Counts.{Counts}
 use Rattle.coloring.specs.declared.settings.Division.{Division}
 use Rattle.coloring.specs.declared.settings.Division.TheVariants.{Source}
 use Rattle.coloring.specs.Places.{total}
-use Rattle.coloring.specs.Corners.{Cornered, edges_in, flags_in, cornered}
+use Rattle.coloring.specs.Corners.{Cornered, flags_in, cornered}
 use Rattle.coloring.specs.Layout.{layout, result_edges}
-use Rattle.coloring.specs.Outline.{Outline, Result, cut, encode, check_outline, result, result_fits, delivered, deliver, outcome, Agrees, LaidOut}
-use Rattle.coloring.specs.Splines.{spline_count, spline_total, paint_contours}
+use Rattle.coloring.specs.Outline.{Outline, Result, cut, encode, check_outline, has_room, result_fits, Agrees}
+use Rattle.coloring.specs.Splines.{spline_count, spline_total}
 use Rattle.coloring.specs.Shape.{painted, counts_of, Counted}
-use Rattle.coloring.specs.Sizes.{sizes, cut_again, flatten-length, Flagged, laid-flagged, flagged-sizes, laid-sizes, Sized, painted-sized}
+use Rattle.coloring.specs.Sizes.{Flagged, Sized, painted-sized}
 use Rattle.coloring.proofs.layout.SplitLaws.{total-laid}
 
 -- ---- an outline that passed
@@ -65,29 +61,9 @@ cornered-length (n ∷ lengths) xs flags = ap suc (cornered-length lengths (drop
 
 -- ---- the count decides
 
--- whether four buffers have room for so many contours and edges
-abbrev pub has_room : ℕ → ℕ → Result → Bool
-has_room contours edges old =
-    leb contours (length old.lengths) && leb edges (length old.kinds) && leb (8 * edges) (length old.points) && leb edges (length old.colors)
-
 pub sized_fits : {written : Result} {contours edges : ℕ} (old : Result) → Sized written contours edges → result_fits written old ≡ has_room contours edges old
 unfolding result_fits
 sized_fits old s = rw (s.lengths_long, s.kinds_long, s.points_long, s.colors_long)
-
-pub room_fits : (contours edges : ℕ) (old : Result) → has_room contours edges old ≡ true
-    → (contours ≤ length old.lengths) × (edges ≤ length old.kinds) × (8 * edges ≤ length old.points) × (edges ≤ length old.colors)
-room_fits contours edges old e =
-    let first = leb contours (length old.lengths) in
-    let second = leb edges (length old.kinds) in
-    let third = leb (8 * edges) (length old.points) in
-    let fourth = leb edges (length old.colors) in
-    let three = and_left (first && second && third) fourth e in
-    let two = and_left (first && second) third three in (
-      leb-true contours (length old.lengths) (and_left first second two),
-      leb-true edges (length old.kinds) (and_right first second two),
-      leb-true (8 * edges) (length old.points) (and_right (first && second) third three),
-      leb-true edges (length old.colors) (and_right (first && second && third) fourth e),
-    )
 
 -- ---- the result of contours that were counted
 
@@ -121,51 +97,3 @@ module _ (lengths : List ℕ) (xs : List EdgeSegment) (flags : List Bool) (count
   counts-laid =
       let s = counted-sized Source 0 [] in
       rw (s.lengths_long, s.kinds_long, splines-counted)
-
-  -- the flags of the result
-  sizes-laid : sizes (flags_in laid) ≡ sizes (edges_in laid)
-  sizes-laid = flagged-sizes laid (laid-flagged found found-flagged)
-
-  edges-laid : length (flatten (flags_in laid)) ≡ counts.edges
-  edges-laid = flatten-length (flags_in laid) ∙ ap total (sizes-laid ∙ laid-sizes found found-flagged) ∙ edges-counted
-
-  module _ {lengths₀ kinds₀ : List ℕ} {points₀ : List Float} {flags₀ : List Bool} {out_lengths out_kinds : List ℕ} {out_points : List Float}
-      {out_flags : List Bool}
-      (out : LaidOut laid lengths₀ kinds₀ points₀ flags₀ out_lengths out_kinds out_points out_flags) where
-    front_lengths : take counts.contours out_lengths ≡ sizes (flags_in laid)
-    unfolding over encode
-    front_lengths = rw out.lengths_are
-        (take_at _ _ counts.contours
-        (length-map (edges_in laid) _ ∙ length-map laid _ ∙ length-map found layout ∙ cornered-length lengths xs flags ∙ sym counted.contours_are)
-        ∙ sym sizes-laid)
-
-    front_flags : take counts.edges out_flags ≡ flatten (flags_in laid)
-    unfolding over
-    front_flags = rw out.flags_are (take_at (flatten (flags_in laid)) _ counts.edges edges-laid)
-
-    pub front_contours : cut (take counts.contours out_lengths) (take counts.edges out_flags) ≡ flags_in laid
-    front_contours = rw (front_lengths, front_flags) (cut_again (flags_in laid))
-
-    pub front_total : total (take counts.contours out_lengths) ≡ length (take counts.edges out_flags)
-    front_total = rw (front_lengths, front_flags) (sym (flatten-length (flags_in laid)))
-
-    pub front_length : length (take counts.edges out_flags) ≡ counts.edges
-    front_length = rw front_flags edges-laid
-
-    pub front_splines : counts.splines ≡ total (map spline_count (cut (take counts.contours out_lengths) (take counts.edges out_flags)))
-    unfolding spline_total
-    front_splines = rw front_contours (sym splines-counted)
-
-    -- laid out and painted
-    pub painted-delivered : (division : Division) (middle : ℕ) (values colors₀ : List ℕ) {middle' : ℕ} {bytes colors : List ℕ}
-        → result_fits (painted division middle values laid) (result lengths₀ kinds₀ points₀ colors₀) ≡ true
-        → middle' ≡ middle → bytes ≡ flatten (paint_contours division middle' values (cut (take counts.contours out_lengths) (take counts.edges out_flags)))
-        → colors ≡ bytes ++ drop counts.edges colors₀
-        → outcome (gives counts) (result out_lengths out_kinds out_points colors)
-        ≡ deliver [] (counts_of laid counts.stand_ins) (painted division middle values laid) (result lengths₀ kinds₀ points₀ colors₀)
-    unfolding delivered painted encode over
-    painted-delivered division middle values colors₀ fit middle-is bytes-are colors_are =
-        let bytes = paint_contours division middle values (flags_in laid) in
-        let long : length (flatten bytes) ≡ counts.edges = (counted-sized division middle values).colors_long in
-        rw (deliver_fits (counts_of laid counts.stand_ins) (painted division middle values laid) (result lengths₀ kinds₀ points₀ colors₀) fit)
-        (rw (colors_are, bytes-are, middle-is, front_contours, out.lengths_are, out.kinds_are, out.points_are, long, ← counts-laid))

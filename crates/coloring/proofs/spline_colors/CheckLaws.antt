@@ -8,8 +8,8 @@ use lib.Dec.{leb}
 use lib.Ieee.{Float}
 use lib.ListN.{length}
 use borrow.Author.Tests.{leb-true, eqb-true}
-use Rattle.coloring.specs.declared.refusal.Checked.{Checked}
-use Rattle.coloring.specs.declared.refusal.Checked.TheVariants.{Passed}
+use Rattle.std.proofs.Common.{Result, Ok}
+use Rattle.coloring.specs.declared.refusal.Refusal.{Refusal}
 use Rattle.coloring.specs.Answers.{Answer, all_pass, refusal, Check, checked_answer, first_refusal}
 use Rattle.coloring.specs.Answers.{passed_both, all-passed, one_failed, in_order_part}
 use Rattle.coloring.specs.Bools.{and_left}
@@ -44,8 +44,8 @@ module _ (distances : List Float) (seed : ℕ) (old : List ℕ) where
   splines-passed is e colors = rw (is, colors) (sym (all-passed checks refused colored (sym e ∙ is)))
 
   -- and what these tell
-  pub splines_answered : (r : Checked) (coloring : List ℕ) → splines_colored (checked_answer r) coloring ≡ color_splines_into distances seed old
-      → (checked_answer r ≡ first_refusal checks) × (r ≡ Passed → coloring ≡ color_splines (length old) distances seed)
+  pub splines_answered : (r : Result Unit Refusal) (coloring : List ℕ) → splines_colored (checked_answer r) coloring ≡ color_splines_into distances seed old
+      → (checked_answer r ≡ first_refusal checks) × (r ≡ Ok tt → coloring ≡ color_splines (length old) distances seed)
   unfolding color_splines_into first_refusal
   splines_answered r coloring e =
       let answer_in : SplinesColored → Answer Unit = λ s. s.answer in

@@ -1,31 +1,34 @@
--- The pairs in order: two different splines each; the zero pairs entered one by one, and the others offered one by one.
+-- The pairs in order: two different splines each; the zero pairs entered, and the others offered one by one.
 use mathlib.Core.Path.{◌≡◌, refl, sym, ap, ap₂, ◌∙◌, subst}
-use mathlib.Core.Bool.{true, false}
+use mathlib.Core.Bool.{Bool, true, false, not}
 use mathlib.Core.List.{List, [], ◌∷◌, map, map-map}
 use Prim.Native.Nat.{ℕ, zero, suc, ◌+◌, ◌*◌, ◌<◌, ◌≤◌}
 use native.Mathlib.Omega.{arith}
 use lib.Ieee.{Float}
-use lib.ListN.{length, get_or, drop, replicate, length-replicate, length-set, drop_of_length-le}
+use lib.Arith.{digits_lt}
+use lib.ListN.{length, get_or, take, drop, replicate, length-replicate, drop_of_length-le}
+use lib.Dec.{ltb}
+use borrow.Author.Tests.{ltb-false}
+use Rattle.std.proofs.Common.{Some, None, cond}
+use Rattle.std.specs.List.{position, position_or_len}
+use Rattle.std.specs.Option.{unwrap_or}
 use Rattle.coloring.specs.SplineTable.{Table, table_of, enter_pair, try_add_edge}
 use Rattle.coloring.specs.Sequence.{Pair, run}
 use Rattle.coloring.specs.PairOrder.{pairs_from, SplinePair, with_distances, pair_order}
-use Rattle.coloring.specs.PairNumbers.{Each, Two, decode, pair_at, spline_pair_at, InOrder}
+use Rattle.coloring.specs.Pairs.{pair_of, spline_pair, Each, Two, TwoEach}
 use Rattle.coloring.specs.SecondDegree.{color_second_degree_graph}
-use Rattle.coloring.specs.SplineColors.{is_zero, zero_pairs, other_pairs, enter_pairs, start_table, OfferableAll, Ordered, offer_splines, color_splines}
-use Rattle.coloring.specs.Bools.{split}
+use Rattle.coloring.specs.SplineColors.{is_zero, zero_pairs, other_pairs, enter_pairs, start_table, OfferableAll, Ordered, offer_in_order, color_in_order}
+use Rattle.coloring.specs.declared.pair_order.GraphEdge.{GraphEdge}
 use Rattle.coloring.proofs.Lists.{drop-next}
 use Rattle.coloring.proofs.recolor.RowLaws.{Matrix}
 use Rattle.coloring.proofs.spline_table.TableLaws.{matrix_sound, enter_matrix}
 use Rattle.coloring.proofs.spline_table.OfferLaws.{Unrefused}
 use Rattle.coloring.proofs.spline_table.ClashLaws.{Sound, offer-sound}
-use Rattle.coloring.proofs.pair_order.EachLaws.{each_at, each_sort, each_map}
+use Rattle.coloring.proofs.pair_order.EachLaws.{each_at, each_map, each_sort}
 use Rattle.coloring.proofs.pair_order.PairLaws.{two_from}
 use Rattle.coloring.proofs.second_degree.StartingLaws.{graph_length, graph_color}
 
 -- ---- two different splines
-
-abbrev pairs_of : List SplinePair → List Pair
-pairs_of order = map (λ p. p.pair) order
 
 module _ (n : ℕ) where
   two_distances : (pairs : List Pair) (distances : List Float) → Each (Two n) pairs → Each (λ p. Two n p.pair) (with_distances pairs distances)
@@ -38,24 +41,8 @@ module _ (n : ℕ) where
   unfolding pair_order
   two-order distances = each_sort _ (λ p. p.distance) _ (two_distances (pairs_from 0 n) distances (two_from n 0 n (omega arith)))
 
-  two-zero : (order : List SplinePair) → Each (λ p. Two n p.pair) order → Each (Two n) (zero_pairs order)
-  unfolding Each zero_pairs
-  two-zero [] e = tt
-  two-zero (p ∷ order) e =
-      let rest = two-zero order e.1 in
-      split (is_zero p) (λ z. rw (z, zero_pairs) (e.0, rest)) (λ z. rw (z, zero_pairs) tt)
-
-  -- the numbers of the pairs
-  pub two-numbers : (codes order : List ℕ) (distances : List Float) → InOrder n codes order distances → Each (λ k. Two n (pair_at codes k)) order
-  two-numbers codes order distances o = each_map (λ p. Two n p.pair) (spline_pair_at codes distances) order (rw o.ordered (two-order distances))
-
-  -- the pair at a place
-  pub two_read : (codes order : List ℕ) → Each (λ k. Two n (pair_at codes k)) order → (k pair : ℕ) → k < length order
-      → pair ≡ get_or codes (get_or order k 0) 0 → Two n (decode pair)
-  two_read codes order a k pair h e = rw e (each_at (λ k. Two n (pair_at codes k)) order 0 a k h)
-
-map-pairs : (codes : List ℕ) (distances : List Float) (order : List ℕ) → pairs_of (map (spline_pair_at codes distances) order) ≡ map (pair_at codes) order
-map-pairs codes distances order = map-map (λ (p : SplinePair). p.pair) (spline_pair_at codes distances) order
+  pub two_ordered : (distances : List Float) (order : List GraphEdge) → map spline_pair order ≡ pair_order n distances → TwoEach n order
+  two_ordered distances order e = each_map (λ p. Two n p.pair) spline_pair order (rw e (two-order distances))
 
 -- ---- the start table
 
@@ -73,112 +60,87 @@ matrix_none n =
       loopless = λ i h. no_entry (n * n) _;
     }
 
-matrix_pairs : (n : ℕ) (pairs : List Pair) (edge_matrix : List ℕ) → Each (Two n) pairs → Matrix n edge_matrix → Matrix n (enter_pairs n pairs edge_matrix)
+matrix_pairs : (n : ℕ) (edges : List GraphEdge) (edge_matrix : List ℕ) → TwoEach n edges → Matrix n edge_matrix
+    → Matrix n (enter_pairs n (map pair_of edges) edge_matrix)
 unfolding Each enter_pairs
 matrix_pairs n [] edge_matrix a m = m
-matrix_pairs n (p ∷ pairs) edge_matrix a m =
+matrix_pairs n (e ∷ edges) edge_matrix a m =
     let two = a.0 in
-    matrix_pairs n pairs _ a.1 (enter_matrix n edge_matrix p two.first two.second two.different 1 (omega arith) m)
+    matrix_pairs n edges _ a.1 (enter_matrix n edge_matrix (pair_of e) two.first two.second two.different 1 (omega arith) m)
 
-start-sound : (n : ℕ) (distances : List Float) (seed : ℕ) → Sound n (start_table n (zero_pairs (pair_order n distances)) seed)
-unfolding start_table
-start-sound n distances seed =
-    let zeros = zero_pairs (pair_order n distances) in
-    let edge_matrix = enter_pairs n zeros (replicate (n * n) 0) in
-    let splines = graph_length n edge_matrix seed in
-    let m = matrix_pairs n zeros (replicate (n * n) 0) (two-zero n (pair_order n distances) (two-order n distances)) (matrix_none n) in
-    record {
-      splines = splines;
-      size = rw splines m.size;
-      is_sound = matrix_sound _ (rw splines m) (λ i h. graph_color n edge_matrix seed i);
-    }
+module _ (n : ℕ) (edges : List GraphEdge) (k : ℕ) (d : GraphEdge) (h : k < length edges) where
+  abbrev here : GraphEdge
+  here = get_or edges k d
 
--- ---- the zero pairs, one by one
+  -- the entries of the pair at a place
+  pub entries_inside : TwoEach n edges → (edge_matrix : List ℕ) → length edge_matrix ≡ n * n
+      → (here.a * n + here.b < length edge_matrix) × (here.b * n + here.a < length edge_matrix)
+  entries_inside t edge_matrix e =
+      let two : Two n (pair_of here) = each_at (λ e. Two n (pair_of e)) edges d t k h in
+      rw e (digits_lt two.first two.second, digits_lt two.second two.first)
 
-module _ (p : SplinePair) (order : List SplinePair) where
-  zero-first : is_zero p ≡ true → (zero_pairs (p ∷ order) ≡ p.pair ∷ zero_pairs order) × (other_pairs (p ∷ order) ≡ other_pairs order)
-  unfolding zero_pairs other_pairs
-  zero-first e = (rw (e, zero_pairs), rw (e, other_pairs))
+  -- the pairs from it on
+  pub enter_next : (edge_matrix : List ℕ)
+      → enter_pairs n (map pair_of (drop (k + 1) edges)) (enter_pair n edge_matrix here.a here.b 1) ≡ enter_pairs n (map pair_of (drop k edges)) edge_matrix
+  unfolding enter_pairs
+  enter_next edge_matrix = rw (drop-next edges k d h)
 
-  zero_not : is_zero p ≡ false → (zero_pairs (p ∷ order) ≡ []) × (other_pairs (p ∷ order) ≡ pairs_of (p ∷ order))
-  unfolding zero_pairs other_pairs
-  zero_not e = (rw (e, zero_pairs), rw (e, other_pairs))
+pub enter_end : (n : ℕ) (edges : List GraphEdge) (k : ℕ) (edge_matrix : List ℕ) → length edges ≤ k
+    → enter_pairs n (map pair_of (drop k edges)) edge_matrix ≡ edge_matrix
+unfolding enter_pairs
+enter_end n edges k edge_matrix h = rw (drop_of_length-le edges h)
 
-module _ (n : ℕ) (codes order : List ℕ) (distances : List Float) (before : List ℕ) where
-  abbrev spline_pairs : List ℕ → List SplinePair
-  spline_pairs l = map (spline_pair_at codes distances) l
+-- ---- the zero pairs are the first
 
-  -- the zero pairs are entered, and the pairs from place r on are the others
-  abbrev ZerosEntered : List ℕ → ℕ → Type 0
-  ZerosEntered after r =
-      (after ≡ enter_pairs n (zero_pairs (pair_order n distances)) before) × (map (pair_at codes) (drop r order) ≡ other_pairs (pair_order n distances))
+abbrev pub ZerosFirst : List GraphEdge → ℕ → Type 0
+ZerosFirst order k =
+    (map pair_of (take k order) ≡ zero_pairs (map spline_pair order)) × (map pair_of (drop k order) ≡ other_pairs (map spline_pair order))
 
-  -- the first k pairs of the order are entered
-  pub record Entered (edge_matrix : List ℕ) (k : ℕ) : Type 0 where
-    pub inside : k ≤ length order
-    pub size : length edge_matrix ≡ n * n
-    pub zeros : enter_pairs n (zero_pairs (spline_pairs (drop k order))) edge_matrix ≡ enter_pairs n (zero_pairs (spline_pairs order)) before
-    pub others : other_pairs (spline_pairs (drop k order)) ≡ other_pairs (spline_pairs order)
+-- as many as come before the first that is not at distance zero
+abbrev zeros_in : List GraphEdge → ℕ
+zeros_in order = position_or_len (λ e. not (is_zero (spline_pair e))) order
 
-  pub entered-none : length before ≡ n * n → Entered before 0
-  entered-none e = record { inside = omega arith; size = e; zeros = refl; others = refl }
+zeros-split : (order : List GraphEdge) → (zeros_in order ≤ length order) × ZerosFirst order (zeros_in order)
+unfolding zero_pairs other_pairs
+zeros-split [] = (omega arith, (refl, refl))
+zeros-split (e ∷ order) = go (is_zero (spline_pair e)) refl (zeros-split order)
+  where
+    more : 1 + zeros_in order ≡ suc (zeros_in order)
+    more = omega arith
 
-  module _ (edge_matrix : List ℕ) (k : ℕ) (e : Entered edge_matrix k) where
-    abbrev next : SplinePair
-    next = spline_pair_at codes distances (get_or order k 0)
+    go : (b : Bool) → is_zero (spline_pair e) ≡ b → (zeros_in order ≤ length order) × ZerosFirst order (zeros_in order)
+        → (zeros_in (e ∷ order) ≤ length (e ∷ order)) × ZerosFirst (e ∷ order) (zeros_in (e ∷ order))
+    go true z rest =
+        rw (z, more) (omega (arith, rest.0), (ap (λ l. pair_of e ∷ l) rest.1.0, rest.1.1))
+    go false z rest =
+        rw z (omega arith, (refl, sym (map-map (λ (p : SplinePair). p.pair) spline_pair (e ∷ order))))
 
-    here : k < length order → spline_pairs (drop k order) ≡ next ∷ spline_pairs (drop (k + 1) order)
-    here h = ap spline_pairs (drop-next order k 0 h)
-
-    enter_one : k < length order → is_zero next ≡ true → Entered (enter_pair n edge_matrix next.pair.a next.pair.b 1) (k + 1)
-    unfolding enter_pairs
-    enter_one h z =
-        let first = zero-first next (spline_pairs (drop (k + 1) order)) z in
-        record {
-          inside = omega arith;
-          size = rw (length-set, length-set) e.size;
-          zeros = sym (ap (λ l. enter_pairs n l edge_matrix) (ap zero_pairs (here h) ∙ first.0)) ∙ e.zeros;
-          others = sym (ap other_pairs (here h) ∙ first.1) ∙ e.others;
-        }
-
-    pub enter_next : k < length order → is_zero next ≡ true → (pair : ℕ) (after : List ℕ) → pair ≡ get_or codes (get_or order k 0) 0
-        → after ≡ enter_pair n edge_matrix (decode pair).a (decode pair).b 1 → Entered after (k + 1)
-    enter_next h z pair after p q =
-        subst (λ m. Entered m (k + 1)) (sym (q ∙ ap (λ (x : ℕ). enter_pair n edge_matrix (decode x).a (decode x).b 1) p)) (enter_one h z)
-
-    -- the first pair that is not at distance zero
-    pub zeros_stop : InOrder n codes order distances → k < length order → is_zero next ≡ false → ZerosEntered edge_matrix k
-    unfolding enter_pairs
-    zeros_stop o h z =
-        let none = zero_not next (spline_pairs (drop (k + 1) order)) z in (
-          sym (ap (λ l. enter_pairs n l edge_matrix) (ap zero_pairs (here h) ∙ none.0)) ∙ e.zeros ∙ ap (λ l. enter_pairs n (zero_pairs l) before) o.ordered,
-          sym (map-pairs codes distances (drop k order)) ∙ ap pairs_of (here h)
-              ∙ sym (ap other_pairs (here h) ∙ none.1) ∙ e.others ∙ ap other_pairs o.ordered,
-        )
-
-    -- all pairs are
-    pub zeros_end : InOrder n codes order distances → length order ≤ k → ZerosEntered edge_matrix k
-    unfolding zero_pairs other_pairs enter_pairs
-    zeros_end o h =
-        let none = drop_of_length-le order h in (
-          sym (ap (λ l. enter_pairs n (zero_pairs (spline_pairs l)) edge_matrix) none) ∙ e.zeros ∙ ap (λ l. enter_pairs n (zero_pairs l) before) o.ordered,
-          ap (map (pair_at codes)) none ∙ sym (ap (λ l. other_pairs (spline_pairs l)) none) ∙ e.others ∙ ap other_pairs o.ordered,
-        )
+pub zeros_first : (order : List GraphEdge) → let k = unwrap_or (position (λ e. not (is_zero (spline_pair e))) order) (length order) in ZerosFirst order k
+zeros_first order = go (ltb (zeros_in order) (length order)) refl (zeros-split order)
+  where
+    go : (b : Bool) → ltb (zeros_in order) (length order) ≡ b → (zeros_in order ≤ length order) × ZerosFirst order (zeros_in order)
+        → ZerosFirst order (unwrap_or (cond b (Some (zeros_in order)) None) (length order))
+    go true e rest = rest.1
+    go false e rest =
+        let all : zeros_in order ≡ length order = omega (arith, ltb-false _ _ e, rest.0) in
+        rw all at rest.1
 
 -- ---- the other pairs, one by one
 
-module _ (n : ℕ) (codes order : List ℕ) (whole : Table) where
+module _ (n : ℕ) (edges : List GraphEdge) (whole : Table) where
   -- the table, with the pairs from place k on still to be offered
   pub record Offers (t : Table) (k : ℕ) : Type 0 where
     pub is_sound : Sound n t
-    pub rest : (run t (map (pair_at codes) (drop k order))).table ≡ whole
+    pub rest : (run t (map pair_of (drop k edges))).table ≡ whole
 
-  module _ (few : n ≤ 64) (all : Each (λ k. Two n (pair_at codes k)) order) (t : Table) (k : ℕ) (o : Offers t k) (h : k < length order)
-      (pair : ℕ) (e : pair ≡ get_or codes (get_or order k 0) 0) where
+  module _ (few : n ≤ 64) (all : TwoEach n edges) (t : Table) (k : ℕ) (o : Offers t k) (d : GraphEdge) (h : k < length edges) where
+    abbrev edge : GraphEdge
+    edge = get_or edges k d
+
     -- no check refuses the pair at place k
-    pub checked : Unrefused t (decode pair).a (decode pair).b
+    pub checked : Unrefused t edge.a edge.b
     checked =
-        let two = two_read n codes order all k pair h e in
+        let two : Two n (pair_of edge) = each_at (λ e. Two n (pair_of e)) edges d all k h in
         let s = o.is_sound in
         record {
           few = rw s.splines few;
@@ -189,49 +151,50 @@ module _ (n : ℕ) (codes order : List ℕ) (whole : Table) where
           different = two.different;
         }
 
-    pub offer-next : (after : Table) → after ≡ (try_add_edge t (decode pair).a (decode pair).b).table → Offers after (k + 1)
+    pub offer-next : (after : Table) → after ≡ (try_add_edge t edge.a edge.b).table → Offers after (k + 1)
     unfolding run
     offer-next after q =
-        let rule = offer-sound t (decode pair).a (decode pair).b checked in
-        let here = ap (map (pair_at codes)) (drop-next order k 0 h) in
-        let next = (try_add_edge t (decode pair).a (decode pair).b).table in
+        let rule = offer-sound t edge.a edge.b checked in
+        let here = ap (map pair_of) (drop-next edges k d h) in
+        let next = (try_add_edge t edge.a edge.b).table in
         rw q (record {
           is_sound = subst (λ m. Sound m next) o.is_sound.splines rule.1;
           rest =
-              ap (λ (s : Table). (run s (map (pair_at codes) (drop (k + 1) order))).table) (ap (λ r. r.table) (sym rule.0))
-              ∙ rw e (ap (λ l. (run t l).table) (sym here)) ∙ o.rest;
+              ap (λ (s : Table). (run s (map pair_of (drop (k + 1) edges))).table) (ap (λ r. r.table) (sym rule.0))
+              ∙ ap (λ l. (run t l).table) (sym here) ∙ o.rest;
         })
 
-  pub offers_end : (t : Table) (k : ℕ) → Offers t k → length order ≤ k → t ≡ whole
+  pub offers_end : (t : Table) (k : ℕ) → Offers t k → length edges ≤ k → t ≡ whole
   unfolding run
-  offers_end t k o h = ap (λ l. (run t (map (pair_at codes) l)).table) (sym (drop_of_length-le order h)) ∙ o.rest
+  offers_end t k o h = ap (λ l. (run t (map pair_of l)).table) (sym (drop_of_length-le edges h)) ∙ o.rest
 
 -- ---- the whole
 
-module _ (n : ℕ) (codes order : List ℕ) (distances : List Float) (before after coloring : List ℕ) (r seed : ℕ) (o : Ordered n before codes order distances)
-    (z : ZerosEntered n codes order distances before after r) (colors : coloring ≡ color_second_degree_graph n after seed) where
+module _ (n : ℕ) (before after coloring : List ℕ) (order zeros others : List GraphEdge) (seed : ℕ) (o : Ordered n before order)
+    (z : map pair_of zeros ≡ zero_pairs (map spline_pair order)) (r : map pair_of others ≡ other_pairs (map spline_pair order))
+    (entered : after ≡ enter_pairs n (map pair_of zeros) before) (colors : coloring ≡ color_second_degree_graph n after seed) where
   abbrev table : Table
   table = table_of coloring after
 
   -- the table before the offers
-  starts : table ≡ start_table n (zero_pairs (pair_order n distances)) seed
+  starts : table ≡ start_table n (zero_pairs (map spline_pair order)) seed
   unfolding start_table
   starts =
-      let entries = z.0 ∙ ap (enter_pairs n (zero_pairs (pair_order n distances))) o.none in
+      let entries = entered ∙ ap₂ (enter_pairs n) z o.none in
       ap₂ (λ (c m : List ℕ). table_of c m) (colors ∙ ap (λ m. color_second_degree_graph n m seed) entries) entries
 
-  pub offerable : OfferableAll coloring after codes order
-  offerable =
-      let s : Sound n table = subst (Sound n) (sym starts) (start-sound n distances seed) in
+  pub offerable : TwoEach n zeros → TwoEach n others → OfferableAll coloring after others
+  offerable t u =
+      let m : Matrix n after = rw (entered, o.none) (matrix_pairs n zeros (replicate (n * n) 0) t (matrix_none n)) in
+      let splines : length coloring ≡ n = ap length colors ∙ graph_length n after seed in
       record {
-        few = rw s.splines o.given.few;
-        entries = s.size;
-        is_sound = s.is_sound;
-        numbers = o.in_order.numbers;
-        pairs = rw s.splines (two-numbers n codes order distances o.in_order);
+        few = rw splines o.few;
+        entries = rw splines m.size;
+        is_sound = matrix_sound _ (rw splines m) (λ i h. rw colors (graph_color n after seed i));
+        pairs = rw splines u;
       }
 
   -- and after them
-  pub ends : (t : Table) → t ≡ (run table (map (pair_at codes) (drop r order))).table → t.coloring ≡ color_splines n distances seed
-  unfolding offer_splines
-  ends t e = ap (λ (s : Table). s.coloring) (e ∙ ap₂ (λ s l. (run s l).table) starts z.1)
+  pub ends : (t : Table) → t ≡ (run table (map pair_of others)).table → t.coloring ≡ color_in_order n (map spline_pair order) seed
+  unfolding offer_in_order
+  ends t e = ap (λ (s : Table). s.coloring) (e ∙ ap₂ (λ s l. (run s l).table) starts r)

@@ -15,9 +15,9 @@ use Rattle.coloring.specs.Recolor.{row, vertex_possible_colors, first_possible_c
 use Rattle.coloring.specs.Recolor.{walk, walk_fuel, walk_from, walk_start, recolor, Offerable}
 use Rattle.coloring.specs.SplineTable.{Table, OfferAnswer, kept, declined, refused, Offered, outcome}
 use Rattle.coloring.specs.SplineTable.{settled, walked_on, enter_pair, sound, try_add_edge, check_offer, offer}
-use Rattle.coloring.specs.Answers.{in_order}
+use Rattle.coloring.specs.Answers.{refusal, Check, all_pass, first_refusal, passed_both, all-passed, one_failed, either_way}
 use Rattle.coloring.specs.Sequence.{Pair}
-use Rattle.coloring.specs.Bools.{and_left, and_right, split}
+use Rattle.coloring.specs.Bools.{and_left, and_right}
 use Rattle.coloring.proofs.recolor.FreeColorLaws.{others}
 use Rattle.coloring.proofs.recolor.UncolorLaws.{force_uncolors}
 use Rattle.coloring.proofs.recolor.WalkLaws.{Ends, Going, going_start, walk_ends, walk_fuel_lem}
@@ -78,73 +78,81 @@ unrefused_offerable t a b v =
     record { few = v.few; entries = v.size; first = v.first; second = v.second; color = sound-color t v.is_sound a v.first }
 
 module _ (t : Table) (a b : ℕ) where
-  abbrev refusal : ℕ → Offered
-  refusal number = record { answer = refused number; table = t }
+  abbrev checks : List Check
+  checks = check_offer t a b
 
   -- the third check
   abbrev good : Bool
   good = sound t && ltb a (splines t) && ltb b (splines t) && not (eqb a b)
 
-  pub offer-many : 64 < splines t → offer t a b ≡ refusal 4
-  unfolding offer in_order check_offer
-  offer-many h = rw (lt-leb (splines t) 64 h, offer)
+  pub check-many : 64 < splines t → first_refusal checks ≡ refusal 4
+  unfolding first_refusal check_offer
+  check-many h = rw (lt-leb (splines t) 64 h, first_refusal)
 
   module _ (few : splines t ≤ 64) where
-    pub offer-lengths : length t.edge_matrix ≢ splines t * splines t → offer t a b ≡ refusal 8
-    unfolding offer in_order check_offer
-    offer-lengths h = rw (le-leb (splines t) 64 few, ne_eqb (length t.edge_matrix) (splines t * splines t) h, offer)
+    pub check-lengths : length t.edge_matrix ≢ splines t * splines t → first_refusal checks ≡ refusal 8
+    unfolding first_refusal check_offer
+    check-lengths h = rw (le-leb (splines t) 64 few, ne_eqb (length t.edge_matrix) (splines t * splines t) h, first_refusal)
 
     module _ (size : length t.edge_matrix ≡ splines t * splines t) where
-      bad : good ≡ false → offer t a b ≡ refusal 10
-      unfolding offer in_order check_offer
-      bad e = rw (le-leb (splines t) 64 few, eq-eqb (length t.edge_matrix) (splines t * splines t) size, e, offer)
+      bad : good ≡ false → first_refusal checks ≡ refusal 10
+      unfolding first_refusal check_offer
+      bad e = rw (le-leb (splines t) 64 few, eq-eqb (length t.edge_matrix) (splines t * splines t) size, e, first_refusal)
 
-      pub offer_unsound : sound t ≡ false → offer t a b ≡ refusal 10
-      offer_unsound e = bad (rw e)
+      pub check_unsound : sound t ≡ false → first_refusal checks ≡ refusal 10
+      check_unsound e = bad (rw e)
 
-      pub offer-first : splines t ≤ a → offer t a b ≡ refusal 10
-      offer-first h = bad (rw (le-ltb a (splines t) h, and-false (sound t)))
+      pub check-first : splines t ≤ a → first_refusal checks ≡ refusal 10
+      check-first h = bad (rw (le-ltb a (splines t) h, and-false (sound t)))
 
-      pub offer-second : splines t ≤ b → offer t a b ≡ refusal 10
-      offer-second h = bad (rw (le-ltb b (splines t) h, and-false (sound t && ltb a (splines t))))
+      pub check-second : splines t ≤ b → first_refusal checks ≡ refusal 10
+      check-second h = bad (rw (le-ltb b (splines t) h, and-false (sound t && ltb a (splines t))))
 
-      pub offer_equal : a ≡ b → offer t a b ≡ refusal 10
-      offer_equal e = bad (rw (eq-eqb a b e) (and-false (sound t && ltb a (splines t) && ltb b (splines t))))
+      pub check_equal : a ≡ b → first_refusal checks ≡ refusal 10
+      check_equal e = bad (rw (eq-eqb a b e) (and-false (sound t && ltb a (splines t) && ltb b (splines t))))
+
+  pub check_passes : Unrefused t a b → first_refusal checks ≡ all_pass
+  unfolding first_refusal check_offer
+  check_passes v =
+      let n = splines t in
+      let passes : good ≡ true = rw (v.is_sound, lt-ltb a n v.first, lt-ltb b n v.second, ne_eqb a b v.different) in
+      rw (le-leb n 64 v.few, eq-eqb (length t.edge_matrix) (n * n) v.size, passes, first_refusal)
+
+  pub passed_unrefused : first_refusal checks ≡ all_pass → Unrefused t a b
+  unfolding check_offer
+  passed_unrefused e =
+      let n = splines t in
+      let few = passed_both 4 (leb n 64) _ e in
+      let size = passed_both 8 (eqb (length t.edge_matrix) (n * n)) _ few.1 in
+      let all = (passed_both 10 good [] size.1).0 in
+      let three = and_left (sound t && ltb a n && ltb b n) _ all in
+      let two = and_left (sound t && ltb a n) _ three in
+      record {
+        few = leb-true _ _ few.0;
+        size = eqb-true _ _ size.0;
+        is_sound = and_left (sound t) _ two;
+        first = ltb-true _ _ (and_right (sound t) _ two);
+        second = ltb-true _ _ (and_right (sound t && ltb a n) _ three);
+        different = eqb-false _ _ (not-true _ (and_right (sound t && ltb a n && ltb b n) _ all));
+      }
+
+  -- a refused offer leaves the table as it came
+  abbrev pub untouched : ℕ → Offered
+  untouched number = record { answer = refused number; table = t }
+
+  pub offer_refused : {number : ℕ} → first_refusal checks ≡ refusal number → offer t a b ≡ untouched number
+  unfolding offer
+  offer_refused e = one_failed checks untouched (try_add_edge t a b) e
 
   -- an offer of two different splines of a sound table is `try_add_edge`
   pub offer_rule : Unrefused t a b → offer t a b ≡ try_add_edge t a b
-  unfolding offer in_order check_offer
-  offer_rule v =
-      let n = splines t in
-      let passes : good ≡ true = rw (v.is_sound, lt-ltb a n v.first, lt-ltb b n v.second, ne_eqb a b v.different) in
-      rw (le-leb n 64 v.few, eq-eqb (length t.edge_matrix) (n * n) v.size, passes, offer)
+  unfolding offer
+  offer_rule v = all-passed checks untouched (try_add_edge t a b) (check_passes v)
 
-  -- every other is refused, with the table as it came
-  pub offer_cases : (P : Offered → Type 0) → ((number : ℕ) → P (refusal number)) → (Unrefused t a b → P (try_add_edge t a b)) → P (offer t a b)
-  unfolding offer in_order check_offer
-  offer_cases P refuse tried = split (leb n 64) few (λ e. rw (e, offer) (refuse 4))
-    where
-      n : ℕ
-      n = splines t
-
-      checked : leb n 64 ≡ true → eqb (length t.edge_matrix) (n * n) ≡ true → good ≡ true → Unrefused t a b
-      checked e f g =
-          let three = and_left (sound t && ltb a n && ltb b n) _ g in
-          let two = and_left (sound t && ltb a n) _ three in
-          record {
-            few = leb-true _ _ e;
-            size = eqb-true _ _ f;
-            is_sound = and_left (sound t) _ two;
-            first = ltb-true _ _ (and_right (sound t) _ two);
-            second = ltb-true _ _ (and_right (sound t && ltb a n) _ three);
-            different = eqb-false _ _ (not-true _ (and_right (sound t && ltb a n && ltb b n) _ g));
-          }
-
-      right : leb n 64 ≡ true → eqb (length t.edge_matrix) (n * n) ≡ true → P (offer t a b)
-      right e f = split good (λ g. rw (e, f, g, offer) (tried (checked e f g))) (λ g. rw (e, f, g, offer) (refuse 10))
-
-      few : leb n 64 ≡ true → P (offer t a b)
-      few e = split (eqb (length t.edge_matrix) (n * n)) (right e) (λ f. rw (e, f, offer) (refuse 8))
+  -- every other is refused
+  pub offer_cases : (P : Offered → Type 0) → ((number : ℕ) → P (untouched number)) → (Unrefused t a b → P (try_add_edge t a b)) → P (offer t a b)
+  unfolding offer
+  offer_cases P refuse tried = either_way checks untouched (try_add_edge t a b) P (λ e. tried (passed_unrefused e)) (λ number e. refuse number)
 
 -- ---- the walk
 

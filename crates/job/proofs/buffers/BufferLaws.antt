@@ -1,9 +1,9 @@
 -- A buffer that is written from the front: what is written, and what stood beyond it.
 use mathlib.Core.Path.{◌≡◌, refl, sym, ap, ◌∙◌}
 use mathlib.Core.List.{List, [], ◌∷◌, ◌++◌, append_assoc, append-nil}
-use Prim.Native.Nat.{ℕ, suc, ◌+◌, ◌*◌, ◌≤◌, ◌<◌}
+use Prim.Native.Nat.{ℕ, suc, ◌+◌, ◌-◌, ◌*◌, ◌≤◌, ◌<◌}
 use native.Mathlib.Omega.{arith}
-use lib.ListN.{length, take, drop, get_or, set, replicate, length-append, length-drop, length-replicate, replicate-append-replicate, drop_of_length-le}
+use lib.ListN.{length, take, drop, get_or, set, replicate, length-append, length-drop, drop_of_length-le}
 use lib.ListN.{length-set, get_or-append}
 use lib.Seq.{drop-cons, drop-drop, set_at, set-append_left, append_snoc, take_at, drop_at, take-suc, length-take-le}
 use Rattle.math.specs.Scalar.{f0}
@@ -13,7 +13,8 @@ use Rattle.job.specs.declared.records.Kind.{Kind}
 use Rattle.job.specs.declared.records.Kind.TheVariants.{Line, Quadratic, Cubic}
 use Rattle.job.specs.Patterns.{words, floats}
 use Rattle.job.specs.Records.{controls}
-use Rattle.job.specs.Buffers.{points_read}
+use Rattle.job.specs.declared.buffers.JobBuffers.{JobBuffers}
+use Rattle.job.specs.Buffers.{points_read, SameJobBuffers}
 
 module _ {A : Type 0} where
   -- one element more
@@ -35,11 +36,14 @@ module _ {A : Type 0} where
       let e : length (take i xs) ≡ i = length-take-le i xs (omega arith) in
       ap (λ (n : ℕ). set (over (take i xs) old) n (get_or xs i d)) (sym e) ∙ over-more (take i xs) old (get_or xs i d) (omega arith) ∙ rw (← take-suc xs i d h)
 
-  -- the same element again and again
-  pub over_repeat : (n : ℕ) (old : List A) (x : A) → n < length old → set (over (replicate n x) old) n x ≡ over (replicate (n + 1) x) old
-  over_repeat n old x h =
-      let e : length (replicate n x) ≡ n = length-replicate n x in
-      ap (λ (k : ℕ). set (over (replicate n x) old) k x) (sym e) ∙ over-more (replicate n x) old x (omega arith) ∙ rw (← replicate-append-replicate n 1 x)
+  -- what is written is at the front
+  pub take-over : {n : ℕ} {new : List A} (xs old : List A) → new ≡ over xs old → n ≡ length xs → take n new ≡ xs
+  unfolding over
+  take-over {n = n} xs old e h = rw e (take_at xs _ n (sym h))
+
+  pub within-over : {n : ℕ} {new : List A} (xs old : List A) → new ≡ over xs old → n ≡ length xs → n ≤ length new
+  unfolding over
+  within-over xs old e h = rw e (omega (arith, h, length-append xs (drop (length xs) old)))
 
   -- all of the buffer
   pub over-all : (xs old : List A) → length old ≤ length xs → over xs old ≡ xs
@@ -70,9 +74,23 @@ module _ {A : Type 0} where
       )
       (sym (append_assoc xs part (drop (length xs + length part) old)))
 
--- the control points of an edge over eight places of +0 are the edge as it is stored
-pub places-from : (kind : Kind) (body : List ℕ) → over (floats (words (2 * controls kind) body)) (replicate 8 f0) ≡ points_read kind body
-unfolding over floats words points_read to_stored
-places-from Line body = refl
-places-from Quadratic body = refl
-places-from Cubic body = refl
+-- the control points of an edge and +0 are the edge as it is stored
+pub places_from : (kind : Kind) (body : List ℕ)
+    → floats (words (2 * controls kind) body) ++ replicate (8 - 2 * controls kind) f0 ≡ points_read kind body
+unfolding floats words points_read to_stored
+places_from Line body = refl
+places_from Quadratic body = refl
+places_from Cubic body = refl
+
+-- buffers that stay the same, twice
+pub same_then : {a b c : JobBuffers} → SameJobBuffers a b → SameJobBuffers b c → SameJobBuffers a c
+same_then p q = record {
+  lengths_same = q.lengths_same ∙ p.lengths_same;
+  kinds_same = q.kinds_same ∙ p.kinds_same;
+  points_same = q.points_same ∙ p.points_same;
+  distances_same = q.distances_same ∙ p.distances_same;
+  lengths_long = q.lengths_long ∙ p.lengths_long;
+  kinds_long = q.kinds_long ∙ p.kinds_long;
+  points_long = q.points_long ∙ p.points_long;
+  distances_long = q.distances_long ∙ p.distances_long;
+}

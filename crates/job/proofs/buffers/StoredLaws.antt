@@ -1,6 +1,6 @@
 -- A job as it is stored: what one record more adds, and that the buffers follow it.
 use mathlib.Core.Path.{◌≡◌, refl, sym, ap, ◌∙◌}
-use mathlib.Core.List.{List, [], ◌∷◌, ◌++◌, map, append-nil, append_assoc, flatten}
+use mathlib.Core.List.{List, [], ◌∷◌, ◌++◌, map, map-append, append-nil, append_assoc, flatten}
 use Prim.Native.Nat.{ℕ, suc, ◌+◌, ◌-◌, ◌<◌, ◌≤◌}
 use native.Mathlib.Omega.{arith}
 use lib.ListN.{length, get_or, set, length-append, length-map}
@@ -8,18 +8,15 @@ use Rattle.geometry.specs.declared.edge_segment.EdgeSegment.{EdgeSegment}
 use Rattle.geometry.specs.declared.edge_segment.EdgeSegment.TheVariants as segment
 use Rattle.geometry.specs.EdgeSegment.{to_stored}
 use Rattle.coloring.specs.Sizes.{sizes}
-use Rattle.job.specs.Records.{kind_of}
+use Rattle.job.specs.Records.{kind_number, kind_of}
 use Rattle.job.specs.Job.{with_edge}
 use Rattle.job.specs.Progress.{edge_count}
-use Rattle.job.specs.Buffers.{kinds_stored, points_stored, kind_number}
+use Rattle.job.specs.Buffers.{kinds_stored, points_stored}
 
 -- ---- lists
 
-pub map_snoc : {A B : Type 0} (f : A → B) (xs : List A) (x : A) → map f (xs ++ (x ∷ [])) ≡ map f xs ++ (f x ∷ [])
-map_snoc f [] x = refl
-map_snoc f (y ∷ xs) x = ap (λ r. f y ∷ r) (map_snoc f xs x)
-
-concat_snoc : {A : Type 0} (xss : List (List A)) (xs : List A) → flatten (xss ++ (xs ∷ [])) ≡ flatten xss ++ xs
+-- a list more, joined with the others
+pub concat_snoc : {A : Type 0} (xss : List (List A)) (xs : List A) → flatten (xss ++ (xs ∷ [])) ≡ flatten xss ++ xs
 unfolding flatten
 concat_snoc [] xs = append-nil xs
 concat_snoc (ys ∷ xss) xs = ap (λ r. ys ++ r) (concat_snoc xss xs) ∙ sym (append_assoc ys (flatten xss) xs)
@@ -51,10 +48,10 @@ kind-number (segment.Quadratic p0 p1 p2) = refl
 kind-number (segment.Cubic p0 p1 p2 p3) = refl
 
 pub kinds-edge : (edges : List EdgeSegment) (e : EdgeSegment) → kinds_stored (edges ++ (e ∷ [])) ≡ kinds_stored edges ++ ((to_stored e).kind ∷ [])
-kinds-edge edges e = map_snoc _ edges e
+kinds-edge edges e = map-append _ edges (e ∷ [])
 
 pub places-edge : (edges : List EdgeSegment) (e : EdgeSegment) → points_stored (edges ++ (e ∷ [])) ≡ points_stored edges ++ (to_stored e).points
-places-edge edges e = ap flatten (map_snoc (λ (x : EdgeSegment). (to_stored x).points) edges e)
+places-edge edges e = ap flatten (map-append (λ (x : EdgeSegment). (to_stored x).points) edges (e ∷ []))
     ∙ concat_snoc (map (λ (x : EdgeSegment). (to_stored x).points) edges) (to_stored e).points
 
 pub kinds-length : (edges : List EdgeSegment) → length (kinds_stored edges) ≡ length edges

@@ -7,6 +7,10 @@ use lib.Dec.{leb}
 use lib.Ieee.{Float}
 use lib.ListN.{length}
 use borrow.Author.Tests.{le-leb}
+use Rattle.std.specs.Prelude as Prelude
+use Rattle.std.specs.Prelude.{Ok, Err}
+use Rattle.std.specs.Result.{is_ok}
+use Rattle.coloring.specs.declared.refusal.Refusal.{Refusal}
 use Rattle.coloring.specs.PairOrder.{distances_valid}
 use Rattle.coloring.specs.Limits.{max_splines, max_distances}
 use Rattle.coloring.specs.SplineColors.{check_splines}
@@ -22,14 +26,14 @@ use Rattle.job.specs.declared.records.Strategy.TheVariants.{Simple, InkTrap, ByD
 use Rattle.job.specs.declared.progress.Numbers.{Numbers}
 use Rattle.job.specs.Records.{by_distance}
 use Rattle.job.specs.Job.{threshold_of, Job, Reading, read_job}
-use Rattle.job.specs.Progress.{numbers_of, answer_of}
-use Rattle.job.specs.Buffers.{Buffers, stored_job}
+use Rattle.job.specs.Progress.{numbers_of, answer_of, read_answer}
+use Rattle.job.specs.Buffers.{Buffers, outline_of, part_of, stored_job}
 use Rattle.job.specs.Reader.{read_into}
 use Rattle.job.specs.Color.{marking_by, laid_in, job_counts, check_job, check_reading, check_file, accept_reading}
-use Rattle.job.specs.Color.{accept_job, accepted, paired, outline_of, HoldsJobs, HoldsResults}
+use Rattle.job.specs.Color.{accept_job, accepted, paired, HoldsJobs, HoldsResults}
 use Rattle.job.proofs.progress.ProgressLaws.{job_sound, contours-few, edges_few}
-use Rattle.job.proofs.reader.DeliverLaws.{As-job}
-use Rattle.job.proofs.color.ColorLaws.{Holding, held-outline, held_is_outline, collected, job_room}
+use Rattle.job.proofs.reader.DeliverLaws.{As-job, answer-refused}
+use Rattle.job.proofs.color.ColorLaws.{Holding, part_is, collected, job_room}
 use Rattle.job.proofs.AnswerLaws.{fits_numbered}
 
 -- ---- by distance the number of splines decides
@@ -53,22 +57,29 @@ checked_by_distance : (file : List ℕ) (job : Job) → read_job file ≡ gives 
 unfolding check_file check_reading check_job
 checked_by_distance file job e by = rw (e, by)
 
-module _ {file : List ℕ} {n : Numbers} {old : Buffers} {lengths kinds : List ℕ} {points distances : List Float}
-    (h : Holding file n old lengths kinds points distances) where
+module _ {file : List ℕ} {n : Numbers} {old b : Buffers} (h : Holding file n old b) where
   pub held-checked : (threshold : Float) (out : Result) → HoldsResults out → n.header.strategy ≡ ByDistance → threshold ≡ threshold_of n.header
-      → paired (collect_splines (held-outline h) threshold out).answer n.distances ≡ check_file file
+      → paired (collect_splines (outline_of (part_of n b)) threshold out).answer n.distances ≡ check_file file
   unfolding counts_of
   held-checked threshold out room asks e =
       let job = h.job in
       let so = job_sound file job h.is_read in
-      ap (λ (x : Float). paired (collect_splines (held-outline h) x out).answer n.distances) e
-      ∙ ap (λ (o : Outline). paired (collect_splines o (threshold_of n.header) out).answer n.distances) (held_is_outline h)
+      ap (λ (x : Float). paired (collect_splines (outline_of (part_of n b)) x out).answer n.distances) e
+      ∙ ap (λ (o : Outline). paired (collect_splines o (threshold_of n.header) out).answer n.distances) (ap outline_of (part_is h))
       ∙ ap (λ (m : Numbers). paired (collect_splines (outline_of (stored_job job)) (threshold_of m.header) out).answer m.distances) h.numbers
       ∙ ap (λ (o : Outcome). paired o.answer (length job.distances))
       (collected job so (contours-few file job h.is_read) (edges_few file job h.is_read) out)
       ∙ pairs-checked (spline_total (laid_in job)) job.distances _ _ out refl so.distances-few so.distances-valid
       (fits_numbered file out room job h.is_read)
       ∙ sym (checked_by_distance file job h.is_read (ap (λ (m : Numbers). m.header.strategy) (sym h.numbers) ∙ asks))
+
+pub check_unread : (file : List ℕ) (number : ℕ) → refusal number ≡ answer_of (read_job file) → refusal number ≡ check_file file
+unfolding check_file check_reading
+check_unread file number e = rw (answer-refused (read_job file) number e)
+
+pub paired_refused : (number distances : ℕ) → refusal number ≡ paired (refusal number) distances
+unfolding paired
+paired_refused number distances = refl
 
 -- ---- which files are accepted
 
@@ -128,6 +139,13 @@ from-accepted (gives other) job e = go (first_refusal (check_job other)) refl
 pub accept_same : (file : List ℕ) (n : Numbers) → As-job (accept_job file) n → read_job file ≡ accept_job file
 unfolding accept_job
 accept_same file n a = from-accepted (read_job file) a.job a.is_read ∙ sym a.is_read
+
+-- what the code answers succeeds where the reading does
+pub succeeds_ok : (answer : Prelude.Result Numbers Refusal) (reading : Reading) → read_answer answer ≡ answer_of reading → succeeds reading ≡ is_ok answer
+succeeds_ok (Ok n) (gives job) e = refl
+succeeds_ok (Ok n) (refusal number) e = cc
+succeeds_ok (Err r) (gives job) e = cc
+succeeds_ok (Err r) (refusal number) e = refl
 
 pub accepted_same : (file : List ℕ) → accepted file ≡ true → read_job file ≡ accept_job file
 accepted_same file h = go (accept_job file) refl h

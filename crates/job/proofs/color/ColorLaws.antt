@@ -7,14 +7,13 @@ use Prim.Native.Nat.{ℕ, ◌*◌, ◌≤◌}
 use native.Mathlib.Omega.{arith}
 use lib.Dec.{leb}
 use lib.Ieee.{Float}
-use lib.ListN.{length, take, drop, length-append, length-map}
-use lib.Seq.{take_at}
+use lib.ListN.{length, length-map}
 use borrow.Author.Tests.{le-leb, eq-eqb}
 use Rattle.geometry.specs.EdgeSegment.{to_stored, from_stored}
 use Rattle.geometry.specs.declared.edge_segment.EdgeSegment.{EdgeSegment}
 use Rattle.geometry.specs.declared.edge_segment.EdgeSegment.TheVariants as segment
 use Rattle.coloring.specs.Limits.{max_contours, max_edges, max_splines, max_distances}
-use Rattle.coloring.specs.Lists.{all, over}
+use Rattle.coloring.specs.Lists.{all}
 use Rattle.coloring.specs.declared.settings.Marking.{Marking}
 use Rattle.coloring.specs.declared.settings.Marking.TheVariants.{Numbers}
 use Rattle.coloring.specs.declared.settings.Division.{Division}
@@ -32,13 +31,14 @@ use Rattle.coloring.specs.Answers.{gives, refusal, all_pass, unless, first_refus
 use Rattle.job.specs.declared.progress.Numbers.{Numbers as JobNumbers}
 use Rattle.job.specs.Job.{threshold_of, Job, read_job}
 use Rattle.job.specs.Progress.{edge_count, numbers_of, answer_of}
-use Rattle.job.specs.Buffers.{Buffers, buffers, kinds_stored, points_stored, stored_job, over_each, room_for, has_room, Hold}
+use Rattle.job.specs.Buffers.{Buffers, outline_of, part_of, kinds_stored, points_stored, stored_job, over_each, room_for, has_room}
 use Rattle.job.specs.Reader.{Fits, filled}
 use Rattle.job.specs.Color.{marking_of, corners_in, laid_in, job_counts, check_job, colored_edges, edge_colors, colored, color_job}
-use Rattle.job.specs.Color.{color_reading, color_file, outline_of, job_settings, HoldsJobs}
+use Rattle.job.specs.Color.{color_reading, color_file, job_settings, HoldsJobs}
 use Rattle.job.proofs.records.ReadingLaws.{edge_fits}
 use Rattle.job.proofs.progress.ProgressLaws.{Sound, job_sound, contours-few, edges_few}
 use Rattle.job.proofs.reader.DeliverLaws.{answer_job, answer-refused}
+use Rattle.job.proofs.buffers.BufferLaws.{take-over, within-over}
 use Rattle.job.proofs.buffers.StoredLaws.{kinds-length}
 
 -- ---- the buffers hold the contours
@@ -63,7 +63,7 @@ map-flatten f (xs ∷ xss) = map-append f xs (flatten xss) ∙ rw (map-flatten f
 -- ---- and pass the checks
 
 kinds-known : (edges : List EdgeSegment) → all known_kind (kinds_stored edges) ≡ true
-unfolding all to_stored
+unfolding to_stored
 kinds-known [] = refl
 kinds-known (segment.Line p0 p1 ∷ edges) = kinds-known edges
 kinds-known (segment.Quadratic p0 p1 p2 ∷ edges) = kinds-known edges
@@ -74,7 +74,7 @@ and_next true b c h then = then h
 and_next false b c h then = h
 
 coordinates_pass : (edges : List EdgeSegment) → all edge_fits edges ≡ true → coordinates_fit (kinds_stored edges) (points_stored edges) ≡ true
-unfolding coordinates_fit all to_stored flatten
+unfolding coordinates_fit to_stored flatten
 coordinates_pass [] h = refl
 coordinates_pass (segment.Line p0 p1 ∷ edges) h = and_next (edge_fits (segment.Line p0 p1)) _ _ h (λ k. coordinates_pass edges k)
 coordinates_pass (segment.Quadratic p0 p1 p2 ∷ edges) h = and_next (edge_fits (segment.Quadratic p0 p1 p2)) _ _ h (λ k. coordinates_pass edges k)
@@ -129,14 +129,6 @@ module _ (job : Job) (so : Sound job) (contours_fit : length job.contours ≤ ma
 
 -- ---- from what the reader delivers
 
-take-over : {A : Type 0} (n : ℕ) (xs ys : List A) → length xs ≡ n → take n (over xs ys) ≡ xs
-unfolding over
-take-over n xs ys e = take_at xs _ n e
-
-within : {A : Type 0} {n : ℕ} (xs ys : List A) → length xs ≡ n → n ≤ length (over xs ys)
-unfolding over
-within xs ys e = omega (arith, e, length-append xs (drop (length xs) ys))
-
 -- a job that was read has room
 pub job_room : (file : List ℕ) (job : Job) (old : Buffers) → read_job file ≡ gives job → HoldsJobs old → has_room (numbers_of job) old ≡ true
 unfolding room_for
@@ -152,19 +144,18 @@ job_room file job old e h =
     )
 
 -- what the buffers hold after reading
-pub record Holding (file : List ℕ) (n : JobNumbers) (old : Buffers) (lengths kinds : List ℕ) (points distances : List Float) : Type 0 where
+pub record Holding (file : List ℕ) (n : JobNumbers) (old b : Buffers) : Type 0 where
   pub job : Job
   pub is_read : read_job file ≡ gives job
   pub numbers : n ≡ numbers_of job
-  pub holds : Hold (over_each (stored_job job) old) lengths kinds points distances
+  pub holds : b ≡ over_each (stored_job job) old
 
 module _ (file : List ℕ) (n : JobNumbers) (old : Buffers) (numbers_are : gives n ≡ answer_of (read_job file)) where
   pub fits_jobs : HoldsJobs old → Fits (read_job file) old
   fits_jobs room = let a = answer_job (read_job file) n numbers_are in rw a.is_read (job_room file a.job old a.is_read room)
 
-  pub holding_of : (lengths kinds : List ℕ) (points distances : List Float) → Hold (filled (read_job file) old) lengths kinds points distances
-      → Holding file n old lengths kinds points distances
-  holding_of lengths kinds points distances h =
+  pub holding_of : (b : Buffers) → b ≡ filled (read_job file) old → Holding file n old b
+  holding_of b h =
       let a = answer_job (read_job file) n numbers_are in
       record { job = a.job; is_read = a.is_read; numbers = a.numbers; holds = rw a.is_read at h }
 
@@ -173,65 +164,56 @@ pub color-refused : (file : List ℕ) (number : ℕ) (out : Result) → refusal 
 unfolding color_file color_reading
 color-refused file number out numbers_are = rw (answer-refused (read_job file) number numbers_are)
 
-module _ {file : List ℕ} {n : JobNumbers} {old : Buffers} {lengths kinds : List ℕ} {points distances : List Float}
-    (h : Holding file n old lengths kinds points distances) where
+module _ {file : List ℕ} {n : JobNumbers} {old b : Buffers} (h : Holding file n old b) where
   -- the parts of the buffers that hold the job
-  abbrev held : Buffers
-  held = buffers (take n.contours lengths) (take n.edges kinds) (take (8 * n.edges) points) (take n.distances distances)
-
-  held_is : held ≡ stored_job h.job
+  pub part_is : part_of n b ≡ stored_job h.job
   unfolding over_each stored_job
-  held_is =
+  part_is =
       let job = h.job in
       let edges = flatten job.contours in
       rw (
         h.numbers,
-        h.holds.lengths_are,
-        h.holds.kinds_are,
-        h.holds.points_are,
-        h.holds.distances_are,
-        take-over (length job.contours) (sizes job.contours) old.lengths (length-map job.contours (λ (c : List EdgeSegment). length c)),
-        take-over (length edges) (kinds_stored edges) old.kinds (kinds-length edges),
-        take-over (8 * length edges) (points_stored edges) old.points (points-length edges),
-        take-over (length job.distances) job.distances old.distances refl,
+        h.holds,
+        take-over (sizes job.contours) old.lengths refl (sym (length-map job.contours (λ (c : List EdgeSegment). length c))),
+        take-over (kinds_stored edges) old.kinds refl (sym (kinds-length edges)),
+        take-over (points_stored edges) old.points refl (sym (points-length edges)),
+        take-over job.distances old.distances refl refl,
       )
 
-  -- and the outline in them
-  abbrev pub held-outline : Outline
-  held-outline = outline_of held
-
-  pub held_is_outline : held-outline ≡ outline_of (stored_job h.job)
-  held_is_outline = ap outline_of held_is
-
   pub held-colored : (settings : Settings) (out : Result) → settings ≡ job_settings n
-      → edge_coloring settings held-outline held.distances out ≡ color_file file out
+      → edge_coloring settings (outline_of (part_of n b)) (part_of n b).distances out ≡ color_file file out
   unfolding color_file color_reading
   held-colored settings out e =
       let job = h.job in
       let so = job_sound file job h.is_read in
-      ap (λ (s : Settings). edge_coloring s held-outline held.distances out) e
-      ∙ ap (λ (b : Buffers). edge_coloring (job_settings n) (outline_of b) b.distances out) held_is
+      ap (λ (s : Settings). edge_coloring s (outline_of (part_of n b)) (part_of n b).distances out) e
+      ∙ ap (λ (b : Buffers). edge_coloring (job_settings n) (outline_of b) b.distances out) part_is
       ∙ rw (h.numbers, h.is_read) (stored_colored job so (contours-few file job h.is_read) (edges_few file job h.is_read) out)
 
   -- and they lie within the buffers
   pub edges_most : n.edges ≤ max_edges
   edges_most = rw h.numbers (edges_few file h.job h.is_read)
 
-  pub contours-within : n.contours ≤ length lengths
+  pub contours-within : n.contours ≤ length b.lengths
   unfolding over_each stored_job
-  contours-within = rw (h.numbers, h.holds.lengths_are) (within (sizes h.job.contours) old.lengths
-      (length-map h.job.contours (λ (c : List EdgeSegment). length c)))
+  contours-within = rw (h.numbers, h.holds)
+      (within-over (sizes h.job.contours) old.lengths refl (sym (length-map h.job.contours (λ (c : List EdgeSegment). length c))))
 
-  pub kinds-within : n.edges ≤ length kinds
+  pub kinds-within : n.edges ≤ length b.kinds
   unfolding over_each stored_job
-  kinds-within = rw (h.numbers, h.holds.kinds_are)
-      (within (kinds_stored (flatten h.job.contours)) old.kinds (kinds-length (flatten h.job.contours)))
+  kinds-within = rw (h.numbers, h.holds)
+      (within-over (kinds_stored (flatten h.job.contours)) old.kinds refl (sym (kinds-length (flatten h.job.contours))))
 
-  pub places-within : 8 * n.edges ≤ length points
+  pub places-within : 8 * n.edges ≤ length b.points
   unfolding over_each stored_job
-  places-within = rw (h.numbers, h.holds.points_are)
-      (within (points_stored (flatten h.job.contours)) old.points (points-length (flatten h.job.contours)))
+  places-within = rw (h.numbers, h.holds)
+      (within-over (points_stored (flatten h.job.contours)) old.points refl (sym (points-length (flatten h.job.contours))))
 
-  pub distances-within : n.distances ≤ length distances
+  pub distances-within : n.distances ≤ length b.distances
   unfolding over_each stored_job
-  distances-within = rw (h.numbers, h.holds.distances_are) (within h.job.distances old.distances refl)
+  distances-within = rw (h.numbers, h.holds) (within-over h.job.distances old.distances refl refl)
+
+  -- so the job has room
+  pub held_room : has_room n b ≡ true
+  unfolding room_for
+  held_room = rw (le-leb _ _ contours-within, le-leb _ _ kinds-within, le-leb _ _ places-within, le-leb _ _ distances-within)

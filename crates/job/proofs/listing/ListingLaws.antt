@@ -1,5 +1,5 @@
 -- The text of an answer: its numbers of up to three digits, and how long it can get.
-use mathlib.Core.Path.{◌≡◌, refl, sym, ap, ◌∙◌}
+use mathlib.Core.Path.{◌≡◌, refl, ap, ◌∙◌}
 use mathlib.Core.Bool.{Bool, true, false}
 use mathlib.Core.List.{List, [], ◌∷◌, ◌++◌, append_assoc, flatten}
 use Prim.Native.Nat.{ℕ, zero, suc, ◌+◌, ◌*◌, ◌/◌, ◌%◌, ◌<◌, ◌≤◌}
@@ -35,28 +35,33 @@ more_digits d n h = go (ltb n 10) (le-ltb n 10 h)
     go true h = cc
     go false h = refl
 
-pub decimal-one : (n : ℕ) → n < 10 → decimal n ≡ (digit n ∷ [])
+pub decimal_one : (n : ℕ) → n < 10 → decimal n ≡ (digit n ∷ [])
 unfolding decimal
-decimal-one n h = last-digit 19 n h
+decimal_one n h = last-digit 19 n h
 
-pub decimal-two : (n : ℕ) → 10 ≤ n → n < 100 → decimal n ≡ (digit (n / 10) ∷ digit (n % 10) ∷ [])
+pub decimal_two : (n : ℕ) → 10 ≤ n → n < 100 → decimal n ≡ (digit (n / 10) ∷ digit (n % 10) ∷ [])
 unfolding decimal
-decimal-two n h k = more_digits 19 n h ∙ rw (last-digit 18 (n / 10) (omega arith))
+decimal_two n h k = more_digits 19 n h ∙ rw (last-digit 18 (n / 10) (omega arith))
 
-pub decimal_three : (n : ℕ) → 100 ≤ n → n < 1000 → decimal n ≡ (digit (n / 10 / 10) ∷ digit (n / 10 % 10) ∷ digit (n % 10) ∷ [])
+pub decimal_three : (n : ℕ) → 100 ≤ n → n < 1000 → decimal n ≡ (digit (n / 100) ∷ digit (n / 10 % 10) ∷ digit (n % 10) ∷ [])
 unfolding decimal
-decimal_three n h k = more_digits 19 n (omega arith) ∙ rw (more_digits 18 (n / 10) (omega arith), last-digit 17 (n / 10 / 10) (omega arith))
+decimal_three n h k =
+    let hundreds : n / 10 / 10 ≡ n / 100 = omega arith in
+    rw (← hundreds) (more_digits 19 n (omega arith) ∙ rw (more_digits 18 (n / 10) (omega arith), last-digit 17 (n / 10 / 10) (omega arith)))
+
+-- a number by how many digits it has
+pub ruleset decimals = (decimal_one, decimal_two, decimal_three)
 
 -- ---- lengths
 
 one-digit : (n : ℕ) → n < 10 → length (decimal n) ≡ 1
-one-digit n h = ap length (decimal-one n h)
+one-digit n h = ap length (decimal_one n h)
 
 two_digits : (n : ℕ) → n < 100 → length (decimal n) ≤ 2
 two_digits n h = go (leb 10 n) refl
   where
     go : (b : Bool) → leb 10 n ≡ b → length (decimal n) ≤ 2
-    go true e = omega (arith, ap length (decimal-two n (leb-true 10 n e) h))
+    go true e = omega (arith, ap length (decimal_two n (leb-true 10 n e) h))
     go false e = omega (arith, one-digit n (leb-false 10 n e))
 
 three_digits : (n : ℕ) → n < 1000 → length (decimal n) ≤ 3
@@ -158,7 +163,7 @@ refusal-few number = omega (arith, word_line_length refused_word number, field-l
 
 -- a line is three fields, with the letter and a space before the last
 pub line_fields : (contour place kind color : ℕ)
-    → ((((field contour space ++ field place space) ++ (letter kind ∷ [])) ++ (space ∷ [])) ++ field color newline) ≡ edge_line contour place kind color
+    → edge_line contour place kind color ≡ field contour space ++ (field place space ++ ((letter kind ∷ space ∷ []) ++ field color newline))
 unfolding edge_line
 line_fields contour place kind color = simp append_assoc
 
@@ -191,23 +196,10 @@ concat-cut [] [] e = refl
 concat-cut [] (x ∷ xs) e = absurd (omega arith)
 concat-cut (n ∷ lengths) xs e = rw (concat-cut lengths (drop n xs) (rw length-drop (omega arith))) (take-append-drop n xs)
 
-module _ (lengths kinds colors : List ℕ) (stand_ins : ℕ) (e : total lengths ≡ length kinds) where
-  abbrev lines : List ℕ
-  lines = shape_lines 0 (cut lengths kinds) (cut lengths colors)
-
-  pub listing_parts : (lines ++ word_line edges_word (length kinds)) ++ word_line stand_ins_word stand_ins
-      ≡ listing (cut lengths kinds) (cut lengths colors) stand_ins
-  unfolding listing
-  listing_parts =
-      append_assoc lines (word_line edges_word (length kinds)) (word_line stand_ins_word stand_ins)
-      ∙ ap (λ (n : ℕ). lines ++ (word_line edges_word n ++ word_line stand_ins_word stand_ins)) (sym (ap length (concat-cut lengths kinds e)))
-
-  pub listing-length : length (listing (cut lengths kinds) (cut lengths colors) stand_ins)
-      ≡ length lines + length (word_line edges_word (length kinds)) + length (word_line stand_ins_word stand_ins)
-  listing-length =
-      omega (
-        arith,
-        ap length listing_parts,
-        length-append (lines ++ word_line edges_word (length kinds)) (word_line stand_ins_word stand_ins),
-        length-append lines (word_line edges_word (length kinds)),
-      )
+pub listing_parts : (lengths kinds colors : List ℕ) (stand_ins : ℕ) → total lengths ≡ length kinds
+    → listing (cut lengths kinds) (cut lengths colors) stand_ins
+    ≡ shape_lines 0 (cut lengths kinds) (cut lengths colors) ++ (word_line edges_word (length kinds) ++ word_line stand_ins_word stand_ins)
+unfolding listing
+listing_parts lengths kinds colors stand_ins e =
+    let lines = shape_lines 0 (cut lengths kinds) (cut lengths colors) in
+    ap (λ (n : ℕ). lines ++ (word_line edges_word n ++ word_line stand_ins_word stand_ins)) (ap length (concat-cut lengths kinds e))

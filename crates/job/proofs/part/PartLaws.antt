@@ -28,7 +28,7 @@ use Rattle.job.specs.Records.{item_of, phase_after, read_record}
 use Rattle.job.specs.Job.{Job, with_edge, with_record, Reading, read_job, contour_records, outline_records, record_bytes}
 use Rattle.job.specs.Progress.{begin, advanced}
 use Rattle.job.specs.Color.{accept_job, accepted}
-use Rattle.job.specs.Part.{nowhere, span_in, place_in, sought, span_of, contour_place, contour_part, Inside}
+use Rattle.job.specs.Part.{nowhere, span_in, place_in, sought, span_of, contour_place, contour_part}
 use Rattle.job.proofs.records.ReadingLaws.{Read-as}
 use Rattle.job.proofs.progress.SoFarLaws.{outlined, so_far, among_so_far, inside-among, Fresh, Bare, bytes-append, outline-more}
 use Rattle.job.proofs.progress.ProgressLaws.{Reached, reached_begin, begin_job, reached_next, next_job, reached_end, reached_fault}
@@ -54,11 +54,6 @@ before-next (Open from) at next Balanced h b = (b, h)
 before-next (Open from) at next Contour h b = (b, h)
 before-next (Open from) at next (Distances count) h b = (b, h)
 before-next (Done span) at next item h b = (b.0, omega (arith, b.1))
-
-before-inside : (q : Seek) (at size : ℕ) → at ≤ size → Before q at → Inside (span_of q at) size
-before-inside (Passing left) at size h b = record { ordered = omega arith; within = omega arith }
-before-inside (Open from) at size h b = record { ordered = b; within = h }
-before-inside (Done span) at size h b = record { ordered = b.0; within = omega (arith, b.1) }
 
 -- ---- the contours before one, and that one
 
@@ -253,9 +248,6 @@ module _ (file : List ℕ) (number : ℕ) (p : Progress) (q : Seek) (here : Seek
   seeking_end e =
       found_end number here.at.job p.state.phase Simple p.at here.at.placed here.at.fresh q here.found
       ∙ ap (λ (r : Reading). place_in r number) (reached_end file p here.at e)
-
-  pub seeking_inside : Inside (span_of q p.at) (length file)
-  seeking_inside = before-inside q p.at (length file) here.at.within here.before
 
 -- a file that is read meets no fault
 pub seeking_fault : (file : List ℕ) (p : Progress) → Reached file p → succeeds (read_job file) ≡ true → (number : ℕ)

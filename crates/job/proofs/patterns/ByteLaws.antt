@@ -52,7 +52,7 @@ float_then x xs = refl
 module _ (test : ℕ → Bool) (finite : (b : ℕ) → test b ≡ true → b % sign_bit ≤ 9218868437227405312) where
   floats-back : (n : ℕ) (bytes : List ℕ) → AreBytes bytes → 8 * n ≤ length bytes → all test (words n bytes) ≡ true
       → float_bytes (floats (words n bytes)) ≡ take (8 * n) bytes
-  unfolding words floats all
+  unfolding words floats
   floats-back zero bytes h k t = no_floats
   floats-back (suc n) bytes h k t =
       let p = number (take 8 bytes) in

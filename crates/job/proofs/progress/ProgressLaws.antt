@@ -3,7 +3,7 @@
 use mathlib.Core.Path.{◌≡◌, refl, sym, ap, subst, ◌∙◌}
 use mathlib.Core.Bool.{Bool, true, false, ◌&&◌}
 use mathlib.Core.List.{List, [], ◌∷◌, ◌++◌, append-nil, append_assoc, flatten}
-use Prim.Native.Nat.{ℕ, zero, suc, ◌+◌, ◌*◌, ◌-◌, ◌<◌, ◌≤◌, ◌^◌}
+use Prim.Native.Nat.{ℕ, zero, suc, ◌+◌, ◌*◌, ◌-◌, ◌<◌, ◌≤◌}
 use native.Mathlib.Omega.{arith}
 use lib.ListN.{length, take, drop, length-append, length-drop, take-append-drop}
 use lib.Seq.{drop-drop, take-add, take_at}
@@ -30,7 +30,8 @@ use Rattle.job.specs.Records.{among, closing, by_distance, record_mark, coordina
 use Rattle.job.specs.Records.{counted, read_record, after, records_from}
 use Rattle.job.specs.Job.{Holdable, doubles, records_of, record_bytes, file_of, threshold_of, Job}
 use Rattle.job.specs.Job.{no_job, with_edge, with_record, job_from, read_job}
-use Rattle.job.specs.Progress.{edge_count, begin, advanced, numbers_of, CanAdvance}
+use Rattle.job.specs.Progress.{edge_count, begin, advanced, numbers_of}
+use Rattle.job.proofs.buffers.StoredLaws.{concat_snoc}
 use Rattle.job.proofs.progress.ReadyLaws.{Ready}
 use Rattle.job.proofs.progress.SoFarLaws.{bytes-more, so_far, headed-among, inside-among, Fresh, Bare, so_far_next, so_far_end, asked_next}
 use Rattle.job.proofs.progress.SoFarLaws.{fresh_next, floats-doubles, edge-doubles}
@@ -57,9 +58,7 @@ with_edge_concat (c ∷ d ∷ contours) e h =
     ap (λ (x : List EdgeSegment). c ++ x) (with_edge_concat (d ∷ contours) e (omega arith)) ∙ sym (append_assoc c (flatten (d ∷ contours)) (e ∷ []))
 
 pub more-concat : (contours : List (List EdgeSegment)) → flatten (contours ++ ([] ∷ [])) ≡ flatten contours
-unfolding flatten
-more-concat [] = refl
-more-concat (c ∷ contours) = ap (λ (x : List EdgeSegment). c ++ x) (more-concat contours)
+more-concat contours = concat_snoc contours [] ∙ append-nil (flatten contours)
 
 -- ---- the counts of a job
 
@@ -81,11 +80,10 @@ pub record Sound (job : Job) : Type 0 where
   pub distances-valid : distances_valid job.distances ≡ true
 
 sound-begin : Sound no_job
-unfolding flatten all of_bits Ieee.neg Ieee.le
+unfolding flatten of_bits Ieee.neg Ieee.le
 sound-begin = record { threshold_fits = refl; coordinates_fit_lem = refl; distances-few = omega arith; distances-valid = refl }
 
 all_snoc : {A : Type 0} (test : A → Bool) (xs : List A) (x : A) → all test xs ≡ true → test x ≡ true → all test (xs ++ (x ∷ [])) ≡ true
-unfolding all
 all_snoc test [] x h k = rw k
 all_snoc test (y ∷ xs) x h k = go (test y) h (λ e. all_snoc test xs x e k)
   where
@@ -182,7 +180,7 @@ pub record Reached (file : List ℕ) (p : Progress) : Type 0 where
   pub holdable : AreBytes file → Holdable job
 
 pub reached_begin : (file : List ℕ) → Reached file begin
-unfolding read_job flatten record_bytes all
+unfolding read_job flatten record_bytes
 reached_begin file = record {
   job = no_job;
   numbers_are = refl;
@@ -328,13 +326,6 @@ module _ (file : List ℕ) (p : Progress) (at : Reached file p) (r : Record) (re
   fits_in : p.at + record_size r ≤ length file
   fits_in = omega (arith, record_taken.whole, length-drop p.at file, at.within)
 
-  pub counts : length file < 2 ^ 64 → CanAdvance p (record_size r)
-  counts h = record {
-    place = omega (arith, fits_in);
-    contours = omega (arith, contours_are, at.contours_fit);
-    edges = omega (arith, edges_are, at.edges_fit);
-  }
-
   pub further : p.at < p.at + record_size r
   further = omega (arith, size_some r)
 
@@ -386,9 +377,6 @@ module _ (file : List ℕ) (p : Progress) (at : Reached file p) (r : Record) (re
 -- the same from what the code finds
 module _ (file : List ℕ) (p : Progress) (at : Reached file p) {item : Item} {size : ℕ}
     (read : Read-as (read_record p.state (drop p.at file)) item size) where
-  pub counts_on : length file < 2 ^ 64 → CanAdvance p size
-  counts_on h = rw (← read.is_size) (counts file p at read.r read.rest read.is_next h)
-
   pub reached_on : Reached file (advanced p item size)
   reached_on = rw (← read.is_item, ← read.is_size) (reached_next file p at read.r read.rest read.is_next)
 

@@ -14,7 +14,6 @@ use Rattle.geometry.specs.EdgeSegment.{to_stored}
 use Rattle.geometry.specs.declared.edge_segment.EdgeSegment.{EdgeSegment}
 use lib.Dec.{T}
 use Rattle.coloring.specs.Bools.{and_left, and_right}
-use Rattle.coloring.specs.Lists.{all}
 use Rattle.coloring.specs.declared.settings.Division.{Division}
 use Rattle.coloring.specs.declared.settings.Division.TheVariants.{Source, Balanced}
 use Rattle.job.specs.declared.records.Strategy.{Strategy}
@@ -169,7 +168,7 @@ fresh_next job phase by (distances ds) may ready fresh f = never f
 -- ---- what a file can hold
 
 pub floats-doubles : (ps : List ℕ) → doubles (floats ps) ≡ true
-unfolding floats all
+unfolding floats
 floats-doubles [] = refl
 floats-doubles (p ∷ ps) = rw (t_true (fits binary64 (of_bits binary64 p)) (of_bits-fits binary64 p), floats-doubles ps)
   where

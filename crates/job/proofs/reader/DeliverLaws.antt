@@ -1,16 +1,15 @@
 -- From the answer of the first pass to what the reader delivers.
-use mathlib.Core.Path.{◌≡◌, refl, subst}
+use mathlib.Core.Path.{◌≡◌, refl}
 use mathlib.Core.Bool.{true, false}
 use mathlib.Core.List.{List}
 use Prim.Native.Nat.{ℕ, ◌≤◌}
 use native.Mathlib.Omega.{arith}
-use lib.Ieee.{Float}
 use Rattle.coloring.specs.Limits.{max_edges}
 use Rattle.coloring.specs.Answers.{gives, refusal}
 use Rattle.job.specs.declared.progress.Numbers.{Numbers}
 use Rattle.job.specs.Job.{Job, Reading, read_job}
 use Rattle.job.specs.Progress.{numbers_of, answer_of}
-use Rattle.job.specs.Buffers.{Buffers, buffers, has_room, Hold}
+use Rattle.job.specs.Buffers.{Buffers, has_room}
 use Rattle.job.specs.Reader.{read_outcome, read_into, Fits, filled}
 use Rattle.job.proofs.progress.ProgressLaws.{edges_few}
 
@@ -42,10 +41,8 @@ module _ (reading : Reading) (n : Numbers) (a : As-job reading n) (old : Buffers
   pub fits_buffers : has_room n old ≡ true → Fits reading old
   fits_buffers h = let room : has_room (numbers_of a.job) old ≡ true = rw a.numbers at h in rw a.is_read room
 
-  pub delivers_job : (lengths kinds : List ℕ) (points distances : List Float) → has_room n old ≡ true → Hold (filled reading old) lengths kinds points distances
-      → read_outcome (gives n) (buffers lengths kinds points distances) ≡ read_into reading old
+  pub delivers_job : (b : Buffers) → has_room n old ≡ true → b ≡ filled reading old → read_outcome (gives n) b ≡ read_into reading old
   unfolding read_into
-  delivers_job lengths kinds points distances h holds =
+  delivers_job b h holds =
       let room : has_room (numbers_of a.job) old ≡ true = rw a.numbers at h in
-      let held = subst (λ (r : Reading). Hold (filled r old) lengths kinds points distances) a.is_read holds in
-      rw (a.is_read, room, a.numbers, held.lengths_are, held.kinds_are, held.points_are, held.distances_are)
+      rw (holds, a.is_read, room, a.numbers)

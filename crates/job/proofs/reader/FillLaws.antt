@@ -1,7 +1,7 @@
 -- The buffers follow the job: after each record they hold the job so far, over what stood there.
 use mathlib.Core.Path.{◌≡◌, refl, sym, ap, subst, ◌∙◌}
 use mathlib.Core.Bool.{Bool, true, false, ◌&&◌}
-use mathlib.Core.List.{List, [], ◌∷◌, ◌++◌, flatten}
+use mathlib.Core.List.{List, [], ◌∷◌, ◌++◌, flatten, map-append}
 use Prim.Native.Nat.{ℕ, ◌+◌, ◌*◌, ◌-◌, ◌<◌, ◌≤◌}
 use native.Mathlib.Omega.{arith}
 use lib.Dec.{leb}
@@ -18,13 +18,13 @@ use Rattle.job.specs.declared.records.State.{State}
 use Rattle.job.specs.declared.records.Item.{Item}
 use Rattle.job.specs.declared.progress.Progress.{Progress}
 use Rattle.job.specs.Patterns.{words, floats}
-use Rattle.job.specs.Records.{Record, header, balanced, contour, edge, distances, Step, next, ends, fails, controls, kind_of, edge_of, item_of}
+use Rattle.job.specs.Records.{kind_number, Record, header, balanced, contour, edge, distances, Step, next, ends, fails, controls, kind_of, edge_of, item_of}
 use Rattle.job.specs.Records.{closing, record_mark, record_size, read_record, after, Records, complete, fault, ◌then◌, records_from}
 use Rattle.job.specs.Job.{Job, with_edge, with_record, Reading, job_from, read_job}
 use Rattle.job.specs.Progress.{edge_count, numbers_of, begin, advanced}
 use Rattle.job.specs.Reader.{Fits, filled}
-use Rattle.job.specs.Buffers.{Buffers, buffers, kinds_stored, points_stored, kind_number, points_read, stored_job}
-use Rattle.job.specs.Buffers.{over_each, written, room_for, has_room, Hold, RecordFits}
+use Rattle.job.specs.Buffers.{Buffers, buffers, kinds_stored, points_stored, points_read, stored_job}
+use Rattle.job.specs.Buffers.{over_each, written, room_for, has_room, RecordFits}
 use Rattle.job.proofs.records.RecordLaws.{Allowed, size_is}
 use Rattle.job.proofs.records.ReadingLaws.{Taken, taken, Read-as, records_end, records_fault}
 use Rattle.job.proofs.progress.ReadyLaws.{Ready}
@@ -32,7 +32,7 @@ use Rattle.job.proofs.progress.ProgressLaws.{Reached, reached_begin, begin_job, 
 use Rattle.job.proofs.progress.ProgressLaws.{with_edge_length, with_edge_concat, more-concat, not_closing, record_taken, is_ready}
 use Rattle.job.proofs.progress.ProgressLaws.{contours_are, edges_are, ahead}
 use Rattle.job.proofs.buffers.BufferLaws.{over-more, over-length, over-set, over-get_or, over-part}
-use Rattle.job.proofs.buffers.StoredLaws.{map_snoc, lengths-edge, last-few, kind-number, kinds-edge, places-edge, kinds-length}
+use Rattle.job.proofs.buffers.StoredLaws.{lengths-edge, last-few, kind-number, kinds-edge, places-edge, kinds-length}
 
 -- ---- a job so far is a part of the whole
 
@@ -142,7 +142,7 @@ module _ (job : Job) (old : Buffers) (s : State) (bytes : List ℕ)
       (stored_job (with_record job contour)) old
   unfolding written over_each stored_job with_record
   written-contour fit =
-      let more : sizes (contours ++ ([] ∷ [])) ≡ sizes contours ++ (0 ∷ []) = map_snoc (λ (c : List EdgeSegment). length c) contours [] in
+      let more : sizes (contours ++ ([] ∷ [])) ≡ sizes contours ++ (0 ∷ []) = map-append (λ (c : List EdgeSegment). length c) contours ([] ∷ []) in
       let at : s.numbers.contours ≡ length (sizes contours) = contours-at ∙ sym count in
       same
       (ap (λ (n : ℕ). set (over (sizes contours) old.lengths) n 0) at
@@ -288,28 +288,13 @@ module _ (file : List ℕ) (p : Progress) (at : Reached file p) (r : Record) (re
 
 -- ---- the buffers on the way
 
-pub record Filling (file : List ℕ) (old : Buffers) (p : Progress) (lengths kinds : List ℕ) (points distances : List Float) : Type 0 where
+pub record Filling (file : List ℕ) (old : Buffers) (p : Progress) (b : Buffers) : Type 0 where
   pub at : Reached file p
-  pub holds : Hold (over_each (stored_job at.job) old) lengths kinds points distances
-  pub lengths-kept : length lengths ≡ length old.lengths
-  pub kinds_kept : length kinds ≡ length old.kinds
-  pub points_kept : length points ≡ length old.points
-  pub distances-kept : length distances ≡ length old.distances
+  pub holds : b ≡ over_each (stored_job at.job) old
 
-pub filling_begin : (file : List ℕ) (old : Buffers) → Filling file old begin old.lengths old.kinds old.points old.distances
+pub filling_begin : (file : List ℕ) (old : Buffers) → Filling file old begin old
 unfolding over_each stored_job over flatten
-filling_begin file old = record {
-  at = reached_begin file;
-  holds = rw (begin_job file) (record { lengths_are = refl; kinds_are = refl; points_are = refl; distances_are = refl });
-  lengths-kept = refl;
-  kinds_kept = refl;
-  points_kept = refl;
-  distances-kept = refl;
-}
-
-held_as : (b : Buffers) {lengths kinds : List ℕ} {points distances : List Float} → Hold b lengths kinds points distances
-    → buffers lengths kinds points distances ≡ b
-held_as b h = same h.lengths_are h.kinds_are h.points_are h.distances_are
+filling_begin file old = record { at = reached_begin file; holds = rw (begin_job file) }
 
 record Whole (reading : Reading) (old : Buffers) : Type 0 where
   job : Job
@@ -320,44 +305,30 @@ whole_of : (reading : Reading) (old : Buffers) → Fits reading old → Whole re
 whole_of (refusal number) old h = absurd h
 whole_of (gives job) old h = record { job = job; is = refl; room = h }
 
-module _ (file : List ℕ) (old : Buffers) (fits : Fits (read_job file) old) (p : Progress) (lengths kinds : List ℕ) (points ds : List Float)
-    (filling : Filling file old p lengths kinds points ds) where
-  abbrev before : Buffers
-  before = buffers lengths kinds points ds
-
+module _ (file : List ℕ) (old : Buffers) (fits : Fits (read_job file) old) (p : Progress) (b : Buffers) (filling : Filling file old p b) where
   abbrev whole : Whole (read_job file) old
   whole = whole_of (read_job file) old fits
 
   module _ (item : Item) (size : ℕ) (read : Read-as (read_record p.state (drop p.at file)) item size) where
-    pub filling_room : RecordFits item p.state.numbers (drop p.at file) before
+    pub filling_room : RecordFits item p.state.numbers (drop p.at file) b
     filling_room =
-        rw (held_as (over_each (stored_job filling.at.job) old) filling.holds, ← read.is_item)
+        rw (filling.holds, ← read.is_item)
         (room-here file p filling.at read.r read.rest read.is_next old whole.job whole.is whole.room)
 
-    pub filling_next : (lengths' kinds' : List ℕ) (points' ds' : List Float)
-        → Hold (written item p.state.numbers (drop p.at file) before) lengths' kinds' points' ds'
-        → length lengths' ≡ length lengths → length kinds' ≡ length kinds → length points' ≡ length points → length ds' ≡ length ds
-        → Filling file old (advanced p item size) lengths' kinds' points' ds'
-    filling_next lengths' kinds' points' ds' h l k q d =
+    pub filling_next : Filling file old (advanced p item size) (written item p.state.numbers (drop p.at file) b)
+    filling_next =
         let job = filling.at.job in
         let next = reached_next file p filling.at read.r read.rest read.is_next in
-        let after : written item p.state.numbers (drop p.at file) before ≡ over_each (stored_job next.job) old =
-        ap (written item p.state.numbers (drop p.at file)) (held_as (over_each (stored_job job) old) filling.holds)
-        ∙ ap (λ (i : Item). written i p.state.numbers (drop p.at file) (over_each (stored_job job) old)) (sym read.is_item)
-        ∙ written-here file p filling.at read.r read.rest read.is_next old whole.job whole.is whole.room
-        ∙ ap (λ (j : Job). over_each (stored_job j) old) (sym (next_job file p filling.at read.r read.rest read.is_next)) in
         rw (← read.is_item, ← read.is_size)
         (record {
           at = next;
-          holds = subst (λ (b : Buffers). Hold b lengths' kinds' points' ds') after h;
-          lengths-kept = l ∙ filling.lengths-kept;
-          kinds_kept = k ∙ filling.kinds_kept;
-          points_kept = q ∙ filling.points_kept;
-          distances-kept = d ∙ filling.distances-kept;
+          holds = ap (written (item_of read.r) p.state.numbers (drop p.at file)) filling.holds
+              ∙ written-here file p filling.at read.r read.rest read.is_next old whole.job whole.is whole.room
+              ∙ ap (λ (j : Job). over_each (stored_job j) old) (sym (next_job file p filling.at read.r read.rest read.is_next));
         })
 
-  pub filling_end : read_record p.state (drop p.at file) ≡ ends → Hold (filled (read_job file) old) lengths kinds points ds
-  filling_end e = subst (λ (r : Reading). Hold (filled r old) lengths kinds points ds) (reached_end file p filling.at e) filling.holds
+  pub filling_end : read_record p.state (drop p.at file) ≡ ends → b ≡ filled (read_job file) old
+  filling_end e = filling.holds ∙ ap (λ (r : Reading). filled r old) (reached_end file p filling.at e)
 
   pub filling_fault : (number : ℕ) → read_record p.state (drop p.at file) ≡ fails number → ⊥
   filling_fault number e = subst (λ (r : Reading). Fits r old) (sym (reached_fault file p filling.at number e)) fits

@@ -15,7 +15,7 @@ use Rattle.job.specs.declared.records.Header.{Header}
 use Rattle.job.specs.declared.records.Kind.{Kind}
 use Rattle.job.specs.declared.records.Kind.TheVariants.{Line, Quadratic, Cubic}
 use Rattle.job.specs.declared.records.Mark.{Mark}
-use Rattle.job.specs.declared.records.Marked.TheVariants.{Known}
+use Rattle.std.specs.Prelude.{Some}
 use Rattle.job.specs.Patterns.{number, little, words, floats, float_bytes, is_coordinate, is_distance}
 use Rattle.job.specs.Records.{Record, header, edge, distances, letters, mark_among, marks, mark_of, strategy_number, strategy_of}
 use Rattle.job.specs.Records.{known_strategy, controls, edge_of, record_mark, fields_of, bytes_of}
@@ -28,18 +28,18 @@ use Rattle.job.proofs.patterns.ByteLaws.{are_taken, are_dropped, little-taken, c
 abbrev pub Lettered : ℕ → ℕ → Mark → Type 0
 Lettered a b mark = (a ≡ (letters mark).0) × (b ≡ (letters mark).1)
 
-letters-among : (ms : List Mark) (a b : ℕ) (mark : Mark) → mark_among ms a b ≡ Known mark → Lettered a b mark
+letters-among : (ms : List Mark) (a b : ℕ) (mark : Mark) → mark_among ms a b ≡ Some mark → Lettered a b mark
 unfolding mark_among
 letters-among [] a b mark e = let z : ◌≡◌ {A = ℕ} 0 1 = cc in absurd (omega arith)
 letters-among (m ∷ ms) a b mark e = go (eqb a (letters m).0) refl (eqb b (letters m).1) refl e (λ f. letters-among ms a b mark f)
   where
-    go : (x : Bool) → eqb a (letters m).0 ≡ x → (y : Bool) → eqb b (letters m).1 ≡ y → cond (x && y) (Known m) (mark_among ms a b) ≡ Known mark
-        → (mark_among ms a b ≡ Known mark → Lettered a b mark) → Lettered a b mark
+    go : (x : Bool) → eqb a (letters m).0 ≡ x → (y : Bool) → eqb b (letters m).1 ≡ y → cond (x && y) (Some m) (mark_among ms a b) ≡ Some mark
+        → (mark_among ms a b ≡ Some mark → Lettered a b mark) → Lettered a b mark
     go true p true q e later = let same : m ≡ mark = cc in rw (← same) (eqb-true a (letters m).0 p, eqb-true b (letters m).1 q)
     go true p false q e later = later e
     go false p y q e later = later e
 
-pub letters_of : (a b : ℕ) (mark : Mark) → mark_of a b ≡ Known mark → Lettered a b mark
+pub letters_of : (a b : ℕ) (mark : Mark) → mark_of a b ≡ Some mark → Lettered a b mark
 unfolding mark_of
 letters_of a b mark e = letters-among marks a b mark e
 

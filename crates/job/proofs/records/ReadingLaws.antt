@@ -22,15 +22,16 @@ use Rattle.job.specs.declared.records.Kind.{Kind}
 use Rattle.job.specs.declared.records.Kind.TheVariants.{Line, Quadratic, Cubic}
 use Rattle.job.specs.declared.records.Mark.{Mark}
 use Rattle.job.specs.declared.records.Mark.TheVariants.{Header, Balanced, Contour, Edge, Distances, End}
-use Rattle.job.specs.declared.records.Marked.{Marked}
-use Rattle.job.specs.declared.records.Marked.TheVariants.{Known, Unknown}
+use Rattle.std.specs.Prelude.{Option, Some, None, Result, Ok, Err}
+use Rattle.coloring.specs.Refusal.{refusal_number}
+use Rattle.coloring.specs.declared.refusal.Refusal.{Refusal}
 use Rattle.job.specs.declared.records.Header as fields
 use Rattle.job.specs.declared.records.State.{State}
 use Rattle.job.specs.declared.records.Item.{Item}
 use Rattle.job.specs.Patterns.{number, words, floats, is_threshold, is_coordinate, is_distance}
 use Rattle.job.specs.Records.{strategy_of, record_mark, marked, fields_of, bytes_of, Record, header, balanced, contour, edge, distances, Step, next, ends}
 use Rattle.job.specs.Records.{fails, step_if, known_strategy, controls, body_size, allowed, below_maximum, kind_of, edge_of, record_size, item_of, mark_of}
-use Rattle.job.specs.Records.{finds, finished, faulty, found_of}
+use Rattle.job.specs.Records.{finds, finished, faulty, found_of, found_answer, item_size}
 use Rattle.job.specs.Records.{read_header, read_edge, read_distances, read_end, read_body, read_marked, read_record, after, Records, complete, fault}
 use Rattle.job.specs.Records.{◌then◌, records_within, records_from}
 use Rattle.job.specs.Job.{threshold_of}
@@ -88,14 +89,14 @@ unfolding of_bits
 threshold_fits h within = sym (threshold_means h.threshold) ∙ within
 
 coordinates_fit_lem : (ps : List ℕ) → all in_range (floats ps) ≡ all is_coordinate ps
-unfolding all floats
+unfolding floats
 coordinates_fit_lem [] = refl
 coordinates_fit_lem (b ∷ ps) =
     let one : in_range (of_bits binary64 b) ≡ is_coordinate b = rw max-coordinate (sym (coordinate_means b)) in
     rw (one, coordinates_fit_lem ps)
 
 distances_fit : (ps : List ℕ) → all is_distance ps ≡ true → distances_valid (floats ps) ≡ true
-unfolding all floats valid_distance of_bits
+unfolding floats valid_distance of_bits
 distances_fit [] h = refl
 distances_fit (b ∷ ps) h =
     let here : is_distance b ≡ true = and_left (is_distance b) (all is_distance ps) h in
@@ -212,10 +213,10 @@ module _ (s : State) (a b : ℕ) (bytes : List ℕ) where
   body-taken Distances l may room whole = distances-taken l may whole
   body-taken End l may room whole = end_taken s a b bytes l may
 
-  marked-taken : (m : Marked) → mark_of a b ≡ m → OfStep s all-bytes (read_marked s m bytes)
+  marked-taken : (m : Option Mark) → mark_of a b ≡ m → OfStep s all-bytes (read_marked s m bytes)
   unfolding read_marked
-  marked-taken Unknown is = tt
-  marked-taken (Known mark) is =
+  marked-taken None is = tt
+  marked-taken (Some mark) is =
       let body = read_body mark (take (body_size mark) bytes) (drop (body_size mark) bytes) in
       let sized = step_if (leb (body_size mark) (length bytes)) 1 body in
       required s all-bytes (allowed s.phase s.numbers.header.strategy mark) 3 (step_if (below_maximum s.numbers mark) 4 sized)
@@ -303,17 +304,28 @@ pub record Read-as (step : Step) (item : Item) (size : ℕ) : Type 0 where
   pub is_item : item_of r ≡ item
   pub is_size : record_size r ≡ size
 
-pub found_item : (step : Step) (item : Item) (size : ℕ) → finds item size ≡ found_of step → Read-as step item size
+found_item : (step : Step) (item : Item) (size : ℕ) → finds item size ≡ found_of step → Read-as step item size
 found_item (next r rest) item size e = record { r = r; rest = rest; is_next = refl; is_item = cc; is_size = cc }
 found_item ends item size e = let z : ◌≡◌ {A = ℕ} 0 1 = cc in absurd (omega arith)
 found_item (fails number) item size e = let z : ◌≡◌ {A = ℕ} 0 1 = cc in absurd (omega arith)
 
-pub found_end : (step : Step) → finished ≡ found_of step → step ≡ ends
+found_end : (step : Step) → finished ≡ found_of step → step ≡ ends
 found_end (next r rest) e = cc
 found_end ends e = refl
 found_end (fails number) e = cc
 
-pub found-fails : (step : Step) (number : ℕ) → faulty number ≡ found_of step → step ≡ fails number
+found-fails : (step : Step) (number : ℕ) → faulty number ≡ found_of step → step ≡ fails number
 found-fails (next r rest) number e = cc
 found-fails ends number e = cc
 found-fails (fails other) number e = cc
+
+-- the same by cases of what the code gives
+module _ (result : Result (Option Item) Refusal) (step : Step) (e : found_answer result ≡ found_of step) where
+  pub reads_item : (item : Item) → result ≡ Ok (Some item) → Read-as step item (item_size item)
+  reads_item item is = found_item step item (item_size item) (sym (ap found_answer is) ∙ e)
+
+  pub reads_end : result ≡ Ok None → step ≡ ends
+  reads_end is = found_end step (sym (ap found_answer is) ∙ e)
+
+  pub reads_fault : (r : Refusal) → result ≡ Err r → step ≡ fails (refusal_number r)
+  reads_fault r is = found-fails step (refusal_number r) (sym (ap found_answer is) ∙ e)

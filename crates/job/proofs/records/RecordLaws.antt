@@ -2,27 +2,29 @@
 use mathlib.Core.Path.{◌≡◌, refl, ap}
 use mathlib.Core.Bool.{Bool, true, false}
 use mathlib.Core.List.{List, [], ◌∷◌}
-use Prim.Native.Nat.{ℕ, ◌+◌, ◌*◌, ◌-◌, ◌<◌, ◌≤◌}
+use Prim.Native.Nat.{ℕ, ◌+◌, ◌*◌, ◌<◌, ◌≤◌}
 use native.Mathlib.Omega.{arith}
 use lib.Dec.{leb}
-use lib.ListN.{length, get_or, take, drop, length-drop}
-use lib.Seq.{take_all}
+use lib.ListN.{length, get_or, take, drop}
 use Rattle.geometry.specs.declared.edge_segment.EdgeSegment.TheVariants as segment
 use Rattle.coloring.specs.Lists.{all}
 use Rattle.coloring.specs.Limits.{max_distances}
 use lib.Ieee.{Float}
+use Rattle.coloring.specs.declared.refusal.Refusal.{Refusal}
+use Rattle.coloring.specs.declared.refusal.Refusal.TheVariants.{UnknownKind}
+use Rattle.job.specs.declared.records.Header as fields
+use Rattle.job.specs.declared.records.Strategy.{Strategy}
 use Rattle.job.specs.declared.records.Kind.{Kind}
 use Rattle.job.specs.declared.records.Kind.TheVariants.{Line, Quadratic, Cubic}
 use Rattle.job.specs.declared.records.State.{State}
 use Rattle.job.specs.declared.records.Mark.{Mark}
-use Rattle.job.specs.declared.records.Marked.TheVariants.{Known}
-use borrow.Author.Tests.{le-leb}
+use Rattle.std.specs.Prelude.{Result, Ok, Err, cond}
 use Rattle.job.specs.declared.records.Item.TheVariants as item
 use Rattle.job.specs.Patterns.{number, words, floats, is_threshold, is_coordinate, is_distance}
-use Rattle.job.specs.Records.{Record, header, balanced, contour, edge, distances, next, fails, step_if, known_strategy, strategy_of}
-use Rattle.job.specs.Records.{record_mark, bytes_of, record_size, controls, allowed, below_maximum, header_size, body_size}
-use Rattle.job.specs.Records.{mark_of, read_body, read_marked, read_record}
-use Rattle.job.specs.Records.{finds, finished, faulty, found_of, read_header, read_edge, read_distances, read_end, kind_of, edge_of}
+use Rattle.job.specs.Records.{Record, header, balanced, contour, edge, distances, next, fails, step_if, known_strategy, strategy_of, strategy_numbered}
+use Rattle.job.specs.Records.{record_mark, bytes_of, record_size, controls, allowed, body_size}
+use Rattle.job.specs.Records.{mark_of, read_marked, read_record}
+use Rattle.job.specs.Records.{item_answer, finished, faulty, found_of, read_header, read_edge, read_distances, read_end, kind_of, edge_of}
 use Rattle.job.proofs.patterns.PatternLaws.{floats-length, float_bytes_length}
 
 -- ---- what is found does not turn on the bytes after a record
@@ -51,11 +53,33 @@ edge-rest kind body rest =
 
 -- ---- the header
 
-pub header-found : (body : List ℕ) (size seed threshold : ℕ) → leb 1 (get_or body 0 0) ≡ true → leb (get_or body 0 0) 3 ≡ true
-    → size ≡ 2 + header_size → seed ≡ number (take 8 (drop 1 body)) → threshold ≡ number (take 8 (drop 9 body)) → is_threshold threshold ≡ true
-    → finds (item.Header (record { strategy = strategy_of (get_or body 0 0); seed = seed; threshold = threshold })) size ≡ found_of (read_header body [])
+-- a number's strategy
+pub record Strategic (n : ℕ) (strategy : Strategy) : Type 0 where
+  pub known : known_strategy n ≡ true
+  pub is_of : strategy ≡ strategy_of n
+
+pub numbered_ok : (n : ℕ) (strategy : Strategy) → Ok strategy ≡ strategy_numbered n → Strategic n strategy
+unfolding strategy_of
+numbered_ok n strategy e = go (known_strategy n) refl e
+  where
+    go : (b : Bool) → known_strategy n ≡ b → ◌≡◌ {A = Result Strategy Refusal} (Ok strategy) (cond b (Ok (strategy_of n)) (Err UnknownKind))
+        → Strategic n strategy
+    go true known e = record { known = known; is_of = cc }
+    go false known e = cc
+
+pub numbered_err : (n : ℕ) (refusal : Refusal) → Err refusal ≡ strategy_numbered n → (refusal ≡ UnknownKind) × (known_strategy n ≡ false)
+unfolding strategy_of
+numbered_err n refusal e = go (known_strategy n) refl e
+  where
+    go : (b : Bool) → known_strategy n ≡ b → ◌≡◌ {A = Result Strategy Refusal} (Err refusal) (cond b (Ok (strategy_of n)) (Err UnknownKind))
+        → (refusal ≡ UnknownKind) × (known_strategy n ≡ false)
+    go true known e = (cc, cc)
+    go false known e = (cc, known)
+
+pub header-found : (body : List ℕ) (h : fields.Header) → Strategic (get_or body 0 0) h.strategy → h.seed ≡ number (take 8 (drop 1 body))
+    → h.threshold ≡ number (take 8 (drop 9 body)) → is_threshold h.threshold ≡ true → item_answer (Ok (item.Header h)) ≡ found_of (read_header body [])
 unfolding read_header bytes_of
-header-found body size seed threshold low high whole s t within = rw (low, high, ← t, within, whole, ← s)
+header-found body h s seed threshold within = rw (s.known, ← s.is_of, ← threshold, within, ← seed)
 
 -- ---- the end
 
@@ -106,30 +130,31 @@ size_some r = omega (arith, size_is r)
 
 -- ---- an edge and the distances, found
 
-pub edge-found : (kind : Kind) (body : List ℕ) (size : ℕ) → all is_coordinate (words (2 * controls kind) body) ≡ true → size ≡ 2 + 16 * controls kind
-    → finds (item.Edge kind) size ≡ found_of (read_edge kind body [])
+pub edge-found : (kind : Kind) (body : List ℕ) → all is_coordinate (words (2 * controls kind) body) ≡ true
+    → item_answer (Ok (item.Edge kind)) ≡ found_of (read_edge kind body [])
 unfolding read_edge
-edge-found kind body size within whole =
+edge-found kind body within =
     let ps = floats (words (2 * controls kind) body) in
-    let takes : record_size (edge (edge_of kind ps)) ≡ size = omega (arith, size_is (edge (edge_of kind ps)), ap controls (kind_of_edge kind ps)) in
+    let takes : record_size (edge (edge_of kind ps)) ≡ 2 + 16 * controls kind =
+    omega (arith, size_is (edge (edge_of kind ps)), ap controls (kind_of_edge kind ps)) in
     rw (within, takes, kind_of_edge)
 
-pub distances-found : (body rest : List ℕ) (count size : ℕ) → count ≡ number body → leb count max_distances ≡ true → leb (8 * count) (length rest) ≡ true
-    → all is_distance (words count rest) ≡ true → size ≡ 4 + 8 * count → finds (item.Distances count) size ≡ found_of (read_distances body rest)
+pub distances-found : (body rest : List ℕ) (count : ℕ) → count ≡ number body → leb count max_distances ≡ true → leb (8 * count) (length rest) ≡ true
+    → all is_distance (words count rest) ≡ true → item_answer (Ok (item.Distances count)) ≡ found_of (read_distances body rest)
 unfolding read_distances
-distances-found body rest count size e few there within whole =
+distances-found body rest count e few there within =
     let many = floats-length count rest in
-    let takes : record_size (distances (floats (words count rest))) ≡ size = omega (arith, size_is (distances (floats (words count rest))), many) in
+    let takes : record_size (distances (floats (words count rest))) ≡ 4 + 8 * count = omega (arith, size_is (distances (floats (words count rest))), many) in
     rw (← e, few, there, within, takes, many)
 
 -- ---- the mark
 
-pub two-letters : (s : State) (bytes : List ℕ) → 2 ≤ length bytes → read_record s bytes ≡ read_marked s (mark_of (get_or bytes 0 0) (get_or bytes 1 0))
+pub two_letters : (s : State) (bytes : List ℕ) → 2 ≤ length bytes → read_record s bytes ≡ read_marked s (mark_of (get_or bytes 0 0) (get_or bytes 1 0))
     (drop 2 bytes)
 unfolding read_record
-two-letters s [] h = absurd (omega arith)
-two-letters s (a ∷ []) h = absurd (omega arith)
-two-letters s (a ∷ b ∷ bytes) h = refl
+two_letters s [] h = absurd (omega arith)
+two_letters s (a ∷ []) h = absurd (omega arith)
+two_letters s (a ∷ b ∷ bytes) h = refl
 
 pub no_letters : (s : State) (bytes : List ℕ) → length bytes < 2 → read_record s bytes ≡ fails 1
 unfolding read_record
@@ -139,15 +164,3 @@ no_letters s (a ∷ b ∷ bytes) h = absurd (omega arith)
 
 abbrev pub Allowed : State → Mark → Type 0
 Allowed s mark = allowed s.phase s.numbers.header.strategy mark ≡ true
-
-pub marked-body : (s : State) (mark : Mark) (bytes : List ℕ) (size : ℕ) → Allowed s mark → below_maximum s.numbers mark ≡ true → size ≡ body_size mark
-    → size ≤ length bytes
-    → read_marked s (Known mark) bytes ≡ read_body mark (take size bytes) (drop size bytes)
-unfolding read_marked
-marked-body s mark bytes size may room e h =
-    let whole : leb (body_size mark) (length bytes) ≡ true = le-leb (body_size mark) (length bytes) (omega arith) in
-    rw (may, room, whole, e)
-
--- the last part of a list, as code cuts it out
-pub part-after : (n : ℕ) (bytes : List ℕ) → take (length bytes - n) (drop n bytes) ≡ drop n bytes
-part-after n bytes = take_all (length bytes - n) (drop n bytes) (rw length-drop (omega arith))

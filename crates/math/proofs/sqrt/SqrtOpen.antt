@@ -1,7 +1,7 @@
 -- The definitions of the square root by cases, one layer at a time, so that no proof starts to evaluate a root.
 use Rattle.std.proofs.Common.{◌≡◌, ℕ, ◌+◌, ◌-◌, ◌*◌, ◌/◌, ◌%◌, ◌^◌, ◌<◌, ◌≤◌, cond, ◌||◌, eqb, ltb, refl, ◌∙◌, arith, le-ltb, lt-ltb, eq-eqb, ne_eqb}
 use lib.Count.{count_leading_zeros}
-use lib.Ieee.{Float, nan, binary64, of_bits, to_bits}
+use lib.Ieee.{Float, binary64, of_bits, to_bits}
 use Rattle.math.specs.Sqrt.{root, shift, significand, exponent, scaled, rounded, positive_root, infinity_pattern, nan_pattern, sqrt_bits, sqrt_of}
 
 pub shift_is : (b : ℕ) → shift b ≡ count_leading_zeros 64 b - 11
@@ -60,8 +60,3 @@ sqrt_bits_positive b p h =
 pub sqrt_of_is : (x : Float) → sqrt_of x ≡ of_bits binary64 (sqrt_bits (to_bits binary64 x))
 unfolding sqrt_of
 sqrt_of_is x = refl
-
--- the one NaN's pattern is read as the logic's NaN
-pub nan_read : of_bits binary64 nan_pattern ≡ nan
-unfolding of_bits
-nan_read = refl

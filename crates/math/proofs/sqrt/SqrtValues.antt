@@ -11,12 +11,12 @@ use lib.Ieee.Exact.{HasValue}
 use lib.Ieee.Order.{transfer}
 use lib.Ieee.Positive.{num, den, positive, den_pos, positive_of_value, value→cross, value_pos}
 use borrow.Author.Tests.{eqb-false}
-use Rattle.math.specs.Nan.{only_nan}
+use Rattle.math.specs.Nan.{only_nan, nan_read}
 use Rattle.math.specs.Scalar.{f0}
 use Rattle.math.specs.Sqrt.{infinity_pattern, sqrt_bits, sqrt_of}
 use Rattle.math.specs.SqrtExamples.{sqrt_examples}
 use Rattle.math.proofs.sqrt.SqrtNearest.{Nearest, sqrt_nearest}
-use Rattle.math.proofs.sqrt.SqrtOpen.{sqrt_of_is, sqrt_bits_above, nan_read}
+use Rattle.math.proofs.sqrt.SqrtOpen.{sqrt_of_is, sqrt_bits_above}
 use Rattle.math.proofs.sqrt.SqrtUnits.{units, units-low, units_mono, units_strict, units_value}
 
 -- ---- the claims

@@ -1,16 +1,12 @@
 -- `compare_neighbors` meets its contract: the contours passed have their flags.
 use mathlib.Core.Path.{◌≡◌}
-use Prim.Native.Nat.{◌-◌}
 use lib.ListN.{length, drop}
 use Rattle.coloring.specs.Lists.{over_from}
 use Rattle.coloring.specs.Directions.{decode_ends, all_flags}
 use Rattle.coloring.proofs.outline.CutLaws.{ContoursPassed}
 use Rattle.coloring.proofs.corners.compare_neighbors.Given as goal
 
-abbrev pub invariant-loop-i : goal.invariant-loop-i
-invariant-loop-i l = let all = decode_ends (length l.initial.flags) l.directions in
-    ContoursPassed l.lengths (length l.initial.flags) l.at l.i × (length l.flags ≡ length l.initial.flags)
-    × (all_flags l.threshold l.lengths all ≡ over_from l.at (all_flags l.threshold (drop l.i l.lengths) (drop l.at all)) l.flags)
-
-abbrev pub decreases-loop-i : goal.decreases-loop-i
-decreases-loop-i l = length l.lengths - l.i
+abbrev pub invariant-loop-length : goal.invariant-loop-length
+invariant-loop-length l = let all = decode_ends (length l.initial.flags) l.directions in
+    ContoursPassed l.lengths (length l.initial.flags) l.at l.length-index
+    × (all_flags l.threshold l.lengths all ≡ over_from l.at (all_flags l.threshold (drop l.length-index l.lengths) (drop l.at all)) l.flags)

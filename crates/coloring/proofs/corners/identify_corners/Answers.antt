@@ -1,9 +1,9 @@
 -- The answers for `identify_corners`, by the invariant of Invariants.antt.
 use native.Mathlib.Omega.{arith}
-use mathlib.Core.Path.{◌≡◌, refl, sym, ap, ◌∙◌}
+use mathlib.Core.Path.{◌≡◌, sym, ap, ◌∙◌}
 use mathlib.Core.Bool.{Bool}
 use mathlib.Core.List.{List}
-use lib.ListN.{length, length-set}
+use lib.ListN.{length}
 use Rattle.coloring.specs.declared.directions.Ends.{Ends}
 use Rattle.coloring.specs.Lists.{over_from}
 use Rattle.coloring.specs.Corners.{flags_after, flags_between}
@@ -30,28 +30,19 @@ loop-i-init c =
     let start : flags_between a.threshold found ≡ flags_after a.threshold c.ends_at.result.end found =
     flags-start a.threshold m a.directions.now (omega arith)
     ∙ ap (λ (d : Ends). flags_after a.threshold d.end found) (sym c.ends_at.ensures) in
-    (refl, omega arith, refl, sym (over-all _ a.flags.now long) ∙ ap (λ (flags : List Bool). over_from 0 flags a.flags.now) start)
+    sym (over-all _ a.flags.now long) ∙ ap (λ (flags : List Bool). over_from 0 flags a.flags.now) start
 
 pub loop-i-preserved : goal.loop-i-preserved
 loop-i-preserved c =
     let at = c.loop-i in
     let a = c.args in
-    let i = at.i in (
-      at.invariant.0,
-      omega arith,
-      simp length-set at.invariant.2,
-      at.invariant.3
-          ∙ rw (
-            c.is_corner.ensures,
-            c.ends_at-d.ensures,
-            flags-next a.threshold (length a.flags.now) a.directions.now at.prev i (omega arith),
-          )
-          (over-next i _ _ at.flags (omega arith)),
-    )
+    at.invariant
+    ∙ rw (c.is_corner.ensures, c.ends_at-d.ensures, flags-next a.threshold (length a.flags.now) a.directions.now at.prev at.i (omega arith))
+    (over-next at.i _ _ at.flags (omega arith))
 
 pub returns : goal.returns
 returns c =
     let at = c.loop-i in
     let a = c.args in
-    sym (at.invariant.3
+    sym (at.invariant
     ∙ rw (flags_end a.threshold (length a.flags.now) a.directions.now at.prev at.i (omega arith)) (over_nothing at.i at.flags))

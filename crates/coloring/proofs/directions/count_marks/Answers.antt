@@ -1,32 +1,11 @@
--- The answers for `count_marks`, by the invariant of Invariants.antt.
-use native.Mathlib.Omega.{arith}
-use Rattle.coloring.proofs.outline.CheckLaws.{total-step, total_end}
+-- `count_marks` meets its contract: the library's sum.
+use mathlib.Core.Path.{◌≡◌, ◌∙◌}
+use borrow.Author.Rules.{rules}
+use Rattle.std.specs.List.{sum}
+use Rattle.coloring.proofs.outline.CheckLaws.{sum-total}
 use Rattle.coloring.proofs.directions.count_marks.Goals as goal
 
-pub loop-i-init : goal.loop-i-init
-loop-i-init c = omega arith
-
-pub bounds-marks-i : goal.bounds-marks-i
-bounds-marks-i c = omega arith
-
-pub overflow_cast-sum : goal.overflow_cast-sum
-overflow_cast-sum c = omega (arith, c.shared_slice_known-1.given c.loop-i.i)
-
-pub overflow_add-sum : goal.overflow_add-sum
-overflow_add-sum c = omega (arith, c.shared_slice_known-1.given c.loop-i.i)
-
-pub overflow_add-i : goal.overflow_add-i
-overflow_add-i c = omega arith
-
-pub loop-i-smaller : goal.loop-i-smaller
-loop-i-smaller c = omega arith
-
-pub loop-i-preserved : goal.loop-i-preserved
-loop-i-preserved c = omega (
-  arith,
-  c.shared_slice_known-1.given c.loop-i.i,
-  total-step c.args.marks.now c.loop-i.i c.loop-i-test.true,
-)
-
 pub returns : goal.returns
-returns c = omega (arith, total_end c.args.marks.now c.loop-i.i c.loop-i-test.false)
+returns c =
+    let e : c.sum.result ≡ sum c.args.marks.now = search rules in
+    e ∙ sum-total c.args.marks.now

@@ -6,21 +6,22 @@ use Prim.Native.Nat.{ℕ, ◌*◌, ◌≤◌, ◌<◌}
 use native.Mathlib.Omega.{arith}
 use borrow.Author.Tests.{le-leb, lt-leb}
 use lib.ListN.{length, drop, length-map}
-use lib.Seq.{length-take-le}
+use Rattle.std.proofs.lemmas.Result.{err_from_is_err_and}
 use Rattle.geometry.specs.EdgeSegment.{unit_directions}
 use Rattle.geometry.specs.declared.edge_segment.Directions.{Directions}
 use Rattle.coloring.specs.Answers.{gives, refusal, all_pass, checked_answer, first_refusal}
 use Rattle.coloring.specs.Fill.{fill_outcome, fill_with, with_failed, with-short, with-room}
 use Rattle.coloring.specs.Lists.{over}
 use Rattle.coloring.specs.Corners.{directions_of, stand_in_marks, marks_of}
-use Rattle.coloring.specs.Outline.{Outline, outline, edges_of, contours, check_outline, Agrees}
+use Rattle.coloring.specs.Outline.{Outline, outline_in, edges_of, contours, check_outline, Agrees}
 use Rattle.coloring.specs.Directions.{direction_places, encode_directions, edge_directions}
 use Rattle.coloring.specs.Directions.{DirectionBuffers, direction_buffers, directions_fit, directions_over, fill_directions}
 use Rattle.coloring.proofs.outline.EdgeLaws.{edges-length}
 use Rattle.coloring.proofs.shape.DeliverLaws.{passed_agrees}
 use Rattle.coloring.proofs.directions.DirectionLaws.{places-length, directions-whole}
 use Rattle.coloring.proofs.directions.edge_directions.Goals as goal
-use Rattle.coloring.proofs.directions.edge_directions.Goals.{Else-marks-out_stand_ins, In_default, Start}
+use Rattle.coloring.proofs.directions.edge_directions.Goals.{In_ok-check_outline, Start, then-places-out_directions-via-then-places-out_directions}
+use Rattle.coloring.proofs.directions.edge_directions.Goals.{then-places-out_directions-via-else-places-out_directions+then-marks-out_stand_ins}
 
 -- the outcome by the checks and by how long the buffers are
 module _ (o : Outline) (old : DirectionBuffers) where
@@ -93,77 +94,47 @@ abbrev old : Start → DirectionBuffers
 old s = direction_buffers s.args.out_directions.now s.args.out_stand_ins.now
 
 abbrev given : Start → Outline
-given s = outline s.args.lengths.now s.args.kinds.now s.args.points.now
+given s = outline_in s.args.outline
 
-pub returns-in-Failed : goal.returns-in-Failed
-returns-in-Failed c =
-    let start = (goal.at.returns-in-Failed c).Start in
-    refused (given start) (old start) (sym c.check_outline-checked.ensures ∙ ap checked_answer c.in-Failed.is)
+pub returns-in_err-check_outline : goal.returns-in_err-check_outline
+returns-in_err-check_outline c =
+    let start = (goal.at.returns-in_err-check_outline c).Start in
+    let p = err_from_is_err_and c.from_residual.result c.from_residual.ensures.1 in
+    rw (p.1, p.2) (refused (given start) (old start) (sym c.check_outline.ensures ∙ ap checked_answer c.in_err-check_outline.was))
 
 -- and passed
-module _ (c : In_default) where
+module _ (c : In_ok-check_outline) where
   abbrev start_of_checked : Start
-  start_of_checked = (goal.at.In_default c).Start
+  start_of_checked = (goal.at.In_ok-check_outline c).Start
 
   passed : first_refusal (check_outline (given start_of_checked)) ≡ all_pass
-  passed = sym c.check_outline-checked.ensures ∙ ap checked_answer c.in_default.is
+  passed = sym c.check_outline.ensures ∙ ap checked_answer c.in_ok-check_outline.was
+
+  agreed : Agrees (given start_of_checked)
+  agreed = agrees (given start_of_checked) (old start_of_checked) passed
+
+pub invariant_of-edges : goal.invariant_of-edges
+invariant_of-edges c =
+    let a = agreed (goal.at.invariant_of-edges c).In_ok-check_outline in
+    record { places = a.places; few = a.few }
 
 pub overflow_mul-places : goal.overflow_mul-places
-overflow_mul-places c =
-    let start = (goal.at.overflow_mul-places c).Start in
-    omega (arith, (agrees (given start) (old start) (passed c)).few)
-
-pub overflow_mul-marks : goal.overflow_mul-marks
-overflow_mul-marks c =
-    let start = (goal.at.overflow_mul-marks c).Start in
-    omega (arith, (agrees (given start) (old start) (passed c)).few)
+overflow_mul-places c = omega (arith, (agreed (goal.at.overflow_mul-places c).In_ok-check_outline).few)
 
 pub returns-then-places-out_directions : goal.returns-then-places-out_directions
 returns-then-places-out_directions c =
+    let at = (goal.at.returns-then-places-out_directions c).In_ok-check_outline in
     let start = (goal.at.returns-then-places-out_directions c).Start in
-    let in_default = (goal.at.returns-then-places-out_directions c).In_default in
-    directions-short (given start) (old start) (passed in_default) c.if-places-out_directions.true
-
-pub returns-then-marks-out_stand_ins : goal.returns-then-marks-out_stand_ins
-returns-then-marks-out_stand_ins c =
-    let start = (goal.at.returns-then-marks-out_stand_ins c).Start in
-    let in_default = (goal.at.returns-then-marks-out_stand_ins c).In_default in
-    marks-short (given start) (old start) (passed in_default) c.if-places-out_directions.false c.if-marks-out_stand_ins.true
-
--- there is room
-module _ (c : Else-marks-out_stand_ins) where
-  directions-room : 4 * length c.args.kinds.now ≤ length c.args.out_directions.now
-  directions-room = c.if-places-out_directions.false
-
-  marks-room : 2 * length c.args.kinds.now ≤ length c.args.out_stand_ins.now
-  marks-room = c.if-marks-out_stand_ins.false
-
-pub slice_bounds-unit_directions-end-2 : goal.slice_bounds-unit_directions-end-2
-slice_bounds-unit_directions-end-2 c =
-    let else_marks_out_stand_ins = (goal.at.slice_bounds-unit_directions-end-2 c).Else-marks-out_stand_ins in
-    sym (length-take-le _ c.args.out_directions.now (directions-room else_marks_out_stand_ins))
-
-pub slice_bounds-unit_directions-end-4 : goal.slice_bounds-unit_directions-end-4
-slice_bounds-unit_directions-end-4 c =
-    sym (length-take-le _ c.args.out_stand_ins.now (marks-room (goal.at.slice_bounds-unit_directions-end-4 c).Else-marks-out_stand_ins))
-
-pub unit_directions-requires : goal.unit_directions-requires
-unit_directions-requires c =
-    let start = (goal.at.unit_directions-requires c).Start in
-    let in_default = (goal.at.unit_directions-requires c).In_default in
-    let else_marks_out_stand_ins = (goal.at.unit_directions-requires c).Else-marks-out_stand_ins in
-    record {
-      agrees = agrees (given start) (old start) (passed in_default);
-      out_len = (
-        length-take-le _ c.args.out_directions.now (directions-room else_marks_out_stand_ins),
-        length-take-le _ c.args.out_stand_ins.now (marks-room else_marks_out_stand_ins),
-      );
-    }
+    elim c.then-places-out_directions.branch [
+      | then-places-out_directions-via-then-places-out_directions w ↦
+          directions-short (given start) (old start) (passed at) w.if-places-out_directions.true
+      | then-places-out_directions-via-else-places-out_directions+then-marks-out_stand_ins w ↦
+          marks-short (given start) (old start) (passed at) w.if-places-out_directions.false w.if-marks-out_stand_ins.true
+    ]
 
 pub returns : goal.returns
 returns c =
+    let at = (goal.at.returns c).In_ok-check_outline in
     let start = (goal.at.returns c).Start in
-    let in_default = (goal.at.returns c).In_default in
-    let else_marks_out_stand_ins = (goal.at.returns c).Else-marks-out_stand_ins in
     rw (c.unit_directions.ensures.out_after, c.unit_directions.ensures.marks_after)
-    (fits (given start) (old start) (passed in_default) (directions-room else_marks_out_stand_ins) (marks-room else_marks_out_stand_ins))
+    (fits (given start) (old start) (passed at) c.if-places-out_directions.false c.if-marks-out_stand_ins.false)

@@ -1,31 +1,20 @@
 -- The answers for `coordinates_fit`, by the invariant of Invariants.antt.
-use mathlib.Core.Path.{◌≡◌, refl, sym, ◌∙◌}
+use mathlib.Core.Path.{◌≡◌, sym, ◌∙◌}
 use Prim.Native.Nat.{ℕ, ◌≤◌, ◌+◌, ◌*◌, ◌-◌}
 use native.Mathlib.Omega.{arith}
-use borrow.Author.Tests.{not-true, not-false}
 use lib.ListN.{take, drop, get_or}
-use Rattle.coloring.specs.Lists.{all}
+use Rattle.std.specs.List.{list_all}
 use Rattle.coloring.specs.Outline.{in_range, used_places}
 use Rattle.coloring.proofs.outline.CheckLaws.{kind_at, fit_fail, fit_more, fit_end}
 use Rattle.coloring.proofs.outline.coordinates_fit.Goals as goal
 use Rattle.coloring.proofs.outline.coordinates_fit.Goals.{After-places_fit, After-used_places}
-
-pub loop-i-init : goal.loop-i-init
-loop-i-init c = (omega arith, refl)
-
-pub overflow_mul-at : goal.overflow_mul-at
-overflow_mul-at c = omega arith
-
-pub bounds-kinds-i : goal.bounds-kinds-i
-bounds-kinds-i c = omega arith
 
 pub used_places-requires : goal.used_places-requires
 used_places-requires c = kind_at _ _ c.requires.1 c.loop-i-test.true
 
 -- an edge uses at most its eight places
 used : (c : After-used_places) → c.used_places.result ≤ 8
-used c =
-    omega (arith, kind_at c.args.kinds.now c.loop-i.i c.requires.1 c.loop-i-test.true)
+used c = omega (arith, kind_at c.args.kinds.now c.loop-i.i c.requires.1 c.loop-i-test.true)
 
 pub overflow_add-end : goal.overflow_add-end
 overflow_add-end c = omega (arith, used c)
@@ -47,7 +36,7 @@ module _ (c : After-places_fit) where
   abbrev i : ℕ
   i = c.loop-i.i
 
-  tested : c.places_fit.result ≡ all in_range (take (used_places (get_or c.args.kinds.now i 0)) (drop (8 * i) c.args.points.now))
+  tested : c.places_fit.result ≡ list_all in_range (take (used_places (get_or c.args.kinds.now i 0)) (drop (8 * i) c.args.points.now))
   tested =
       let e : 8 * i + c.used_places.result - 8 * i ≡ used_places (get_or c.args.kinds.now i 0) = omega arith in
       c.places_fit.ensures ∙ rw e
@@ -55,18 +44,12 @@ module _ (c : After-places_fit) where
 pub returns-then-not-places_fit : goal.returns-then-not-places_fit
 returns-then-not-places_fit c =
     let after_places_fit = (goal.at.returns-then-not-places_fit c).After-places_fit in
-    fit_fail _ _ _ c.loop-i.invariant.1 c.loop-i-test.true (sym (tested after_places_fit) ∙ not-true _ c.if-not-places_fit.true-raw)
-
-pub overflow_add-i : goal.overflow_add-i
-overflow_add-i c = omega arith
-
-pub loop-i-smaller : goal.loop-i-smaller
-loop-i-smaller c = omega arith
+    fit_fail _ _ _ c.loop-i.invariant c.loop-i-test.true (sym (tested after_places_fit) ∙ c.if-not-places_fit.true)
 
 pub loop-i-preserved : goal.loop-i-preserved
 loop-i-preserved c =
     let after_places_fit = (goal.at.loop-i-preserved c).After-places_fit in
-    (omega arith, fit_more _ _ _ c.loop-i.invariant.1 c.loop-i-test.true (sym (tested after_places_fit) ∙ not-false _ c.if-not-places_fit.false-raw))
+    fit_more _ _ _ c.loop-i.invariant c.loop-i-test.true (sym (tested after_places_fit) ∙ c.if-not-places_fit.false)
 
 pub returns : goal.returns
-returns c = fit_end _ _ _ c.loop-i.invariant.1 c.loop-i-test.false
+returns c = fit_end _ _ _ c.loop-i.invariant (omega arith)

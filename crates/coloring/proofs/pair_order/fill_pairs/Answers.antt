@@ -1,77 +1,46 @@
 -- The answers for `fill_pairs`, by the invariants of Invariants.antt.
-use mathlib.Core.Path.{subst}
+use mathlib.Core.Path.{refl, sym, subst, ◌∙◌}
 use mathlib.Core.List.{◌∷◌}
-use Prim.Native.Nat.{ℕ, ◌+◌, ◌<◌}
+use Prim.Native.Nat.{ℕ, ◌+◌}
+use native.Mathlib.Nat.{sub-zero}
 use native.Mathlib.Omega.{arith}
-use lib.ListN.{length}
 use Rattle.coloring.proofs.pair_order.PairLaws.{pairs_on, row_starts, row_goes_on, row_ends, rows_end, Written, written_none, write_next, written_all}
+use Rattle.coloring.proofs.pair_order.PairLaws.{pairs-count}
 use Rattle.coloring.proofs.pair_order.fill_pairs.Goals as goal
-use Rattle.coloring.proofs.pair_order.fill_pairs.Goals.{In-loop-j}
+use Rattle.coloring.proofs.pair_order.fill_pairs.Goals.{In-loop-b}
 
--- the next pair is (i, j)
-module _ (c : In-loop-j) where
+-- the next pair is (a, b)
+module _ (c : In-loop-b) where
   abbrev n : ℕ
   n = c.args.n
 
-  abbrev i : ℕ
-  i = c.loop-i.i
+  abbrev a : ℕ
+  a = c.loop-a.a
 
-  abbrev j : ℕ
-  j = c.loop-j.j
+  abbrev b : ℕ
+  b = c.loop-b.b
 
-  left : Written n c.loop-j.codes c.loop-j.k (record { a = i; b = j } ∷ pairs_on n i (j + 1))
-  left = subst (Written n _ _) (row_goes_on n i j c.loop-j-test.true) c.loop-j.invariant.1
+  left : Written n c.args.distances.now c.loop-b.edges c.loop-b.k (record { a = a; b = b } ∷ pairs_on n a (b + 1))
+  left = subst (Written n _ _ _) (row_goes_on n a b c.loop-b-test.true) c.loop-b.invariant
 
-  room : c.loop-j.k < length c.loop-j.codes
-  room = omega (arith, left.room)
+pub loop-a-init : goal.loop-a-init
+loop-a-init c =
+    rw sub-zero (written_none c.args.n c.args.distances.now _ c.requires.1 (pairs-count c.args.n ∙ sym c.requires.0.count))
 
-pub loop-i-init : goal.loop-i-init
-loop-i-init c = (omega arith, written_none _ _ c.requires.1)
+pub loop-b-init : goal.loop-b-init
+loop-b-init c = subst (Written _ _ _ _) (row_starts _ c.loop-a.a c.loop-a-test.true) c.loop-a.invariant
 
-pub overflow_add-j : goal.overflow_add-j
-overflow_add-j c = omega arith
+pub bounds-distances-k : goal.bounds-distances-k
+bounds-distances-k c = omega (arith, (left (goal.at.bounds-distances-k c).In-loop-b).room)
 
-pub loop-j-init : goal.loop-j-init
-loop-j-init c = (omega arith, subst (Written _ _ _) (row_starts _ c.loop-i.i c.loop-i-test.true) c.loop-i.invariant.1)
+pub bounds-edges-k : goal.bounds-edges-k
+bounds-edges-k c = let l = left (goal.at.bounds-edges-k c).In-loop-b in omega (arith, l.room, l.size)
 
-pub overflow_mul-codes : goal.overflow_mul-codes
-overflow_mul-codes c = omega arith
+pub loop-b-preserved : goal.loop-b-preserved
+loop-b-preserved c = write_next _ _ _ _ _ _ _ refl (left (goal.at.loop-b-preserved c).In-loop-b)
 
-pub overflow_add-codes : goal.overflow_add-codes
-overflow_add-codes c = omega arith
-
-pub overflow_cast-codes : goal.overflow_cast-codes
-overflow_cast-codes c = omega arith
-
-pub offset_bounds-codes-k : goal.offset_bounds-codes-k
-offset_bounds-codes-k c = omega (arith, room c)
-
-pub bounds-codes-k : goal.bounds-codes-k
-bounds-codes-k c = room c
-
-pub overflow_add-k : goal.overflow_add-k
-overflow_add-k c = omega (arith, room c)
-
-pub overflow_add-j-in-loop-j : goal.overflow_add-j-in-loop-j
-overflow_add-j-in-loop-j c = omega arith
-
-pub loop-j-smaller : goal.loop-j-smaller
-loop-j-smaller c = omega arith
-
-pub loop-j-preserved : goal.loop-j-preserved
-loop-j-preserved c = (omega arith, write_next _ _ _ _ _ (left c))
-
-pub overflow_add-i : goal.overflow_add-i
-overflow_add-i c = omega arith
-
-pub loop-i-smaller : goal.loop-i-smaller
-loop-i-smaller c = omega arith
-
-pub loop-i-preserved : goal.loop-i-preserved
-loop-i-preserved c = (omega arith, subst (Written _ _ _) (row_ends _ _ c.loop-j.j c.loop-j-test.false) c.loop-j.invariant.1)
-
-pub shape_of-codes : goal.shape_of-codes
-shape_of-codes c = omega arith
+pub loop-a-preserved : goal.loop-a-preserved
+loop-a-preserved c = subst (Written _ _ _ _) (row_ends _ _ c.loop-b.b c.loop-b-test.false) c.loop-b.invariant
 
 pub returns : goal.returns
-returns c = written_all _ _ _ (subst (Written _ _ _) (rows_end _ c.loop-i.i c.loop-i-test.false) c.loop-i.invariant.1)
+returns c = written_all _ _ _ _ (subst (Written _ _ _ _) (rows_end _ c.loop-a.a c.loop-a-test.false) c.loop-a.invariant)

@@ -1,20 +1,19 @@
 -- `recolor` meets its contract: the copy equals the colours, the first splines that wait are the definition's, and so
 -- is the walk.
-use mathlib.Core.Path.{◌≡◌, refl, sym, ap, ◌∙◌}
+use mathlib.Core.Path.{◌≡◌, sym, ap, ◌∙◌}
 use mathlib.Core.List.{List, []}
 use Prim.Native.Nat.{ℕ, ◌-◌, ◌^◌, ◌<◌}
 use native.Mathlib.Omega.{arith}
-use lib.ListN.{length, get_or, set, replicate, length-set}
-use Rattle.coloring.specs.Recolor.{Recoloring, row, first_possible_color, force, walk_from, walk_start, ring, recoloring, Waiting, Uncoloring, Walking}
+use Rattle.std.proofs.Common.{rules}
+use lib.ListN.{length, get_or, set, length-set}
+use Rattle.coloring.specs.Recolor.{Recoloring, row, first_possible_color, uncolor_same_neighbors, force, walk_from, walk_start, recoloring}
+use Rattle.coloring.specs.Recolor.{Waiting, Uncoloring, Walking}
 use Rattle.coloring.specs.Recolor as defined
 use Rattle.coloring.proofs.recolor.RowLaws.{row-length}
 use Rattle.coloring.proofs.recolor.FreeColorLaws.{others}
-use Rattle.coloring.proofs.recolor.UncolorLaws.{same_uncolors, ring-kept}
+use Rattle.coloring.proofs.recolor.UncolorLaws.{same_uncolors, still_uncoloring}
 use Rattle.coloring.proofs.recolor.recolor.Goals as goal
-use Rattle.coloring.proofs.recolor.recolor.Goals.{After-first_possible_color-d, After-row-entries, After-uncolor_same_neighbors-waiting}
-
-abbrev zeros : List ℕ
-zeros = replicate 64 0
+use Rattle.coloring.proofs.recolor.recolor.Goals.{After-first_possible_color-d, After-row-entries, After-uncolor_same_neighbors}
 
 -- the start of the walk as the code makes it: in the copy, with the row cut out
 start_same : (coloring edge_matrix buffer entries : List ℕ) (a b d : ℕ) → buffer ≡ coloring → entries ≡ row (length coloring) edge_matrix b
@@ -55,84 +54,80 @@ module _ (c : After-first_possible_color-d) where
   size = length-set buffer b d ∙ ap length copy_same
 
 module _ (c : After-row-entries) where
-  abbrev after_first_possible_color_d : After-first_possible_color-d
-  after_first_possible_color_d = (goal.at.After-row-entries c).After-first_possible_color-d
+  abbrev color_of_row : After-first_possible_color-d
+  color_of_row = (goal.at.After-row-entries c).After-first_possible_color-d
 
   abbrev entries : List ℕ
   entries = c.row-entries.result.now
 
-  ready : Uncoloring (set (buffer after_first_possible_color_d) (b after_first_possible_color_d) (d after_first_possible_color_d)) zeros entries 0 0
-      (d after_first_possible_color_d)
-  unfolding ring Waiting
+  -- nobody waits yet
+  ready : Uncoloring (record { coloring = set (buffer color_of_row) (b color_of_row) (d color_of_row); queue = [] }) entries (d color_of_row)
+  unfolding Waiting
   ready =
       let o = c.requires.0 in
       record {
-        queued = record { few = omega (arith, o.few, size after_first_possible_color_d); size = refl; start = omega arith; waits = tt };
+        queued = record { few = omega (arith, o.few, size color_of_row); waits = tt };
         row =
             ap length c.row-entries.ensures
-            ∙ row-length (length (coloring after_first_possible_color_d)) (b after_first_possible_color_d) (edge_matrix after_first_possible_color_d)
-            o.entries o.second
-            ∙ sym (size after_first_possible_color_d);
-        color = small after_first_possible_color_d;
+            ∙ row-length (length (coloring color_of_row)) (b color_of_row) (edge_matrix color_of_row) o.entries o.second
+            ∙ sym (size color_of_row);
+        color = small color_of_row;
       }
 
-module _ (c : After-uncolor_same_neighbors-waiting) where
-  abbrev first_color_of_waiting : After-first_possible_color-d
-  first_color_of_waiting = (goal.at.After-uncolor_same_neighbors-waiting c).After-first_possible_color-d
+module _ (c : After-uncolor_same_neighbors) where
+  abbrev color_of_waiting : After-first_possible_color-d
+  color_of_waiting = (goal.at.After-uncolor_same_neighbors c).After-first_possible_color-d
 
-  abbrev after_row_entries : After-row-entries
-  after_row_entries = (goal.at.After-uncolor_same_neighbors-waiting c).After-row-entries
+  abbrev row_of_waiting : After-row-entries
+  row_of_waiting = (goal.at.After-uncolor_same_neighbors c).After-row-entries
+
+  -- b has its colour, and nobody waits
+  abbrev before : Recoloring
+  before = record { coloring = set (buffer color_of_waiting) (b color_of_waiting) (d color_of_waiting); queue = [] }
 
   abbrev begun : Recoloring
-  begun = recoloring c.uncolor_same_neighbors-waiting.new.coloring c.uncolor_same_neighbors-waiting.new.queue 0 c.uncolor_same_neighbors-waiting.result
+  begun = recoloring c.uncolor_same_neighbors.new.self
 
-  started : begun ≡ walk_start (coloring first_color_of_waiting) (edge_matrix first_color_of_waiting) (a first_color_of_waiting)
-      (b first_color_of_waiting)
-  unfolding force ring
+  moved : begun ≡ uncolor_same_neighbors (entries row_of_waiting) (d color_of_waiting) (b color_of_waiting) before
+  moved = rw c.new.ensures at c.uncolor_same_neighbors.ensures.after
+
+  started : begun ≡ walk_start (coloring color_of_waiting) (edge_matrix color_of_waiting) (a color_of_waiting) (b color_of_waiting)
+  unfolding force
   started =
-      c.uncolor_same_neighbors-waiting.ensures
-      ∙ start_same (coloring first_color_of_waiting) (edge_matrix first_color_of_waiting) (buffer first_color_of_waiting)
-      (entries after_row_entries) (a first_color_of_waiting) (b first_color_of_waiting) (d first_color_of_waiting)
-      (copy_same first_color_of_waiting)
-      c.row-entries.ensures (color first_color_of_waiting)
+      moved
+      ∙ start_same (coloring color_of_waiting) (edge_matrix color_of_waiting) (buffer color_of_waiting) (entries row_of_waiting)
+      (a color_of_waiting) (b color_of_waiting) (d color_of_waiting) (copy_same color_of_waiting) c.row-entries.ensures (color color_of_waiting)
 
-  walking_size : length c.uncolor_same_neighbors-waiting.new.coloring ≡ length (coloring first_color_of_waiting)
-  walking_size = c.uncolor_same_neighbors-waiting.auto.coloring ∙ size first_color_of_waiting
+  walking_size : length begun.coloring ≡ length (coloring color_of_waiting)
+  walking_size =
+      let lost = same_uncolors (entries row_of_waiting) (d color_of_waiting) (small color_of_waiting) (b color_of_waiting) before in
+      ap (λ (r : Recoloring). length r.coloring) moved ∙ lost.size ∙ size color_of_waiting
 
-  walking : Walking c.uncolor_same_neighbors-waiting.new.coloring c.uncolor_same_neighbors-waiting.new.queue (edge_matrix first_color_of_waiting)
-      (a first_color_of_waiting)
-      c.uncolor_same_neighbors-waiting.result
+  walking : Walking begun (length (coloring color_of_waiting)) (a color_of_waiting)
   walking =
       let o = c.requires.0 in
-      let lost = same_uncolors (entries after_row_entries) (d first_color_of_waiting) (small first_color_of_waiting)
-      (b first_color_of_waiting)
-      (recoloring (set (buffer first_color_of_waiting) (b first_color_of_waiting) (d first_color_of_waiting)) zeros 0 0) in
+      let lost = same_uncolors (entries row_of_waiting) (d color_of_waiting) (small color_of_waiting) (b color_of_waiting) before in
       record {
-        queued = (ring-kept (ready after_row_entries) lost _ _ _ c.uncolor_same_neighbors-waiting.ensures c.uncolor_same_neighbors-waiting.auto.queue).queued;
-        entries = rw walking_size o.entries;
+        queued = (still_uncoloring (ready row_of_waiting) lost moved).queued;
+        size = sym walking_size;
         inside = omega (arith, walking_size, o.first);
       }
 
 pub row-entries-requires : goal.row-entries-requires
-row-entries-requires c = let o = c.requires.0 in (o.entries, o.second, o.few)
+row-entries-requires c = c.requires.0.second
 
-pub uncolor_same_neighbors-waiting-requires : goal.uncolor_same_neighbors-waiting-requires
-uncolor_same_neighbors-waiting-requires c =
-    let after_row_entries = (goal.at.uncolor_same_neighbors-waiting-requires c).After-row-entries in
-    let after_first_possible_color_d = (goal.at.uncolor_same_neighbors-waiting-requires c).After-first_possible_color-d in
-    (ready after_row_entries, omega (arith, size after_first_possible_color_d, c.requires.0.second))
+pub uncolor_same_neighbors-requires : goal.uncolor_same_neighbors-requires
+uncolor_same_neighbors-requires c =
+    let r = (goal.at.uncolor_same_neighbors-requires c).After-row-entries in
+    (rw c.new.ensures (ready r), omega (arith, size (color_of_row r), c.requires.0.second))
 
 pub walk-requires : goal.walk-requires
-walk-requires c = walking (goal.at.walk-requires c).After-uncolor_same_neighbors-waiting
-
-pub shape_of-buffer : goal.shape_of-buffer
-shape_of-buffer c =
-    c.walk.auto.coloring ∙ walking_size (goal.at.shape_of-buffer c).After-uncolor_same_neighbors-waiting ∙ sym c.requires.1
+walk-requires c = walking (goal.at.walk-requires c).After-uncolor_same_neighbors
 
 pub returns : goal.returns
 unfolding defined.recolor
 returns c =
-    let after_first_possible_color_d = (goal.at.returns c).After-first_possible_color-d in
-    let after_uncolor_same_neighbors_waiting = (goal.at.returns c).After-uncolor_same_neighbors-waiting in
-    c.walk.ensures ∙ ap (walk_from (edge_matrix after_first_possible_color_d) (a after_first_possible_color_d)
-    (get_or (coloring after_first_possible_color_d) (a after_first_possible_color_d) 0)) (started after_uncolor_same_neighbors_waiting)
+    let w = (goal.at.returns c).After-uncolor_same_neighbors in
+    let k = color_of_waiting w in
+    let walked = c.walk.ensures.end ∙ ap (walk_from (edge_matrix k) (a k) (get_or (coloring k) (a k) 0)) (started w) in
+    search (rules, walked)

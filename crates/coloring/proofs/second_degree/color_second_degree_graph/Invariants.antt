@@ -6,8 +6,6 @@ use Rattle.coloring.specs.SecondDegree.{color_from, color_second_degree_graph}
 use Rattle.coloring.proofs.second_degree.color_second_degree_graph.Given as goal
 
 abbrev pub invariant-loop-i : goal.invariant-loop-i
-invariant-loop-i l = (l.i ≤ l.n) × (length l.coloring ≡ l.n) ×
-    (color_from l.n l.edge_matrix (l.n - l.i) l.rest (take l.i l.coloring) ≡ color_second_degree_graph l.n l.edge_matrix l.seed)
-
-abbrev pub decreases-loop-i : goal.decreases-loop-i
-decreases-loop-i l = l.n - l.i
+invariant-loop-i l = (l.i ≤ l.edge_matrix.n) × (length l.coloring ≡ l.edge_matrix.n) ×
+    (color_from l.edge_matrix.n l.edge_matrix.entries.now (l.edge_matrix.n - l.i) l.rest (take l.i l.coloring)
+    ≡ color_second_degree_graph l.edge_matrix.n l.edge_matrix.entries.now l.seed)

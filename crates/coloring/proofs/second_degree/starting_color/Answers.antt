@@ -24,11 +24,11 @@ two_drawn : (possible i seed : ℕ) (b : Bool) (draw : Draw) → possible ≡ 5 
 unfolding starting_color
 two_drawn possible i seed b draw five drawn e = rw (five, e, drawn)
 
-pub overflow_add-result : goal.overflow_add-result
-overflow_add-result c = omega (arith, ap (λ (d : Draw). d.value) c.seed_extract2-draw-in-6.ensures)
+pub overflow_add-value : goal.overflow_add-value
+overflow_add-value c = omega (arith, ap (λ (d : Draw). d.value) c.seed_extract-draw-in-6.ensures)
 
-pub overflow_add-result-in-7 : goal.overflow_add-result-in-7
-overflow_add-result-in-7 c = omega (arith, ap (λ (d : Draw). d.value) c.seed_extract3-draw.ensures)
+pub overflow_add-value-in-7 : goal.overflow_add-value-in-7
+overflow_add-value-in-7 c = omega (arith, ap (λ (d : Draw). d.value) c.seed_extract-draw-in-7.ensures)
 
 pub returns-in-1 : goal.returns-in-1
 unfolding starting_color
@@ -40,7 +40,7 @@ returns-in-2 c = rw c.in-2.is
 
 pub returns-in-3 : goal.returns-in-3
 unfolding starting_color
-returns-in-3 c = rw c.in-3.is c.seed_extract2.ensures
+returns-in-3 c = rw c.in-3.is c.seed_extract.ensures
 
 pub returns-in-4 : goal.returns-in-4
 unfolding starting_color
@@ -49,22 +49,22 @@ returns-in-4 c = rw c.in-4.is
 pub returns-then-draw-eq0 : goal.returns-then-draw-eq0
 unfolding starting_color
 returns-then-draw-eq0 c =
-    let zero = sym (ap (λ (d : Draw). d.value) c.seed_extract2-draw.ensures) ∙ c.if-draw-eq0.true in
-    two_drawn _ _ _ true _ c.in-5.is c.seed_extract2-draw.ensures (eq-eqb _ 0 zero)
+    let zero = sym (ap (λ (d : Draw). d.value) c.seed_extract-draw.ensures) ∙ c.if-draw-eq0.true in
+    two_drawn _ _ _ true _ c.in-5.is c.seed_extract-draw.ensures (eq-eqb _ 0 zero)
 
 pub returns-else-draw-eq0 : goal.returns-else-draw-eq0
 unfolding starting_color
 returns-else-draw-eq0 c =
-    let value = ap (λ (d : Draw). d.value) c.seed_extract2-draw.ensures in
-    two_drawn _ _ _ false _ c.in-5.is c.seed_extract2-draw.ensures (ne_eqb _ 0 (λ e. c.if-draw-eq0.false (value ∙ e)))
+    let value = ap (λ (d : Draw). d.value) c.seed_extract-draw.ensures in
+    two_drawn _ _ _ false _ c.in-5.is c.seed_extract-draw.ensures (ne_eqb _ 0 (λ e. c.if-draw-eq0.false (value ∙ e)))
 
 pub returns-in-6 : goal.returns-in-6
 unfolding starting_color
-returns-in-6 c = rw (c.in-6.is, c.seed_extract2-draw-in-6.ensures)
+returns-in-6 c = rw (c.in-6.is, c.seed_extract-draw-in-6.ensures)
 
 pub returns-in-7 : goal.returns-in-7
 unfolding starting_color
-returns-in-7 c = rw (c.in-7.is, c.seed_extract3-draw.ensures)
+returns-in-7 c = rw (c.in-7.is, c.seed_extract-draw-in-7.ensures)
 
 pub returns-in_default : goal.returns-in_default
 unfolding starting_color

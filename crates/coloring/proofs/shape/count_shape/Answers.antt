@@ -1,6 +1,6 @@
 -- The answers for `count_shape`, by the invariant of Invariants.antt.
 use native.Mathlib.Omega.{arith}
-use mathlib.Core.Path.{◌≡◌, refl}
+use mathlib.Core.Path.{◌≡◌, refl, sym, ◌∙◌}
 use mathlib.Core.Bool.{Bool}
 use mathlib.Core.List.{List, map}
 use Prim.Native.Nat.{ℕ, ◌+◌, ◌-◌, ◌≤◌}
@@ -14,94 +14,83 @@ use Rattle.coloring.specs.Sizes.{edges_most}
 use Rattle.coloring.proofs.outline.CutLaws.{none_passed, next_fits, next-passed, left, left_step, left_end, cut-sizes, cut-length}
 use Rattle.coloring.proofs.splines.PaintLaws.{splines_most}
 use Rattle.coloring.proofs.shape.count_shape.Goals as goal
-use Rattle.coloring.proofs.shape.count_shape.Goals.{In-loop-i, Start}
+use Rattle.coloring.proofs.shape.count_shape.Goals.{In-loop-length, Start}
+
+-- all contours have few
+module _ (c : Start) where
+  abbrev lengths : List ℕ
+  lengths = c.args.contours.lengths.now
+
+  abbrev flags : List Bool
+  flags = c.args.contours.all.flags.now
+
+  whole : total lengths ≡ length flags
+  whole = c.args.contours.whole ∙ sym c.args.contours.all.flagged
+
+  few-edges : total (map result_edges (cut lengths flags)) ≤ max_result_edges
+  few-edges =
+      edges_most (cut lengths flags) (rw cut-length c.args.contours.contours_few)
+      (rw (cut-sizes lengths flags (omega (arith, whole))) (omega (arith, whole, c.args.contours.all.flagged, c.args.contours.all.edges.few)))
+
+  few-splines : total (map spline_count (cut lengths flags)) ≤ max_shape_splines
+  few-splines =
+      let most = rw (cut-sizes lengths flags (omega (arith, whole)), cut-length) at (splines_most (cut lengths flags)) in
+      omega (arith, most, whole, c.args.contours.all.flagged, c.args.contours.all.edges.few, c.args.contours.contours_few)
 
 -- the next contour
-module _ (c : In-loop-i) where
-  abbrev n : ℕ
-  n = get_or c.args.lengths.now c.loop-i.i 0
+module _ (c : In-loop-length) where
+  abbrev start : Start
+  start = (goal.at.In-loop-length c).Start
 
-  room : c.loop-i.at + n ≤ length c.args.flags.now
-  room = next_fits _ _ _ _ c.loop-i.invariant.0 c.loop-i-test.true
+  abbrev n : ℕ
+  n = get_or (lengths start) c.loop-length.length-index 0
+
+  room : c.loop-length.at + n ≤ length (flags start)
+  room = next_fits _ _ _ _ c.loop-length.invariant.0 c.loop-length-test.true
 
   -- it is counted
   step : (count : List Bool → ℕ)
-      → let s = c.loop-i in
-      left count c.args.lengths.now c.args.flags.now s.i s.at
-      ≡ count (take (s.at + n - s.at) (drop s.at c.args.flags.now))
-      + left count c.args.lengths.now c.args.flags.now (s.i + 1) (s.at + n)
+      → let s = c.loop-length in
+      left count (lengths start) (flags start) s.length-index s.at
+      ≡ count (take (s.at + n - s.at) (drop s.at (flags start)))
+      + left count (lengths start) (flags start) (s.length-index + 1) (s.at + n)
   step count =
-      let s = c.loop-i in
+      let s = c.loop-length in
       let whole : s.at + n - s.at ≡ n = omega arith in
-      rw whole (left_step count c.args.lengths.now c.args.flags.now s.i s.at c.loop-i-test.true)
+      rw whole (left_step count (lengths start) (flags start) s.length-index s.at c.loop-length-test.true)
 
--- all contours have few
-few-edges : (c : Start) → total (map result_edges (cut c.args.lengths.now c.args.flags.now)) ≤ max_result_edges
-few-edges c =
-    let sizes = cut-sizes c.args.lengths.now c.args.flags.now (omega (arith, c.requires.0)) in
-    edges_most (cut c.args.lengths.now c.args.flags.now) (rw cut-length c.requires.2) (rw sizes (omega (arith, c.requires.0, c.requires.1)))
+pub loop-length-init : goal.loop-length-init
+loop-length-init c = (none_passed _ _ (whole (goal.at.loop-length-init c).Start), omega arith, omega arith)
 
-few-splines : (c : Start) → total (map spline_count (cut c.args.lengths.now c.args.flags.now)) ≤ max_shape_splines
-few-splines c =
-    let contours = cut c.args.lengths.now c.args.flags.now in
-    let sizes = cut-sizes c.args.lengths.now c.args.flags.now (omega (arith, c.requires.0)) in
-    omega (arith, rw (sizes, cut-length) at (splines_most contours), c.requires.0, c.requires.1, c.requires.2)
-
-pub loop-i-init : goal.loop-i-init
-loop-i-init c = (none_passed _ _ c.requires.0, omega arith, omega arith)
-
-pub offset_bounds-lengths-i : goal.offset_bounds-lengths-i
-offset_bounds-lengths-i c = omega arith
-
-pub bounds-lengths-i : goal.bounds-lengths-i
-bounds-lengths-i c = omega arith
-
-pub overflow_cast-end : goal.overflow_cast-end
-overflow_cast-end c = omega (arith, room (goal.at.overflow_cast-end c).In-loop-i, c.requires.1)
-
-pub overflow_add-end : goal.overflow_add-end
-overflow_add-end c = omega (arith, room (goal.at.overflow_add-end c).In-loop-i, c.requires.1)
-
-pub part_edges-edges-requires : goal.part_edges-edges-requires
-part_edges-edges-requires c = (omega arith, room (goal.at.part_edges-edges-requires c).In-loop-i, c.requires.1)
+pub slice_bounds-flags-end : goal.slice_bounds-flags-end
+slice_bounds-flags-end c = room (goal.at.slice_bounds-flags-end c).In-loop-length
 
 pub overflow_add-edges : goal.overflow_add-edges
 overflow_add-edges c =
-    let in_loop_i = (goal.at.overflow_add-edges c).In-loop-i in
-    let start = (goal.at.overflow_add-edges c).Start in
-    omega (arith, c.part_edges-edges.ensures, step in_loop_i result_edges, c.loop-i.invariant.1, few-edges start)
-
-pub part_splines-splines-requires : goal.part_splines-splines-requires
-part_splines-splines-requires c = (omega arith, room (goal.at.part_splines-splines-requires c).In-loop-i)
+    let in_loop = (goal.at.overflow_add-edges c).In-loop-length in
+    omega (arith, c.result_edges-edges.ensures, step in_loop result_edges, c.loop-length.invariant.1, few-edges (start in_loop))
 
 pub overflow_add-splines : goal.overflow_add-splines
 overflow_add-splines c =
-    let in_loop_i = (goal.at.overflow_add-splines c).In-loop-i in
-    let start = (goal.at.overflow_add-splines c).Start in
-    omega (arith, c.part_splines-splines.ensures, step in_loop_i spline_count, c.loop-i.invariant.2, few-splines start)
+    let in_loop = (goal.at.overflow_add-splines c).In-loop-length in
+    omega (arith, c.spline_count-splines.ensures, step in_loop spline_count, c.loop-length.invariant.2, few-splines (start in_loop))
 
-pub overflow_add-i : goal.overflow_add-i
-overflow_add-i c = omega arith
-
-pub loop-i-smaller : goal.loop-i-smaller
-loop-i-smaller c = omega arith
-
-pub loop-i-preserved : goal.loop-i-preserved
-loop-i-preserved c =
-    let in_loop_i = (goal.at.loop-i-preserved c).In-loop-i in
-    let s = c.loop-i in (
-      next-passed _ _ _ _ s.invariant.0 c.loop-i-test.true,
-      omega (arith, c.part_edges-edges.ensures, step in_loop_i result_edges, s.invariant.1),
-      omega (arith, c.part_splines-splines.ensures, step in_loop_i spline_count, s.invariant.2),
+pub loop-length-preserved : goal.loop-length-preserved
+loop-length-preserved c =
+    let in_loop = (goal.at.loop-length-preserved c).In-loop-length in
+    let s = c.loop-length in (
+      next-passed _ _ _ _ s.invariant.0 c.loop-length-test.true,
+      omega (arith, c.result_edges-edges.ensures, step in_loop result_edges, s.invariant.1),
+      omega (arith, c.spline_count-splines.ensures, step in_loop spline_count, s.invariant.2),
     )
 
 pub returns : goal.returns
 returns c =
     let start = (goal.at.returns c).Start in
-    let s = c.loop-i in
-    let a = c.args in
-    let edges = left_end result_edges a.lengths.now a.flags.now s.i s.at c.loop-i-test.false in
-    let splines = left_end spline_count a.lengths.now a.flags.now s.i s.at c.loop-i-test.false in (
+    let s = c.loop-length in
+    let end : length (lengths start) ≤ s.length-index = omega arith in
+    let edges = left_end result_edges (lengths start) (flags start) s.length-index s.at end in
+    let splines = left_end spline_count (lengths start) (flags start) s.length-index s.at end in (
       record {
         contours_are = refl;
         edges_are = omega (arith, s.invariant.1);

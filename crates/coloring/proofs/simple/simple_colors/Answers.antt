@@ -8,55 +8,28 @@ use Rattle.coloring.proofs.switching.DrawLaws.{simple_length, drawing_starts, dr
 use Rattle.coloring.proofs.simple.simple_colors.Invariants.{all}
 use Rattle.coloring.proofs.simple.simple_colors.Goals as goal
 
-pub bounds-colors-0 : goal.bounds-colors-0
-bounds-colors-0 c = omega arith
-
 pub loop-i-init : goal.loop-i-init
 loop-i-init c =
     let n = length c.args.colors.now in
-    let first = c.switch_color-first.result in
-    let l : length (all first (n - 1)).colors ≡ n = omega (arith, simple_length first.color (n - 1) first) in (
-      omega arith,
-      omega arith,
-      rw c.bits.ensures (drawing_next _ _ _ (omega arith) (drawing_starts (all first (n - 1)) c.args.colors.now l)),
-    )
-
-pub overflow_sub-k : goal.overflow_sub-k
-overflow_sub-k c = omega arith
-
-pub overflow_sub-k-in-loop-i : goal.overflow_sub-k-in-loop-i
-overflow_sub-k-in-loop-i c = omega arith
-
-pub bounds-colors-i : goal.bounds-colors-i
-bounds-colors-i c = omega arith
-
-pub overflow_add-i : goal.overflow_add-i
-overflow_add-i c = omega arith
-
-pub loop-i-smaller : goal.loop-i-smaller
-loop-i-smaller c = omega arith
+    let first = c.switch_color-pen.result in
+    let l : length (all first (n - 1)).colors ≡ n = omega (arith, simple_length first.color (n - 1) first) in
+    rw c.bits.ensures (drawing_next _ _ _ (omega arith) (drawing_starts (all first (n - 1)) c.args.colors.now l))
 
 pub loop-i-preserved : goal.loop-i-preserved
 unfolding simple_from
 loop-i-preserved c =
     let at = c.loop-i in
     let n = length c.args.colors.now in
-    let h : at.i < n = omega (arith, at.invariant.2.long) in
+    let h : at.i < n = omega (arith, at.invariant.long) in
     let e : n - at.i ≡ suc (n - (at.i + 1)) = omega arith in
-    let left : n - 1 - at.i ≡ n - (at.i + 1) = omega arith in (
-      omega arith,
-      omega arith,
-      rw (c.bits-in-loop-i.ensures, c.switch_color_banned-pen.ensures, c.banned_before.ensures, left)
-          (drawing_next _ _ _ h (rw e at at.invariant.2)),
-    )
-
-pub shape_of-colors : goal.shape_of-colors
-shape_of-colors c = c.loop-i.invariant.2.long
+    let left : n - 1 - at.i ≡ n - (at.i + 1) = omega arith in
+    rw (c.bits-in-loop-i.ensures, c.switch_color_banned-pen.ensures, c.banned_before.ensures, left)
+    (drawing_next _ _ _ h (rw e at at.invariant))
 
 pub returns : goal.returns
 unfolding simple_from simple_colors
 returns c =
     let at = c.loop-i in
     let a = c.args in
-    let e : length a.colors.now - at.i ≡ 0 = omega (arith, at.invariant.2.long) in
-    rw c.switch_color-first.ensures at (drawing_ends at.pen (rw e at at.invariant.2))
+    let e : length a.colors.now - at.i ≡ 0 = omega (arith, at.invariant.long) in
+    rw c.switch_color-pen.ensures at (drawing_ends at.pen (rw e at at.invariant))

@@ -1,6 +1,6 @@
 -- `simple_colors` meets its contract: after i splines, their colours stand there, and the pen goes on.
 use mathlib.Core.List.{◌∷◌}
-use Prim.Native.Nat.{ℕ, ◌-◌, ◌≤◌}
+use Prim.Native.Nat.{ℕ, ◌-◌}
 use Rattle.coloring.specs.declared.switching.Pen.{Pen}
 use Rattle.coloring.specs.Switching.{SplineColors}
 use Rattle.coloring.specs.Simple.{simple_from}
@@ -13,7 +13,4 @@ all first k =
     record { colors = first.color ∷ rest.colors; pen = rest.pen }
 
 abbrev pub invariant-loop-i : goal.invariant-loop-i
-invariant-loop-i l = (1 ≤ l.i) × (l.i ≤ l.k) × Drawing (all l.initial.pen (l.k - 1)) l.k l.i l.colors (simple_from l.initial' (l.k - l.i) l.pen)
-
-abbrev pub decreases-loop-i : goal.decreases-loop-i
-decreases-loop-i l = l.k - l.i
+invariant-loop-i l = Drawing (all l.initial.pen (l.k - 1)) l.k l.i l.colors (simple_from l.initial_color (l.k - l.i) l.pen)

@@ -1,26 +1,54 @@
 -- `color_in_order` meets its contract: the zero pairs, the starting colours, and the offers.
-use mathlib.Core.Path.{◌≡◌, ap, ◌∙◌}
-use Prim.Native.Nat.{◌*◌}
-use lib.ListN.{length, length-replicate}
-use Rattle.coloring.proofs.spline_colors.OrderLaws.{offerable, ends}
+use mathlib.Core.Path.{◌≡◌, sym, ap, ◌∙◌, subst}
+use mathlib.Core.List.{List, map}
+use Prim.Native.Nat.{ℕ, ◌*◌}
+use mathlib.Core.Bool.{not}
+use Rattle.std.proofs.Common.{Option, rules}
+use Rattle.std.specs.List.{position}
+use Rattle.std.specs.Option.{unwrap_or}
+use lib.ListN.{length, length-replicate, take, drop}
+use Rattle.coloring.specs.Pairs.{pair_of, spline_pair, TwoEach}
+use Rattle.coloring.specs.SplineColors.{is_zero, zero_pairs, other_pairs}
+use Rattle.coloring.specs.declared.pair_order.GraphEdge.{GraphEdge}
+use Rattle.coloring.proofs.pair_order.EachLaws.{each_take, each_drop}
+use Rattle.coloring.proofs.spline_colors.OrderLaws.{zeros_first, offerable, ends}
 use Rattle.coloring.proofs.spline_colors.color_in_order.Goals as goal
-use Rattle.coloring.proofs.spline_colors.color_in_order.Goals.{After-enter_zero_pairs-zeros}
+use Rattle.coloring.proofs.spline_colors.color_in_order.Goals.{After-split_at}
 
--- after the zero pairs
-module _ (c : After-enter_zero_pairs-zeros) where
-  entries-size : length c.enter_zero_pairs-zeros.new.edge_matrix ≡ length c.args.coloring.now * length c.args.coloring.now
-  entries-size = c.enter_zero_pairs-zeros.auto.edge_matrix ∙ ap length c.requires.none ∙ length-replicate _ 0
+module _ (c : After-split_at) where
+  abbrev order : List GraphEdge
+  order = c.args.order.now
 
-pub color_second_degree_graph-requires : goal.color_second_degree_graph-requires
-color_second_degree_graph-requires c =
-    (entries-size (goal.at.color_second_degree_graph-requires c).After-enter_zero_pairs-zeros, c.requires.given.few)
+  size : length c.args.edge_matrix.now ≡ length c.args.coloring.now * length c.args.coloring.now
+  size = ap length c.requires.none ∙ length-replicate _ 0
+
+  zeros : TwoEach (length c.args.coloring.now) c.split_at.result.0.now
+  zeros = subst (TwoEach _) (sym c.split_at.ensures.front) (each_take _ c.unwrap_or-zero_count.result order c.requires.pairs)
+
+  others : TwoEach (length c.args.coloring.now) c.split_at.result.1.now
+  others = subst (TwoEach _) (sym c.split_at.ensures.back) (each_drop _ c.unwrap_or-zero_count.result order c.requires.pairs)
+
+  count : c.unwrap_or-zero_count.result ≡ unwrap_or (position (λ e. not (is_zero (spline_pair e))) order) (length order)
+  count = c.unwrap_or-zero_count.ensures ∙ ap (λ (o : Option ℕ). unwrap_or o (length order)) c.first_not_zero.ensures
+
+  zeros-are : map pair_of c.split_at.result.0.now ≡ zero_pairs (map spline_pair order)
+  zeros-are = ap (map pair_of) (c.split_at.ensures.front ∙ ap (λ (k : ℕ). take k order) count) ∙ (zeros_first order).0
+
+  others-are : map pair_of c.split_at.result.1.now ≡ other_pairs (map spline_pair order)
+  others-are = ap (map pair_of) (c.split_at.ensures.back ∙ ap (λ (k : ℕ). drop k order) count) ∙ (zeros_first order).1
+
+pub enter_pairs-requires : goal.enter_pairs-requires
+enter_pairs-requires c = let s = (goal.at.enter_pairs-requires c).After-split_at in (size s, zeros s)
 
 pub offer_pairs-requires : goal.offer_pairs-requires
 offer_pairs-requires c =
-    offerable _ _ _ _ _ _ _ c.enter_zero_pairs-zeros.result c.args.seed c.requires
-    (c.enter_zero_pairs-zeros.ensures.entered, c.enter_zero_pairs-zeros.ensures.others) c.color_second_degree_graph.ensures
+    let s = (goal.at.offer_pairs-requires c).After-split_at in
+    offerable _ _ _ _ _ _ _ c.args.seed c.requires (zeros-are s) (others-are s) c.enter_pairs.ensures c.color_second_degree_graph.ensures
+    (zeros s) (others s)
 
 pub returns : goal.returns
 returns c =
-    ends _ _ _ _ _ _ _ c.enter_zero_pairs-zeros.result c.args.seed c.requires
-    (c.enter_zero_pairs-zeros.ensures.entered, c.enter_zero_pairs-zeros.ensures.others) c.color_second_degree_graph.ensures _ c.offer_pairs.ensures
+    let s = (goal.at.returns c).After-split_at in
+    let written = ends _ _ _ _ _ _ _ c.args.seed c.requires (zeros-are s) (others-are s) c.enter_pairs.ensures c.color_second_degree_graph.ensures _
+    c.offer_pairs.ensures.offered in
+    search (rules, written)

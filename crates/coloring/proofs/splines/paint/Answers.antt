@@ -5,7 +5,7 @@ use mathlib.Core.Bool.{false}
 use Prim.Native.Nat.{suc, ◌-◌, ◌<◌}
 use lib.Dec.{eqb}
 use lib.ListN.{length}
-use borrow.Author.Tests.{eq-eqb, ne_eqb}
+use borrow.Author.Tests.{eq-eqb, ne_eqb, eqb-true, eqb-false}
 use Rattle.coloring.proofs.Lists.{get_d_any}
 use Rattle.coloring.specs.Corners.{corner_count}
 use Rattle.coloring.specs.Sizes.{paint-one, paint-spread, paint-length}
@@ -18,7 +18,7 @@ use Rattle.coloring.proofs.splines.paint.Goals.{After-count_corners, Else-count_
 -- there are edges, and their corners are counted
 module _ (c : After-count_corners) where
   some : 0 < length c.args.flags.now
-  some = omega (arith, c.if-flags-eq0.false)
+  some = omega (arith, eqb-false _ 0 (sym c.is_empty.ensures ∙ c.if-is_empty.false))
 
 one : (c : Then-count_corners-eq1) → corner_count c.args.flags.now ≡ 1
 one c = sym c.count_corners.ensures ∙ c.if-count_corners-eq1.true
@@ -34,9 +34,9 @@ not_one c = rw (← c.count_corners.ensures) (ne_eqb _ _ c.if-count_corners-eq1.
 values_some : (c : Else-count_corners-eq1) → 0 < length c.args.values.now
 values_some c = rw c.requires.valued (splines_positive _ (some (goal.at.Else-count_corners-eq1 c).After-count_corners))
 
-pub returns-then-flags-eq0 : goal.returns-then-flags-eq0
-returns-then-flags-eq0 c =
-    let none = c.if-flags-eq0.true in
+pub returns-then-is_empty : goal.returns-then-is_empty
+returns-then-is_empty c =
+    let none = eqb-true _ 0 (sym c.is_empty.ensures ∙ c.if-is_empty.true) in
     length-zero c.args.out.now (c.requires.room ∙ none) ∙ sym (length-zero _ (paint-length _ _ _ c.args.flags.now ∙ none))
 
 pub bounds-values-0 : goal.bounds-values-0

@@ -34,16 +34,7 @@ unfolding switch_color
 switches pen draw bits color d b e =
     rw (e, b, d) (ap (λ (c : EdgeColor). record { color = c; seed = pen.seed / 2 }) (turns pen.color (pen.seed % 2) (omega arith)))
 
-pub overflow_add-shifted : goal.overflow_add-shifted
-overflow_add-shifted c = omega (arith, ap (λ d. d.value) c.seed_extract2-draw.ensures)
-
-pub overflow_cast-shifted : goal.overflow_cast-shifted
-overflow_cast-shifted c = omega (arith, ap (λ d. d.value) c.seed_extract2-draw.ensures)
-
-pub overflow_shl-shifted : goal.overflow_shl-shifted
-overflow_shl-shifted c = omega (arith, ap (λ d. d.value) c.seed_extract2-draw.ensures)
-
 pub returns : goal.returns
 returns c =
-    switches c.args.pen c.seed_extract2-draw.result c.bits.result
-    c.from_bits.result c.seed_extract2-draw.ensures c.bits.ensures c.from_bits.ensures
+    switches c.args.pen c.seed_extract-draw.result c.bits.result
+    c.from_bits.result c.seed_extract-draw.ensures c.bits.ensures c.from_bits.ensures

@@ -13,36 +13,24 @@ unfolding switch_each
 each_length zero pen = refl
 each_length (suc k) pen = ap suc (each_length k (switch_color pen))
 
-pub loop-i-init : goal.loop-i-init
-loop-i-init c =
+pub loop-color-init : goal.loop-color-init
+loop-color-init c =
     let n = length c.args.colors.now in
     let e : n - 0 ≡ n = omega arith in
-    (omega arith, rw e (drawing_starts (switch_each n c.args.pen) c.args.colors.now (each_length n c.args.pen)))
+    rw e (drawing_starts (switch_each n c.args.pen) c.args.colors.now (each_length n c.args.pen))
 
-pub bounds-colors-i : goal.bounds-colors-i
-bounds-colors-i c = omega arith
-
-pub overflow_add-i : goal.overflow_add-i
-overflow_add-i c = omega arith
-
-pub loop-i-smaller : goal.loop-i-smaller
-loop-i-smaller c = omega arith
-
-pub loop-i-preserved : goal.loop-i-preserved
+pub loop-color-preserved : goal.loop-color-preserved
 unfolding switch_each
-loop-i-preserved c =
-    let at = c.loop-i in
+loop-color-preserved c =
+    let at = c.loop-color in
     let n = length c.args.colors.now in
-    let h : at.i < n = omega (arith, at.invariant.1.long) in
-    let e : n - at.i ≡ suc (n - (at.i + 1)) = omega arith in
-    (omega arith, rw (c.bits.ensures, c.switch_color-pen.ensures) (drawing_next _ _ _ h (rw e at at.invariant.1)))
-
-pub shape_of-colors : goal.shape_of-colors
-shape_of-colors c = c.loop-i.invariant.1.long
+    let h : at.color-index < n = omega (arith, at.invariant.long) in
+    let e : n - at.color-index ≡ suc (n - (at.color-index + 1)) = omega arith in
+    rw (c.bits.ensures, c.switch_color-pen.ensures) (drawing_next _ _ _ h (rw e at at.invariant))
 
 pub returns : goal.returns
 unfolding switch_each
 returns c =
-    let at = c.loop-i in
-    let e : length c.args.colors.now - at.i ≡ 0 = omega (arith, at.invariant.1.long) in
-    drawing_ends at.pen (rw e at at.invariant.1)
+    let at = c.loop-color in
+    let e : length c.args.colors.now - at.color-index ≡ 0 = omega (arith, at.invariant.long) in
+    drawing_ends at.pen (rw e at at.invariant)

@@ -1,13 +1,11 @@
--- `switch_each` meets its contract: after i splines, their colours stand there, and the pen goes on.
-use Prim.Native.Nat.{◌-◌, ◌≤◌}
+-- `switch_each` meets its contract: after some splines, their colours stand there, and the pen goes on.
+use Prim.Native.Nat.{◌-◌}
 use lib.ListN.{length}
 use Rattle.coloring.specs.Switching.{switch_each}
 use Rattle.coloring.proofs.switching.DrawLaws.{Drawing}
 use Rattle.coloring.proofs.switching.switch_each.Given as goal
 
-abbrev pub invariant-loop-i : goal.invariant-loop-i
-invariant-loop-i l = (l.i ≤ length l.initial.colors) × Drawing (switch_each (length l.initial.colors) l.initial.pen) (length l.initial.colors) l.i l.colors
-    (switch_each (length l.initial.colors - l.i) l.pen)
-
-abbrev pub decreases-loop-i : goal.decreases-loop-i
-decreases-loop-i l = length l.initial.colors - l.i
+abbrev pub invariant-loop-color : goal.invariant-loop-color
+invariant-loop-color l =
+    let n = length l.initial.colors in
+    Drawing (switch_each n l.initial.pen) n l.color-index l.colors (switch_each (n - l.color-index) l.pen)

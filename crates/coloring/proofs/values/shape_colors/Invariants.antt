@@ -2,7 +2,7 @@
 use mathlib.Core.Path.{◌≡◌}
 use mathlib.Core.Bool.{Bool}
 use mathlib.Core.List.{List, ◌++◌, map}
-use Prim.Native.Nat.{ℕ, ◌+◌, ◌-◌}
+use Prim.Native.Nat.{ℕ, ◌+◌}
 use lib.ListN.{length, take, drop}
 use Rattle.geometry.specs.EdgeColor.{bits_of}
 use Rattle.geometry.specs.declared.edge_segment.EdgeSegment.{EdgeSegment}
@@ -11,7 +11,7 @@ use Rattle.coloring.specs.declared.settings.Strategy.{Strategy}
 use Rattle.coloring.specs.Corners.{Cornered, cornered}
 use Rattle.coloring.specs.Splines.{spline_count}
 use Rattle.coloring.specs.Values.{shape_colors}
-use Rattle.coloring.specs.Outline.{edges_of}
+use Rattle.coloring.specs.Contours.{stored_edges}
 use Rattle.coloring.proofs.outline.CutLaws.{ContoursPassed, left}
 use Rattle.coloring.proofs.values.shape_colors.Given as goal
 
@@ -28,9 +28,7 @@ pub record Coloring (strategy : Strategy) (lengths : List ℕ) (xs : List EdgeSe
   pub bytes : color_bytes strategy pen₀ (cornered lengths xs flags)
       ≡ take to colors ++ color_bytes strategy pen (cornered (drop i lengths) (drop at xs) (drop at flags))
 
-abbrev pub invariant-loop-i : goal.invariant-loop-i
-invariant-loop-i l = Coloring l.strategy l.lengths (edges_of l.kinds l.points) l.flags l.initial.pen (length l.kinds) (length l.initial.colors) l.colors
-    l.pen l.at l.to l.i
-
-abbrev pub decreases-loop-i : goal.decreases-loop-i
-decreases-loop-i l = length l.lengths - l.i
+abbrev pub invariant-loop-length : goal.invariant-loop-length
+invariant-loop-length l = let all = l.contours.all in
+    Coloring l.strategy l.contours.lengths.now (stored_edges all.edges) all.flags.now l.initial.pen (length all.flags.now) (length l.initial.colors) l.colors
+    l.pen l.at l.to l.length-index

@@ -1,18 +1,13 @@
--- `job::buffers::write_points` meets its contract.
-use mathlib.Core.Path.{◌∙◌}
-use native.Mathlib.Omega.{arith}
-use lib.ListN.{length-replicate}
-use Rattle.job.proofs.buffers.BufferLaws.{places-from}
-use Rattle.job.proofs.records.RecordLaws.{controls-few}
+-- `job::buffers::write_points` meets its contract: the control points, then +0.
+use Rattle.std.proofs.Common.{◌≡◌, ℕ, ◌*◌, ◌-◌, length, arith, ap, ◌∙◌}
+use Rattle.job.specs.Records.{controls}
+use Rattle.job.proofs.buffers.BufferLaws.{places_from}
 use Rattle.job.proofs.buffers.write_points.Goals as goal
-
-pub write_floats-requires : goal.write_floats-requires
-write_floats-requires c = (
-  omega (arith, c.controls.ensures),
-  rw (c.clear.ensures, length-replicate) (omega (arith, c.controls.ensures, controls-few c.args.kind)),
-)
 
 pub returns : goal.returns
 returns c =
-    c.write_floats.ensures ∙ rw (c.controls.ensures, c.clear.ensures, c.requires.1)
-    (places-from c.args.kind c.args.body.now)
+    let kind = c.args.kind in
+    let split = c.split_at_mut-points in
+    let points : length split.result.0.now ≡ 2 * controls kind = split.ensures.front_len ∙ ap (λ (n : ℕ). 2 * n) c.controls.ensures in
+    let unused : length split.result.1.now ≡ 8 - 2 * controls kind = omega (arith, split.ensures.back_len, c.controls.ensures) in
+    rw (c.write_floats.ensures, c.fill.ensures.after, points, unused) (places_from kind c.args.body.now)

@@ -1,42 +1,33 @@
 -- `job::part::contour_place` meets its contract.
-use mathlib.Core.Path.{◌≡◌, sym, ap, ◌∙◌}
-use mathlib.Core.Bool.{true}
-use mathlib.Core.List.{List}
-use Prim.Native.Nat.{ℕ}
-use native.Mathlib.Omega.{arith}
+use Rattle.std.proofs.Common.{◌≡◌, true, not, sym, ap, ◌∙◌, rules}
 use Rattle.coloring.specs.Answers.{succeeds}
 use Rattle.job.specs.Job.{Reading}
 use Rattle.job.specs.Color.{accepted}
-use Rattle.job.specs.Part.{place_in, contour_place}
-use borrow.Author.Tests.{not-true, not-false}
+use Rattle.job.specs.Part.{nowhere, place_in, contour_place}
 use Rattle.job.proofs.part.PartLaws.{place-refused}
-use Rattle.job.proofs.color.AcceptLaws.{accepted_same}
+use Rattle.job.proofs.color.AcceptLaws.{accepted_same, succeeds_ok}
 use Rattle.job.proofs.part.contour_place.Goals as goal
-use Rattle.job.proofs.part.contour_place.Goals.{After-accepted, Else-not-accepted}
+use Rattle.job.proofs.part.contour_place.Goals.{After-is_err, Else-is_err}
 
-abbrev file : After-accepted → List ℕ
-file c = c.args.file.now
+tested : (c : After-is_err) → accepted c.args.file.now ≡ not c.is_err.result
+tested c = succeeds_ok _ _ c.accept.ensures ∙ c.is_err.ensures.negation
 
-is_accepted : (c : Else-not-accepted) → accepted (file (goal.at.Else-not-accepted c).After-accepted) ≡ true
-is_accepted c = sym c.accepted.ensures ∙ not-false c.accepted.result c.if-not-accepted.false-raw
+is_accepted : (c : Else-is_err) → accepted c.args.file.now ≡ true
+is_accepted c = tested (goal.at.Else-is_err c).After-is_err ∙ ap not c.if-is_err.false
 
-pub returns-then-not-accepted : goal.returns-then-not-accepted
-returns-then-not-accepted c =
-    let after_accepted = (goal.at.returns-then-not-accepted c).After-accepted in
-    record {
-      value = sym (place-refused (file after_accepted) c.args.number
-          (sym c.accepted.ensures ∙ not-true c.accepted.result c.if-not-accepted.true-raw));
-      inside = record { ordered = omega arith; within = omega arith };
-    }
+pub returns-then-is_err-clause-value : goal.returns-then-is_err-clause-value
+returns-then-is_err-clause-value c =
+    let none : c.default.result ≡ nowhere = search rules in
+    none ∙ sym (place-refused c.args.file.now c.args.number (tested (goal.at.returns-then-is_err-clause-value c).After-is_err ∙ ap not c.if-is_err.true))
 
 pub contour_span-requires : goal.contour_span-requires
-contour_span-requires c = ap succeeds (accepted_same (file (goal.at.contour_span-requires c).After-accepted) (is_accepted c)) ∙ is_accepted c
+contour_span-requires c =
+    let accepted = is_accepted (goal.at.contour_span-requires c).Else-is_err in
+    ap succeeds (accepted_same c.args.file.now accepted) ∙ accepted
 
-pub returns : goal.returns
+pub returns-clause-value : goal.returns-clause-value
 unfolding contour_place
-returns c =
-    record {
-      value = c.contour_span.ensures.value ∙ ap (λ (r : Reading). place_in r c.args.number)
-          (accepted_same (file (goal.at.returns c).After-accepted) (is_accepted (goal.at.returns c).Else-not-accepted));
-      inside = c.contour_span.ensures.inside;
-    }
+returns-clause-value c =
+    c.contour_span.ensures.value
+    ∙ ap (λ (r : Reading). place_in r c.args.number)
+    (accepted_same c.args.file.now (is_accepted (goal.at.returns-clause-value c).Else-is_err))

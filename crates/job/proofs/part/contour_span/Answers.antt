@@ -1,76 +1,41 @@
 -- The answers for `contour_span`, by the invariant of Invariants.antt.
-use mathlib.Core.Path.{◌≡◌, sym, ap, ◌∙◌}
-use mathlib.Core.List.{List}
-use Prim.Native.Nat.{ℕ}
-use native.Mathlib.Omega.{arith}
-use lib.ListN.{drop}
-use Rattle.job.specs.declared.progress.Progress.{Progress}
-use Rattle.job.specs.Records.{found_answer, found_of, read_record}
-use Rattle.job.proofs.records.RecordLaws.{part-after}
-use Rattle.job.proofs.records.ReadingLaws.{Read-as, found_item, found_end, found-fails}
-use Rattle.job.proofs.progress.ProgressLaws.{counts_on, less_on}
-use Rattle.job.proofs.part.PartLaws.{seeking_begin, seeking_next, seeking_end, seeking_fault, seeking_inside}
+use Rattle.std.proofs.Common.{◌≡◌, None, Ok, drop, ap, ◌∙◌, rules}
+use Rattle.job.specs.Records.{Step, ends, item_size, read_record}
+use Rattle.job.proofs.records.ReadingLaws.{Read-as, reads_item, reads_end, reads_fault}
+use Rattle.job.proofs.progress.ProgressLaws.{less_on}
+use Rattle.job.proofs.part.PartLaws.{seeking_begin, seeking_next, seeking_end, seeking_fault}
 use Rattle.job.proofs.part.contour_span.Goals as goal
-use Rattle.job.proofs.part.contour_span.Goals.{After-read_record, In-Item}
+use Rattle.job.proofs.part.contour_span.Goals.{After-next, After-span, In-Ok-Some, in_default, in_default-2}
 
--- what the code finds is the first record of the bytes ahead
-module _ (c : After-read_record) where
-  abbrev file : List ℕ
-  file = c.args.file.now
+-- the first record of the bytes ahead
+abbrev step : After-next → Step
+step c = read_record c.loop-item.p.state (drop c.loop-item.p.at c.args.file.now)
 
-  abbrev number : ℕ
-  number = c.args.number
-
-  abbrev p : Progress
-  p = c.loop-item.p
-
-  read : found_answer c.read_record.result ≡ found_of (read_record p.state (drop p.at file))
-  read = c.read_record.ensures ∙ ap (λ (x : List ℕ). found_of (read_record p.state x)) (part-after p.at file)
-
--- a record
-module _ (c : In-Item) where
-  abbrev after_read_record : After-read_record
-  after_read_record = (goal.at.In-Item c).After-read_record
-
-  as_read : Read-as (read_record (p after_read_record).state (drop (p after_read_record).at (file after_read_record))) c.in-Item.item c.in-Item.size
-  as_read = found_item _ _ _ (sym (ap found_answer c.in-Item.is) ∙ read after_read_record)
+as_read : (c : In-Ok-Some) → Read-as (step (goal.at.In-Ok-Some c).After-next) c.in-Ok-Some.item (item_size c.in-Ok-Some.item)
+as_read c = reads_item _ _ c.next.ensures c.in-Ok-Some.item (c.in-Ok-Some.is ∙ ap Ok c.in-Ok-Some.field-0-is)
 
 pub loop-item-init : goal.loop-item-init
 loop-item-init c = rw c.begin-p.ensures (seeking_begin _ _)
 
-pub slice_bounds-read_record-count : goal.slice_bounds-read_record-count
-slice_bounds-read_record-count c = c.loop-item.invariant.at.within
-
-pub slice_bounds-read_record-start : goal.slice_bounds-read_record-start
-slice_bounds-read_record-start c = c.loop-item.invariant.at.within
-
-pub slice_bounds-read_record-end : goal.slice_bounds-read_record-end
-slice_bounds-read_record-end c = omega arith
-
-pub advance-p-requires : goal.advance-p-requires
-advance-p-requires c = counts_on _ _ c.loop-item.invariant.at (as_read (goal.at.advance-p-requires c).In-Item) (omega arith)
-
 pub loop-item-smaller : goal.loop-item-smaller
-loop-item-smaller c = rw c.advance-p.ensures (less_on _ _ c.loop-item.invariant.at (as_read (goal.at.loop-item-smaller c).In-Item))
+loop-item-smaller c = rw c.advance-p.ensures (less_on _ _ c.loop-item.invariant.at (as_read (goal.at.loop-item-smaller c).In-Ok-Some))
 
 pub loop-item-preserved : goal.loop-item-preserved
 loop-item-preserved c =
-    let after_read_record = (goal.at.loop-item-preserved c).After-read_record in
-    let in_item = (goal.at.loop-item-preserved c).In-Item in
-    rw (c.advance-p.ensures, c.sought-q.ensures)
-    (seeking_next (file after_read_record) (number after_read_record) (p after_read_record) c.loop-item.q c.loop-item.invariant _ _ (as_read in_item))
+    rw (c.advance-p.ensures, c.after-q.ensures)
+    (seeking_next _ _ _ c.loop-item.q c.loop-item.invariant _ _ (as_read (goal.at.loop-item-preserved c).In-Ok-Some))
 
-pub returns-in-End : goal.returns-in-End
-returns-in-End c =
-    let after_read_record = (goal.at.returns-in-End c).After-read_record in
-    rw c.span_of.ensures (record {
-      value = seeking_end (file after_read_record) (number after_read_record) (p after_read_record) c.loop-item.q c.loop-item.invariant
-          (found_end _ (sym (ap found_answer c.in-End.is) ∙ read after_read_record));
-      inside = seeking_inside (file after_read_record) (number after_read_record) (p after_read_record) c.loop-item.q c.loop-item.invariant;
-    })
+-- the end: a file that is read has no fault
+ended : (c : After-span) → step (goal.at.After-span c).After-next ≡ ends
+ended c =
+    elim c.match-next.branch [
+      | in_default w ↦
+          let none : w.in_default.field-0 ≡ None = search rules in
+          reads_end _ _ c.next.ensures (w.in_default.is ∙ ap Ok none)
+      | in_default-2 w ↦
+          absurd (seeking_fault _ _ c.loop-item.invariant.at c.requires _ (reads_fault _ _ c.next.ensures w.in_default.field-0 w.in_default.is))
+    ]
 
-pub returns-in-Fails : goal.returns-in-Fails
-returns-in-Fails c =
-    let after_read_record = (goal.at.returns-in-Fails c).After-read_record in
-    let fault = found-fails _ _ (sym (ap found_answer c.in-Fails.is) ∙ read after_read_record) in
-    absurd (seeking_fault (file after_read_record) (p after_read_record) c.loop-item.invariant.at c.requires _ fault)
+pub returns-clause-value : goal.returns-clause-value
+returns-clause-value c =
+    rw c.span.ensures (seeking_end _ _ _ c.loop-item.q c.loop-item.invariant (ended (goal.at.returns-clause-value c).After-span))

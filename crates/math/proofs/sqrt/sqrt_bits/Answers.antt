@@ -18,4 +18,4 @@ returns c =
     let b = c.args.bits in
     let p : 0 < b = omega arith in
     let h : b < spec.infinity_pattern = omega arith in
-    c.positive_root.ensures ∙ sym (sqrt_bits_positive b p h)
+    c.root.ensures ∙ sym (sqrt_bits_positive b p h)

@@ -1,8 +1,0 @@
--- `capi::by_distance::merelsplum_edge_coloring_by_distance` meets its contract, by those of its callees.
-use Rattle.capi.specs.EdgeColoring.{colored_code}
-use Rattle.capi.proofs.Handing.{hands_out}
-use Rattle.capi.proofs.by_distance.merelsplum_edge_coloring_by_distance.Goals as goal
-
-pub returns : goal.returns
-returns c =
-    hands_out colored_code c.code.ensures c.edge_coloring_by_distance.ensures

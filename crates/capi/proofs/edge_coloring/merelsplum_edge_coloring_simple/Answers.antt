@@ -1,8 +1,0 @@
--- `capi::edge_coloring::merelsplum_edge_coloring_simple` meets its contract, by those of its callees.
-use Rattle.capi.specs.EdgeColoring.{colored_code}
-use Rattle.capi.proofs.Handing.{hands_out}
-use Rattle.capi.proofs.edge_coloring.merelsplum_edge_coloring_simple.Goals as goal
-
-pub returns : goal.returns
-returns c =
-    hands_out colored_code c.code.ensures c.edge_coloring_simple.ensures

@@ -1,8 +1,0 @@
--- `coloring::outline::between` meets its contract.
-use Rattle.coloring.proofs.outline.between.Goals as goal
-
-pub returns-then-low-x : goal.returns-then-low-x
-returns-then-low-x c = rw c.if-low-x.true
-
-pub returns-else-low-x : goal.returns-else-low-x
-returns-else-low-x c = rw c.if-low-x.false

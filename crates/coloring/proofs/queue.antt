@@ -1,0 +1,2 @@
+-- The queue of a walk: its ring.
+pub mod RingLaws

@@ -1,0 +1,11 @@
+-- `enter_pairs` meets its contract: the pairs from a place on, entered into what is, give the whole.
+use mathlib.Core.Path.{◌≡◌}
+use mathlib.Core.List.{map}
+use lib.ListN.{drop}
+use Rattle.coloring.specs.Pairs.{pair_of}
+use Rattle.coloring.specs.SplineColors.{enter_pairs}
+use Rattle.coloring.proofs.spline_colors.enter_pairs.Given as goal
+
+abbrev pub invariant-loop-edge : goal.invariant-loop-edge
+invariant-loop-edge l =
+    enter_pairs l.n (map pair_of (drop l.edge-index l.edges)) l.edge_matrix ≡ enter_pairs l.n (map pair_of l.edges) l.initial.edge_matrix
