@@ -10,12 +10,13 @@ use coloring::refusal::Refusal;
 // What the number of a refusal is added to.
 pub const REFUSED: u64 = 1 << 32;
 
-// The counts of a colouring are numbers below COUNT, and those of splines and stand-ins are taken so many times.
+// Each count of a colouring is below COUNT. That of splines is multiplied by SPLINES, and that of stand-ins by
+// STAND_INS, so all three have room in one number.
 pub const COUNT: u64 = 1 << 16;
 
-pub const SPLINES: u64 = 1 << 16;
+const SPLINES: u64 = 1 << 16;
 
-pub const STAND_INS: u64 = 1 << 48;
+const STAND_INS: u64 = 1 << 48;
 
 // A number, or 2^32 and the number of the refusal.
 pub(crate) fn code(answer: Result<u64, Refusal>) -> u64

@@ -1,4 +1,5 @@
 // The colourings of an outline and the collecting pass, with balanced teardrops.
+// The buffers are parameters of their own, as the C interface has them (lib.rt).
 ghost use Rattle.std.specs.Prelude.{◌≡◌, []};
 ghost use Rattle.coloring.specs.declared.settings.Strategy.TheVariants.{Simple, InkTrap};
 ghost use Rattle.coloring.specs.declared.settings.Marking.TheVariants.{Colors, Numbers, Distances};
@@ -10,7 +11,7 @@ ghost use Rattle.capi.specs.EdgeColoring.{collected_code, colored_code, handed, 
 use crate::answers::{collected_code, colored_code};
 use coloring::edge_coloring::edge_coloring;
 use coloring::outline::{OutlineBuffers, ResultBuffers};
-use coloring::settings::{Marking, Settings, Strategy};
+use coloring::settings::{Division, Marking, Settings, Strategy};
 
 pub fn merelsplum_edge_coloring_simple_balanced(
     lengths: &[u16],
@@ -38,7 +39,8 @@ pub fn merelsplum_edge_coloring_simple_balanced(
         points: out_points,
         colors: out_colors,
     };
-    let settings = Settings::balanced(Marking::Colors(Strategy::Simple, seed), threshold);
+    let marking = Marking::Colors(Strategy::Simple, seed);
+    let settings = Settings::new(Division::Balanced, marking, threshold);
     colored_code(edge_coloring(settings, outline, &[], &mut out))
 }
 
@@ -68,7 +70,8 @@ pub fn merelsplum_edge_coloring_ink_trap_balanced(
         points: out_points,
         colors: out_colors,
     };
-    let settings = Settings::balanced(Marking::Colors(Strategy::InkTrap, seed), threshold);
+    let marking = Marking::Colors(Strategy::InkTrap, seed);
+    let settings = Settings::new(Division::Balanced, marking, threshold);
     colored_code(edge_coloring(settings, outline, &[], &mut out))
 }
 
@@ -97,7 +100,7 @@ pub fn merelsplum_collect_splines_balanced(
         points: out_points,
         colors: out_splines,
     };
-    let settings = Settings::balanced(Marking::Numbers, threshold);
+    let settings = Settings::new(Division::Balanced, Marking::Numbers, threshold);
     collected_code(edge_coloring(settings, outline, &[], &mut out))
 }
 
@@ -128,6 +131,6 @@ pub fn merelsplum_edge_coloring_by_distance_balanced(
         points: out_points,
         colors: out_colors,
     };
-    let settings = Settings::balanced(Marking::Distances(seed), threshold);
+    let settings = Settings::new(Division::Balanced, Marking::Distances(seed), threshold);
     colored_code(edge_coloring(settings, outline, distances, &mut out))
 }

@@ -1,4 +1,5 @@
-// The collecting pass, and by-distance colouring of an outline.
+// The collecting pass, and by-distance colouring of an outline. The buffers are parameters of their own, as the C
+// interface has them (lib.rt).
 ghost use Rattle.std.specs.Prelude.{◌≡◌};
 ghost use Rattle.coloring.specs.Outline.{given, at_entry, at_exit};
 ghost use Rattle.coloring.specs.EdgeColoring.{collect_splines, edge_coloring_by_distance};

@@ -1,4 +1,5 @@
 // The unit directions of an outline's edges, and which of them are stand-ins.
+// The buffers are parameters of their own, as the C interface has them (lib.rt).
 ghost use Rattle.std.specs.Prelude.{◌≡◌};
 ghost use Rattle.coloring.specs.Outline.{given};
 ghost use Rattle.coloring.specs.Directions.{edge_directions, buffers_at_entry, buffers_at_exit};

@@ -1,4 +1,5 @@
-// Simple and ink-trap colouring of an outline.
+// Simple and ink-trap colouring of an outline. The buffers are parameters of their own, as the C interface has them
+// (lib.rt).
 ghost use Rattle.std.specs.Prelude.{◌≡◌};
 ghost use Rattle.coloring.specs.Outline.{given, at_entry, at_exit};
 ghost use Rattle.coloring.specs.EdgeColoring.{edge_coloring_simple, edge_coloring_ink_trap};

@@ -1,4 +1,5 @@
-// The job file: reading, checking, colouring, listing, its division, and the place of one contour.
+// The job file: reading, checking, colouring, listing, its division, and the place of one contour. The buffers are
+// parameters of their own, as the C interface has them (lib.rt).
 ghost use Rattle.std.specs.Prelude.{◌≡◌};
 ghost use Rattle.coloring.specs.Outline.{at_entry, at_exit};
 ghost use Rattle.job.specs.Progress.{answer_of};
@@ -16,7 +17,7 @@ use coloring::settings::Division;
 use job::buffers::JobBuffers;
 use job::{color, listing, part, reader};
 
-// The number of a part's bytes is taken so many times in its place.
+// The number of a part's bytes is multiplied by it, and the place of the first byte is added.
 pub const BYTES: u64 = 1 << 32;
 
 pub fn merelsplum_job_read(
@@ -59,7 +60,7 @@ pub fn merelsplum_job_check(file: &[u8]) -> u64
 pub fn merelsplum_job_balanced(file: &[u8]) -> u64
     ensures { result ≡ balanced_code (answer_of (accept_job file.now)) }
 {
-    code(color::accept(file).map(|job| u64::from(matches!(job.division, Division::Balanced))))
+    code(color::accept(file).map(|job| u64::from(job.division == Division::Balanced)))
 }
 
 pub fn merelsplum_job_color(

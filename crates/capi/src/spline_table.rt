@@ -1,4 +1,5 @@
 // Offers to a spline table.
+// The buffers are parameters of their own, as the C interface has them (lib.rt).
 ghost use Rattle.std.specs.Prelude.{◌≡◌};
 ghost use Rattle.coloring.specs.SplineTable.{offer_answer, offer, table_of};
 ghost use Rattle.capi.specs.SplineTable.{answer_code};

@@ -1,6 +1,5 @@
--- Laws on lists that the library has not: defaults, parts of parts, maps of parts, ranges, a test of all elements.
+-- Laws on lists that the library has not: defaults, parts of parts, maps of parts, ranges.
 use mathlib.Core.Path.{◌≡◌, refl, sym, ◌∙◌, ap}
-use mathlib.Core.Bool.{Bool, true}
 use mathlib.Core.List.{List, [], ◌∷◌, ◌++◌, append-nil, map}
 use Prim.Native.Nat.{ℕ, zero, suc, ◌+◌, ◌≤◌, ◌<◌}
 use native.Mathlib.Nat.{add-zero, zero-add, add-suc, suc-add}
@@ -8,8 +7,7 @@ use native.Mathlib.Numerals.{add-one}
 use native.Mathlib.Omega.{arith}
 use lib.ListN.{length, take, drop, get_or, drop_of_length-le, length-map, get_or-map}
 use lib.Seq.{take-length, drop-cons, take-nil}
-use Rattle.coloring.specs.Lists.{range, all}
-use Rattle.coloring.specs.Bools.{and_left, and_right}
+use Rattle.coloring.specs.Lists.{range}
 
 module _ {A : Type 0} where
   -- below the length the default does not matter
@@ -59,12 +57,3 @@ module _ {A : Type 0} where
 module _ {A B : Type 0} (f : A → B) where
   pub get_or_mapped : (xs : List A) (i : ℕ) (d : A) (e : B) → i < length xs → get_or (map f xs) i e ≡ f (get_or xs i d)
   get_or_mapped xs i d e h = get_d_any (map f xs) i e (f d) (simp length-map h) ∙ get_or-map f xs i d
-
--- ---- a test of all elements
-
-module _ {A : Type 0} (test : A → Bool) (d : A) where
-  -- what passes as a whole passes at each place
-  pub all-at : (xs : List A) (i : ℕ) → all test xs ≡ true → i < length xs → test (get_or xs i d) ≡ true
-  all-at [] i e h = absurd (omega arith)
-  all-at (x ∷ xs) zero e h = and_left (test x) (all test xs) e
-  all-at (x ∷ xs) (suc i) e h = all-at xs i (and_right (test x) (all test xs) e) (omega arith)

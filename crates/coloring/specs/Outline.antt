@@ -244,10 +244,13 @@ abbrev pub has_room : ℕ → ℕ → Result → Bool
 has_room contours edges old =
     leb contours (length old.lengths) && leb edges (length old.kinds) && leb (8 * edges) (length old.points) && leb edges (length old.colors)
 
--- three of them have room for n edges from place `to` on
+-- the two of edges have room for n of them from place `to` on
+abbrev pub EdgesFit : ℕ → ℕ → ResultBuffers → Type 0
+EdgesFit to n out = (to + n ≤ length out.kinds.now) × (8 * (to + n) ≤ length out.points.now)
+
+-- and that of their bytes too
 pub record RoomFrom (to n : ℕ) (out : ResultBuffers) : Type 0 where
-  pub kinds_fit : to + n ≤ length out.kinds.now
-  pub points_fit : 8 * (to + n) ≤ length out.points.now
+  pub edges_fit : EdgesFit to n out
   pub colors_fit : to + n ≤ length out.colors.now
 
 -- a contour is written from place `to` on with the bytes of its edges, and nothing else

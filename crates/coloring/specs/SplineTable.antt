@@ -22,9 +22,13 @@ table_of coloring edge_matrix = record { coloring = coloring; edge_matrix = edge
 abbrev pub table_in : SplineTable → Table
 table_in t = table_of t.coloring.now t.edge_matrix.now
 
--- the buffers of two tables are the same two, whatever is in them
+-- the buffers of two tables are the same two, and as long, whatever is in them
 abbrev pub SameTable : SplineTable → SplineTable → Type 0
-SameTable t u = (u.coloring.ghost_name ≡ t.coloring.ghost_name) × (u.edge_matrix.ghost_name ≡ t.edge_matrix.ghost_name)
+SameTable t u =
+    (u.coloring.ghost_name ≡ t.coloring.ghost_name)
+    × (u.edge_matrix.ghost_name ≡ t.edge_matrix.ghost_name)
+    × (length u.coloring.now ≡ length t.coloring.now)
+    × (length u.edge_matrix.now ≡ length t.edge_matrix.now)
 
 -- An offer's answer (SCOPE, Offers): kept or declined, with its counter, or refused, with its number.
 pub data OfferAnswer : Type 0 where

@@ -7,7 +7,7 @@ ghost use Rattle.coloring.specs.EdgeColoring.{collect_splines, edge_coloring_by_
 use crate::edge_coloring::edge_coloring;
 use crate::outline::{Counts, OutlineBuffers, ResultBuffers};
 use crate::refusal::Refusal;
-use crate::settings::{Marking, Settings};
+use crate::settings::{Division, Marking, Settings};
 
 // The split outline, each edge with the number of its spline, or 255 where it is White.
 pub fn collect_splines(
@@ -19,12 +19,8 @@ pub fn collect_splines(
     ensures colored { outcome (colored_answer result) (result_in out.new)
         ≡ collect_splines (outline_in outline.entry) threshold (result_in out.old) }
 {
-    edge_coloring(
-        Settings::of_source(Marking::Numbers, threshold),
-        outline,
-        &[],
-        out,
-    )
+    let settings = Settings::new(Division::Source, Marking::Numbers, threshold);
+    edge_coloring(settings, outline, &[], out)
 }
 
 // By-distance colouring of an outline, with a distance for each pair of splines i < j, by i then j. The distances are
@@ -40,11 +36,6 @@ pub fn edge_coloring_by_distance(
     ensures colored { outcome (colored_answer result) (result_in out.new)
         ≡ edge_coloring_by_distance (outline_in outline.entry) threshold seed distances.now (result_in out.old) }
 {
-    let marking = Marking::Distances(seed);
-    edge_coloring(
-        Settings::of_source(marking, threshold),
-        outline,
-        distances,
-        out,
-    )
+    let settings = Settings::new(Division::Source, Marking::Distances(seed), threshold);
+    edge_coloring(settings, outline, distances, out)
 }

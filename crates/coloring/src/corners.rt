@@ -58,7 +58,7 @@ pub(crate) fn estimate_edge_length(e: EdgeSegment) -> f64
 }
 
 // A flag for each edge of a contour, by its directions: true where it starts at a corner. The edge before the first is
-// the last.
+// the last. By place, since a flag has four places of the directions.
 fn identify_corners(directions: &[f64], threshold: f64, flags: &mut [bool])
     requires { (length directions.now ≡ 4 * length flags.old) × (length flags.old ≤ max_edges) }
     ensures { flags.new ≡ flags_between threshold (decode_ends (length flags.old) directions.now) }
@@ -76,7 +76,8 @@ fn identify_corners(directions: &[f64], threshold: f64, flags: &mut [bool])
 }
 
 // The corners of all contours, a flag an edge, by the directions of all edges. The flags stay apart from the lengths
-// and edges until they are written; Contours then holds them all.
+// and edges until they are written; Contours then holds them all. `at` as in
+// count_shape of shape.rt.
 fn compare_neighbors(lengths: &[u16], directions: &[f64], threshold: f64, flags: &mut [bool])
     requires { (length directions.now ≡ 4 * length flags.old) × (length flags.old ≤ max_edges) × (total lengths.now ≡ length flags.old) }
     ensures { flags.new ≡ all_flags threshold lengths.now
@@ -93,7 +94,8 @@ fn compare_neighbors(lengths: &[u16], directions: &[f64], threshold: f64, flags:
 }
 
 // The directions of all edges, in arrays of their own, then the corners of all contours. The answer is how many
-// directions are stand-ins.
+// directions are stand-ins. Two flat arrays, since one function fills these and the buffers of C: an array of structs
+// would need a second one. Two sizes, since an array's length is no product of a const parameter.
 fn search_corners<const PLACES: usize, const STAND_INS: usize>(
     lengths: &[u16],
     edges: StoredEdges,

@@ -3,7 +3,6 @@
 // its length is 0. The corners follow from the first (corners.rt).
 ghost use Rattle.std.specs.Prelude.{◌≡◌, ◌≤◌, ◌+◌, ◌*◌, length, drop};
 ghost use Rattle.coloring.specs.Limits.{max_edges};
-ghost use Rattle.coloring.specs.Lists.{over_from};
 ghost use Rattle.coloring.specs.Places.{total};
 ghost use Rattle.coloring.specs.Fill.{fill_outcome};
 ghost use Rattle.coloring.specs.Corners.{directions_of, stand_in_marks, marks_of};
@@ -12,19 +11,20 @@ ghost use Rattle.coloring.specs.Contours.{stored_edges};
 ghost use Rattle.coloring.specs.Directions.{direction_places, encode_directions, ends_at, directed_answer, edge_directions, buffers_at_entry, buffers_at_exit};
 
 use crate::contour::StoredEdges;
-use crate::outline::OutlineBuffers;
+use crate::outline::{OutlineBuffers, write_from};
 use crate::refusal::Refusal;
 use geometry::edge_segment::Directions;
 use math::vector2::Vector2;
 
-// The vectors of the two unit directions of an edge.
+// The vectors of the two unit directions of an edge. Kept apart from geometry's Directions, which have the flags of
+// stand-ins too.
 #[derive(Clone, Copy)]
 pub(crate) struct Ends {
     pub(crate) start: Vector2,
     pub(crate) end: Vector2,
 }
 
-// Those of the edge at place i. Here and below i is a place in the slice, not its length.
+// Those of the edge at place i of a flat buffer.
 pub(crate) fn ends_at(directions: &[f64], i: usize) -> Ends
     requires { 4 * i + 4 ≤ length directions.now }
     ensures { result ≡ ends_at (drop (4 * i) directions.now) }
@@ -36,33 +36,20 @@ pub(crate) fn ends_at(directions: &[f64], i: usize) -> Ends
     }
 }
 
-// The directions of the edge at place i, written.
-#[tactic(auto, unfolding(crate::specs::Lists::over_from, crate::specs::Lists::over))]
-fn write_directions(d: Directions, i: usize, out: &mut [f64])
-    requires { 4 * i + 4 ≤ length out.old }
-    ensures { out.new ≡ over_from (4 * i) (direction_places d) out.old }
+// The four places of the directions of an edge.
+fn direction_places(d: Directions) -> [f64; 4]
+    ensures { result ≡ direction_places d }
 {
-    let at = 4 * i;
-    let end = at + 4;
-    let places = [
-        d.start.vector.x,
-        d.start.vector.y,
-        d.end.vector.x,
-        d.end.vector.y,
-    ];
-    out[at..end].copy_from_slice(&places);
+    let start = d.start.vector;
+    let end = d.end.vector;
+    [start.x, start.y, end.x, end.y]
 }
 
-// Whether they are stand-ins, written.
-#[tactic(auto, unfolding(crate::specs::Lists::over_from, crate::specs::Lists::over))]
-fn write_marks(d: Directions, i: usize, out: &mut [u8])
-    requires { 2 * i + 2 ≤ length out.old }
-    ensures { out.new ≡ over_from (2 * i) (stand_in_marks d) out.old }
+// Whether they are stand-ins.
+fn stand_in_marks(d: Directions) -> [u8; 2]
+    ensures { result ≡ stand_in_marks d }
 {
-    let at = 2 * i;
-    let end = at + 2;
-    let marks = [u8::from(d.start.zero_length), u8::from(d.end.zero_length)];
-    out[at..end].copy_from_slice(&marks);
+    [u8::from(d.start.zero_length), u8::from(d.end.zero_length)]
 }
 
 // How many stand-ins are marked. Kept apart from the sum of contour lengths: one for bytes and u16 would need a bound
@@ -74,7 +61,8 @@ pub(crate) fn count_marks(marks: &[u8]) -> usize
     marks.iter().map(|mark| *mark as usize).sum()
 }
 
-// The directions of all edges, and whether they are stand-ins.
+// The directions of all edges, and whether they are stand-ins. By place, since an edge has places of its own in two
+// buffers.
 pub(crate) fn unit_directions(edges: StoredEdges, out: &mut [f64], marks: &mut [u8])
     requires { (length out.old ≡ 4 * length edges.kinds.now) × (length marks.old ≡ 2 * length edges.kinds.now) }
     ensures out_after { out.new ≡ encode_directions (directions_of (stored_edges edges.entry)) }
@@ -82,8 +70,8 @@ pub(crate) fn unit_directions(edges: StoredEdges, out: &mut [f64], marks: &mut [
 {
     for i in 0..edges.len() {
         let d = edges.at(i).unit_directions();
-        write_directions(d, i, out);
-        write_marks(d, i, marks);
+        write_from(&direction_places(d), 4 * i, out);
+        write_from(&stand_in_marks(d), 2 * i, marks);
     }
 }
 

@@ -9,7 +9,7 @@ use crate::corners::find_corners;
 use crate::limits::{MAX_DISTANCES, MAX_EDGES};
 use crate::outline::{Counts, OutlineBuffers, ResultBuffers};
 use crate::refusal::Refusal;
-use crate::settings::{Marking, Settings, Strategy};
+use crate::settings::{Division, Marking, Settings, Strategy};
 use crate::shape::color_shape;
 
 // The outline coloured, or its splines numbered, as the settings ask: the checks; the corners and the stand-ins, once;
@@ -45,7 +45,8 @@ pub fn edge_coloring(
     )
 }
 
-// Simple colouring of an outline, with the given seed and corner threshold.
+// Simple colouring of an outline, with the given seed and corner threshold. Kept apart from ink-trap colouring: two
+// names of the source, which C calls.
 pub fn edge_coloring_simple(
     outline: OutlineBuffers,
     threshold: f64,
@@ -57,7 +58,8 @@ pub fn edge_coloring_simple(
         ≡ edge_coloring_simple (outline_in outline.entry) threshold seed (result_in out.old) }
 {
     let marking = Marking::Colors(Strategy::Simple, seed);
-    edge_coloring(Settings::of_source(marking, threshold), outline, &[], out)
+    let settings = Settings::new(Division::Source, marking, threshold);
+    edge_coloring(settings, outline, &[], out)
 }
 
 // Ink-trap colouring of an outline, with the given seed and corner threshold.
@@ -72,5 +74,6 @@ pub fn edge_coloring_ink_trap(
         ≡ edge_coloring_ink_trap (outline_in outline.entry) threshold seed (result_in out.old) }
 {
     let marking = Marking::Colors(Strategy::InkTrap, seed);
-    edge_coloring(Settings::of_source(marking, threshold), outline, &[], out)
+    let settings = Settings::new(Division::Source, marking, threshold);
+    edge_coloring(settings, outline, &[], out)
 }

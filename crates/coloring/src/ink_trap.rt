@@ -48,7 +48,7 @@ fn colors_by_length(contour: Contour, pen: Pen, colors: &mut [u8]) -> Pen
     requires { (3 < corner_count contour.flags.now) × (length colors.old ≡ corner_count contour.flags.now) }
     ensures { ColorsHeld (ink_trap_colors (contour_in contour.entry) pen) colors.new result }
 {
-    // the corners, each with the estimated length since the one before
+    // the corners, each with the estimated length since the one before; they are counted, since an array takes no push
     let mut array = [corner_at(0, 0.0); MAX_EDGES];
     let mut spline_length = 0.0;
     let mut count = 0;
@@ -77,7 +77,7 @@ fn colors_by_length(contour: Contour, pen: Pen, colors: &mut [u8]) -> Pen
     }
     // each major corner switches the colour; the last of them may not take the first one's
     let mut ink = pen;
-    let mut initial_color = EdgeColor::Black; // the source's word for none yet
+    let mut initial_color = EdgeColor::Black; // none yet; no Option, as in the source, which tests for Black
     'majors: for corner in corners.iter_mut() {
         if !corner.minor {
             left -= 1;

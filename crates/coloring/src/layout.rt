@@ -1,11 +1,11 @@
 // The edges that a contour comes to in the result: one of one edge or two with one corner is split in thirds, any other
 // is copied. After the split in `color_teardrop` of coloring/mod.rs.
-ghost use Rattle.std.specs.Prelude.{◌≡◌, ◌+◌, ◌*◌, ◌≤◌, ◌<◌, length};
+ghost use Rattle.std.specs.Prelude.{◌≡◌, ◌*◌, ◌≤◌, ◌<◌, length};
 ghost use mathlib.Core.List.{map, flatten};
 ghost use Rattle.coloring.specs.Limits.{max_edges};
 ghost use Rattle.coloring.specs.Places.{rotate};
 ghost use Rattle.coloring.specs.Layout.{thirds, splits, result_edges};
-ghost use Rattle.coloring.specs.Outline.{StoredFrom};
+ghost use Rattle.coloring.specs.Outline.{EdgesFit, StoredFrom};
 ghost use Rattle.coloring.specs.Contours.{stored_edges};
 
 use crate::contour::StoredEdges;
@@ -35,7 +35,7 @@ pub(crate) fn result_edges(flags: &[bool]) -> usize
 
 // The thirds of an edge, written from place i on.
 fn write_thirds(e: EdgeSegment, i: usize, out: &mut ResultBuffers)
-    requires { (i + 3 ≤ length out.old.kinds.now) × (8 * (i + 3) ≤ length out.old.points.now) }
+    requires { EdgesFit i 3 out.old }
     ensures { StoredFrom i (thirds e) out.old out.new }
 {
     let parts = e.split_in_thirds();
@@ -50,7 +50,7 @@ fn write_thirds(e: EdgeSegment, i: usize, out: &mut ResultBuffers)
 // A contour of one edge or two, split from the corner on, written from place `to` on.
 pub(crate) fn split_edges(edges: StoredEdges, corner: usize, to: usize, out: &mut ResultBuffers)
     requires contour { (length edges.kinds.now ≤ 2) × (corner < length edges.kinds.now) }
-    requires room { (to + 3 * length edges.kinds.now ≤ length out.old.kinds.now) × (8 * (to + 3 * length edges.kinds.now) ≤ length out.old.points.now) }
+    requires room { EdgesFit to (3 * length edges.kinds.now) out.old }
     ensures { StoredFrom to (flatten (map thirds (rotate corner (stored_edges edges.entry)))) out.old out.new }
 {
     let m = edges.len();
@@ -61,7 +61,7 @@ pub(crate) fn split_edges(edges: StoredEdges, corner: usize, to: usize, out: &mu
 
 // The edges of a contour as they are, written from place `to` on. One by one, since unused places become +0.
 pub(crate) fn copy_edges(edges: StoredEdges, to: usize, out: &mut ResultBuffers)
-    requires { (to + length edges.kinds.now ≤ length out.old.kinds.now) × (8 * (to + length edges.kinds.now) ≤ length out.old.points.now) }
+    requires { EdgesFit to (length edges.kinds.now) out.old }
     ensures { StoredFrom to (stored_edges edges.entry) out.old out.new }
 {
     for i in 0..edges.len() {

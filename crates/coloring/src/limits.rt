@@ -7,15 +7,15 @@ pub const MAX_EDGES: usize = 256;
 // Few glyphs have more.
 pub(crate) const FEW_EDGES: usize = 64;
 
-// Places of the directions of so many edges, four an edge, and of few.
-pub(crate) const MAX_DIRECTION_PLACES: usize = 1024;
+// Places of directions, four an edge: of the most edges, and of few.
+pub(crate) const MAX_DIRECTION_PLACES: usize = 4 * MAX_EDGES;
 
-pub(crate) const FEW_DIRECTION_PLACES: usize = 256;
+pub(crate) const FEW_DIRECTION_PLACES: usize = 4 * FEW_EDGES;
 
-// The marks of stand-ins, two an edge, of as many.
-pub(crate) const MAX_STAND_INS: usize = 512;
+// Marks of stand-ins, two an edge: of the most edges, and of few.
+pub(crate) const MAX_STAND_INS: usize = 2 * MAX_EDGES;
 
-pub(crate) const FEW_STAND_INS: usize = 128;
+pub(crate) const FEW_STAND_INS: usize = 2 * FEW_EDGES;
 
 // Edges of a result.
 pub const MAX_RESULT_EDGES: usize = 508;

@@ -1,11 +1,12 @@
-// The buffers of an outline and of a result: contour lengths, the kind of each edge, eight point places an edge, and
-// for a result a byte an edge. An outline's checks, and an edge written.
-ghost use Rattle.std.specs.Prelude.{◌≡◌, true, [], ◌∷◌, ◌+◌, ◌≤◌, ◌<◌, ◌*◌, length};
+// The buffers of an outline and of a result, flat as C hands them in: contour lengths, the kind of each edge, eight
+// point places an edge, and for a result a byte an edge. An outline's checks, and an edge written.
+ghost use Rattle.std.specs.Prelude.{◌≡◌, true, [], ◌∷◌, ◌+◌, ◌≤◌, ◌*◌, length, take};
 ghost use Rattle.std.specs.List.{list_all};
 ghost use Rattle.coloring.specs.Answers.{checked_answer, first_refusal};
 ghost use Rattle.coloring.specs.Outline.{known_kind, between, in_range, used_places, coordinates_fit, check_outline, check};
-ghost use Rattle.coloring.specs.Outline.{outline_in, result_in, has_room, StoredFrom};
+ghost use Rattle.coloring.specs.Outline.{outline_in, result_in, has_room, EdgesFit, StoredFrom};
 ghost use Rattle.coloring.specs.Limits.{max_contours, max_result_edges};
+ghost use Rattle.coloring.specs.Lists.{over_from};
 ghost use Rattle.coloring.specs.Places.{total};
 
 use crate::limits::{MAX_CONTOURS, MAX_COORDINATE, MAX_EDGES};
@@ -80,12 +81,18 @@ fn places_fit(points: &[f64]) -> bool
     points.iter().all(|x| in_range(*x))
 }
 
-// The places that an edge of a known kind uses. A byte here too, since no edge is decoded for the checks.
+// How many places an edge of a known kind uses. A byte here too, since no edge is decoded for the checks.
 fn used_places(kind: u8) -> usize
-    requires { kind ≤ 3 }
     ensures { result ≡ used_places kind }
 {
     2 * (kind as usize + 1)
+}
+
+// Those places. The kind is a byte of C's buffer, which nothing decodes before the checks.
+fn used(kind: u8, places: &[f64]) -> &[f64]
+    ensures { result.now ≡ take (used_places kind) places.now }
+{
+    &places[..used_places(kind).min(places.len())]
 }
 
 // Whether the used places of each edge are coordinates within the range.
@@ -93,14 +100,21 @@ fn coordinates_fit(kinds: &[u8], points: &[f64]) -> bool
     requires { (length points.now ≡ 8 * length kinds.now) × (list_all known_kind kinds.now ≡ true) }
     ensures { result ≡ coordinates_fit kinds.now points.now }
 {
-    for (i, kind) in kinds.iter().enumerate() {
-        let at = 8 * i;
-        let end = at + used_places(*kind);
-        if !places_fit(&points[at..end]) {
-            return false;
-        }
-    }
-    true
+    let (chunks, _) = points.as_chunks::<8>();
+    kinds
+        .iter()
+        .zip(chunks)
+        .all(|(kind, places)| places_fit(used(*kind, places)))
+}
+
+// Values, written from place `at` on into a longer buffer.
+#[tactic(auto, unfolding(crate::specs::Lists::over_from, crate::specs::Lists::over))]
+pub(crate) fn write_from<T: Copy>(values: &[T], at: usize, out: &mut [T])
+    requires { at + length values.now ≤ length out.old }
+    ensures { out.new ≡ over_from at values.now out.old }
+{
+    let end = at + values.len();
+    out[at..end].copy_from_slice(values);
 }
 
 impl OutlineBuffers<'_> {
@@ -160,14 +174,11 @@ impl ResultBuffers<'_> {
 
     // An edge, written at place i: its kind, and its places, unused ones +0.
     pub(crate) fn write_edge(&mut self, i: usize, e: EdgeSegment)
-        requires { (i < length self.old.kinds.now) × (8 * (i + 1) ≤ length self.old.points.now) }
+        requires { EdgesFit i 1 self.old }
         ensures { StoredFrom i (e ∷ []) self.old self.new }
     {
         let stored = e.to_stored();
         self.kinds[i] = stored.kind;
-        let at = 8 * i;
-        let end = at + 8;
-        let places = stored.points;
-        self.points[at..end].copy_from_slice(&places);
+        write_from(&stored.points, 8 * i, self.points);
     }
 }

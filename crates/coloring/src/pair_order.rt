@@ -48,7 +48,7 @@ fn fill_pairs(edges: &mut [GraphEdge], distances: &[f64], n: usize)
     }
 }
 
-// The pairs of n splines, nearest first.
+// The pairs of n splines, nearest first. Here too n counts splines, and is not the length of the slices.
 pub(crate) fn order_pairs(edges: &mut [GraphEdge], distances: &[f64], n: usize)
     requires { ValidDistances n distances.now × (length edges.old ≡ length distances.now) }
     ensures { map spline_pair edges.new ≡ pair_order n distances.now }

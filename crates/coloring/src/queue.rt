@@ -1,4 +1,5 @@
 // The queue of a walk: splines that wait for a colour, first come first served, in a ring of 64 numbers.
+// There is no heap, so it is no VecDeque.
 ghost use Rattle.std.specs.Prelude.{◌≡◌, ◌<◌, length};
 
 use crate::limits::MAX_SPLINES;

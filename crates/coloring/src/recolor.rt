@@ -10,6 +10,7 @@ use crate::edge_matrix::EdgeMatrix;
 use crate::queue::Queue;
 use crate::spline_table::Offer;
 
+// A fourth byte beside the colours 0 to 2 of the caller's table, which are bytes.
 const UNCOLORED: u8 = 3;
 
 const MAX_RECOLOR_STEPS: u8 = 16;
@@ -17,7 +18,7 @@ const MAX_RECOLOR_STEPS: u8 = 16;
 const FIRST_POSSIBLE_COLOR: [u8; 8] = [3, 0, 1, 0, 2, 2, 1, 0];
 
 // Whether some spline that the row joins has the colour c. A loop and not `any`: with no early end it runs on
-// many bytes at a time.
+// many bytes at a time. One place serves both slices, which are as long as each other.
 fn uses(coloring: &[u8], entries: &[u8], c: u8) -> bool
     requires { length coloring.now ≡ length entries.now }
     ensures { result ≡ defined.uses c coloring.now entries.now }
@@ -62,7 +63,8 @@ struct Walker<'a> {
     queue: Queue,
 }
 
-// The three `uncolor_` methods ask the same of a row and a colour; a struct of the two is no plainer.
+// `Uncoloring` asks that the queue has room, that the row has an entry for each spline, and that c is a colour. It is
+// a clause and not a type: it ties a walker, which changes, to two values that do not.
 impl Walker<'_> {
     // Spline i loses its colour and waits at the end of the queue, where the row joins it and its
     // colour is c.
@@ -77,7 +79,7 @@ impl Walker<'_> {
         }
     }
 
-    // The same for the splines from..to, in order.
+    // The same for the splines from..to, in order: a row has two runs of them around v.
     fn uncolor_from(&mut self, entries: &[u8], c: u8, from: usize, to: usize)
         requires { Uncoloring (recoloring self.old) entries.now c × (to ≤ length self.old.coloring.now) }
         ensures after { recoloring self.new ≡ uncolor_from entries.now c from (to - from) (recoloring self.old) }
@@ -108,7 +110,7 @@ impl Walker<'_> {
         ensures same { self.new.coloring.ghost_name ≡ self.old.coloring.ghost_name }
     {
         let mut step: u8 = 0;
-        // the source's loops; not `while let`, since each end gives an Offer
+        // The source's loops: the label ends the walk, and the inner one is left by `break`.
         'walk: loop {
             let Some(spline) = self.queue.pop_front() else {
                 break 'walk Offer::Kept(step);
@@ -153,21 +155,19 @@ fn other_colors(c: u8) -> u8
 pub(crate) fn recolor(
     buffer: &mut [u8],
     coloring: &[u8],
-    edge_matrix: &[u8],
+    edge_matrix: EdgeMatrix,
     a: usize,
     b: usize,
 ) -> Offer
-    requires { Offerable coloring.now edge_matrix.now a b × (length buffer.old ≡ length coloring.now) }
-    ensures { ended result buffer.new ≡ defined.recolor coloring.now edge_matrix.now a b }
+    requires offerable { Offerable coloring.now edge_matrix.entries.now a b }
+    requires size { edge_matrix.n ≡ length coloring.now }
+    requires room { length buffer.old ≡ length coloring.now }
+    ensures { ended result buffer.new ≡ defined.recolor coloring.now edge_matrix.entry.entries.now a b }
 {
     buffer.copy_from_slice(coloring);
     let c = coloring[a];
     let d = first_possible_color(other_colors(c));
     buffer[b] = d;
-    let edge_matrix = EdgeMatrix {
-        entries: edge_matrix,
-        n: coloring.len(),
-    };
     let entries = edge_matrix.row(b);
     let mut walker = Walker {
         coloring: buffer,

@@ -5,28 +5,28 @@ ghost use Rattle.coloring.specs.Refusal.{refusal_number};
 
 #[derive(Clone, Copy, PartialEq, Eq, Debug)]
 pub enum Refusal {
-    // 1, "torn": the file ends inside a record or before its end mark
-    Truncated,
-    // 2, "unmarked"
-    UnknownMark,
-    // 3, "stray": a known mark where it may not stand
-    MisplacedMark,
-    // 4, "overfull": contours, edges, splines or distances above the maximum
-    TooMany,
-    // 5, "no such kind": strategy or edge kind
-    UnknownKind,
-    // 6, "bad threshold"
-    BadThreshold,
-    // 7, "off the sheet": a coordinate beyond its range or not finite
-    BadCoordinate,
-    // 8, "miscounted": lengths that disagree
-    LengthMismatch,
-    // 9, "bad distance"
-    BadDistance,
-    // 10, "bad table"
-    BadTable,
-    // 11, "short tray": the result would not fit
-    ResultTooShort,
+    // "torn": the file ends inside a record or before its end mark
+    Truncated = 1,
+    // "unmarked"
+    UnknownMark = 2,
+    // "stray": a known mark where it may not stand
+    MisplacedMark = 3,
+    // "overfull": contours, edges, splines or distances above the maximum
+    TooMany = 4,
+    // "no such kind": strategy or edge kind
+    UnknownKind = 5,
+    // "bad threshold"
+    BadThreshold = 6,
+    // "off the sheet": a coordinate beyond its range or not finite
+    BadCoordinate = 7,
+    // "miscounted": lengths that disagree
+    LengthMismatch = 8,
+    // "bad distance"
+    BadDistance = 9,
+    // "bad table"
+    BadTable = 10,
+    // "short tray": the result would not fit
+    ResultTooShort = 11,
 }
 
 // The number of the refusal (SCOPE, Refusals).
@@ -34,18 +34,6 @@ impl From<Refusal> for u8 {
     ghost from_gives = { λ refusal number. number ≡ refusal_number refusal };
 
     fn from(refusal: Refusal) -> u8 {
-        match refusal {
-            Refusal::Truncated => 1,
-            Refusal::UnknownMark => 2,
-            Refusal::MisplacedMark => 3,
-            Refusal::TooMany => 4,
-            Refusal::UnknownKind => 5,
-            Refusal::BadThreshold => 6,
-            Refusal::BadCoordinate => 7,
-            Refusal::LengthMismatch => 8,
-            Refusal::BadDistance => 9,
-            Refusal::BadTable => 10,
-            Refusal::ResultTooShort => 11,
-        }
+        refusal as u8
     }
 }

@@ -1,6 +1,5 @@
-// How the edges of an outline are marked: with what, the threshold of a corner, and how a teardrop is divided.
+// The settings of a colouring.
 ghost use Rattle.std.specs.Prelude.{◌≡◌};
-ghost use Rattle.coloring.specs.declared.settings.Division.TheVariants.{Source, Balanced};
 ghost use Rattle.coloring.specs.EdgeColoring.{settings_of};
 
 // A colouring that goes round the contours with a pen.
@@ -37,25 +36,13 @@ pub struct Settings {
 }
 
 impl Settings {
-    // With the division that the source has.
-    pub fn of_source(marking: Marking, threshold: f64) -> Settings
-        ensures { result ≡ settings_of Source marking threshold }
+    pub fn new(division: Division, marking: Marking, threshold: f64) -> Settings
+        ensures { result ≡ settings_of division marking threshold }
     {
         Settings {
             marking,
             threshold,
-            division: Division::Source,
-        }
-    }
-
-    // With the balanced division in its place.
-    pub fn balanced(marking: Marking, threshold: f64) -> Settings
-        ensures { result ≡ settings_of Balanced marking threshold }
-    {
-        Settings {
-            marking,
-            threshold,
-            division: Division::Balanced,
+            division,
         }
     }
 }

@@ -20,7 +20,8 @@ use crate::splines::{paint, spline_count};
 use crate::teardrop::paint_runs;
 use crate::values::{middle_value, spline_values};
 
-// How many contours and edges the result has, and how many splines; and the stand-ins of the outline.
+// How many contours and edges the result has, and how many splines; and the stand-ins of the outline. `at` is summed by
+// hand, here and below: each contour begins where the one before ends, and no iterator of slices has such steps.
 fn count_shape(contours: Contours, stand_ins: usize) -> Counts
     ensures { Counted contours.entry.lengths.now contours.entry.all.flags.now result × (result.stand_ins ≡ stand_ins) }
 {

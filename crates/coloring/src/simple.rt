@@ -5,7 +5,7 @@ ghost use Rattle.coloring.specs.Simple.{simple_colors};
 
 use crate::switching::{Pen, banned_before, switch_color, switch_color_banned};
 
-// Two splines or more.
+// Two splines or more. The first colour is drawn apart; each other one asks how many are left.
 pub(crate) fn simple_colors(mut pen: Pen, colors: &mut [u8]) -> Pen
     requires { 0 < length colors.old }
     ensures { ColorsHeld (simple_colors (length colors.old - 1) pen) colors.new result }

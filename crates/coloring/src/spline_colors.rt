@@ -1,6 +1,6 @@
 // By-distance colouring without outlines, after coloring/by_distance.rs from "Sorted list of graph
 // edges" to the end of the offers: from the distances between splines and a seed to their colours.
-ghost use Rattle.std.specs.Prelude.{◌≡◌, map, ◌*◌, ◌-◌, ◌/◌, ◌≤◌, length, position, not};
+ghost use Rattle.std.specs.Prelude.{◌≡◌, map, ◌*◌, ◌-◌, ◌/◌, length, position, not};
 ghost use Rattle.coloring.specs.SplineTable.{table_in, SameTable};
 ghost use Rattle.coloring.specs.Sequence.{run};
 ghost use Rattle.coloring.specs.PairOrder.{ValidDistances};
@@ -14,7 +14,7 @@ use crate::limits::{MAX_DISTANCES, MAX_ENTRIES, MAX_SPLINES};
 use crate::pair_order::{GraphEdge, distances_valid, order_pairs};
 use crate::refusal::Refusal;
 use crate::second_degree::color_second_degree_graph;
-use crate::spline_table::{SplineTable, enter_pair};
+use crate::spline_table::SplineTable;
 
 // Whether a pair is at distance zero; -0 is zero.
 fn is_zero(edge: &GraphEdge) -> bool
@@ -30,13 +30,16 @@ fn first_not_zero(order: &[GraphEdge]) -> Option<usize>
     order.iter().position(|edge| !is_zero(edge))
 }
 
-// Enters each pair. The slice and its side stay apart as in `enter_pair`.
-fn enter_pairs(edge_matrix: &mut [u8], edges: &[GraphEdge], n: usize)
-    requires { (length edge_matrix.old ≡ n * n) × TwoEach n edges.now }
-    ensures { edge_matrix.new ≡ enter_pairs n (map pair_of edges.now) edge_matrix.old }
+// Enters each pair.
+fn enter_pairs(table: &mut SplineTable, edges: &[GraphEdge])
+    requires size { length table.old.edge_matrix.now ≡ length table.old.coloring.now * length table.old.coloring.now }
+    requires pairs { TwoEach (length table.old.coloring.now) edges.now }
+    ensures entered { table.new.edge_matrix.now ≡ enter_pairs (length table.old.coloring.now) (map pair_of edges.now) table.old.edge_matrix.now }
+    ensures colors { table.new.coloring.now ≡ table.old.coloring.now }
+    ensures same { SameTable table.old table.new }
 {
     for edge in edges {
-        enter_pair(edge_matrix, n, edge.a as usize, edge.b as usize, 1);
+        table.enter_pair(edge.a as usize, edge.b as usize, 1);
     }
 }
 
@@ -52,24 +55,22 @@ fn offer_pairs(table: &mut SplineTable, edges: &[GraphEdge])
 }
 
 // The colours of the splines, with the pairs in order and none entered yet.
-fn color_in_order(coloring: &mut [u8], edge_matrix: &mut [u8], order: &[GraphEdge], seed: u64)
-    requires { Ordered (length coloring.old) edge_matrix.old order.now }
-    ensures { coloring.new ≡ color_in_order (length coloring.old) (map spline_pair order.now) seed }
+fn color_in_order(table: &mut SplineTable, order: &[GraphEdge], seed: u64)
+    requires { Ordered (length table.old.coloring.now) table.old.edge_matrix.now order.now }
+    ensures colored { table.new.coloring.now ≡ color_in_order (length table.old.coloring.now) (map spline_pair order.now) seed }
+    ensures same { SameTable table.old table.new }
 {
-    let n = coloring.len();
     let zero_count = first_not_zero(order).unwrap_or(order.len());
     let (zeros, others) = order.split_at(zero_count);
-    enter_pairs(edge_matrix, zeros, n);
+    enter_pairs(table, zeros);
+    let coloring = &mut *table.coloring;
+    let edge_matrix = &mut *table.edge_matrix;
     let entered = EdgeMatrix {
         entries: edge_matrix,
-        n,
+        n: coloring.len(),
     };
     color_second_degree_graph(coloring, entered, seed);
-    let mut table = SplineTable {
-        coloring,
-        edge_matrix,
-    };
-    offer_pairs(&mut table, others);
+    offer_pairs(table, others);
 }
 
 // The colours of splines whose distances passed the checks.
@@ -83,7 +84,11 @@ fn color_valid(distances: &[f64], seed: u64, coloring: &mut [u8])
     let mut edges = [GraphEdge::default(); MAX_DISTANCES];
     let mut edge_matrix = [0u8; MAX_ENTRIES];
     order_pairs(&mut edges[..m], distances, n);
-    color_in_order(coloring, &mut edge_matrix[..size], &edges[..m], seed);
+    let mut table = SplineTable {
+        coloring,
+        edge_matrix: &mut edge_matrix[..size],
+    };
+    color_in_order(&mut table, &edges[..m], seed);
 }
 
 // How many pairs so many splines have.

@@ -2,7 +2,6 @@
 ghost use Rattle.std.specs.Prelude.{◌≡◌, ◌+◌, ◌*◌, ◌<◌, length};
 ghost use Rattle.coloring.specs.Answers.{checked_answer, first_refusal};
 ghost use Rattle.coloring.specs.Recolor.{Offerable};
-ghost use Rattle.coloring.specs.SplineTable as defined;
 ghost use Rattle.coloring.specs.SplineTable.{rule_answer, offer_answer, table_of, table_in, offered, SameTable, walked_on, enter_pair, try_add_edge};
 ghost use Rattle.coloring.specs.SplineTable.{at_most, sound, check_offer, offer};
 
@@ -26,15 +25,6 @@ pub enum Offer {
     Declined(u8),
 }
 
-// Sets both entries of a pair to e. EdgeMatrix is for reading; a second struct for these two writes is no plainer.
-pub(crate) fn enter_pair(edge_matrix: &mut [u8], n: usize, a: usize, b: usize, e: u8)
-    requires { (a * n + b < length edge_matrix.old) × (b * n + a < length edge_matrix.old) }
-    ensures { edge_matrix.new ≡ enter_pair n edge_matrix.old a b e }
-{
-    edge_matrix[a * n + b] = e;
-    edge_matrix[b * n + a] = e;
-}
-
 // Whether no number is above `most`. A loop and not `all`: with no early end it runs on many bytes at a time.
 fn at_most(values: &[u8], most: u8) -> bool
     ensures { result ≡ at_most most values.now }
@@ -46,7 +36,8 @@ fn at_most(values: &[u8], most: u8) -> bool
     good
 }
 
-// Whether a table is sound: its numbers one after the other, and each pair once, both ways round.
+// Whether a table is sound: its numbers one after the other, and each pair once, both ways round. The colours are
+// another buffer, so a clause ties the side of the entries to them.
 fn is_sound(coloring: &[u8], edge_matrix: EdgeMatrix) -> bool
     requires { edge_matrix.n ≡ length coloring.now }
     ensures { result ≡ sound (table_of coloring.now edge_matrix.entry.entries.now) }
@@ -57,6 +48,19 @@ fn is_sound(coloring: &[u8], edge_matrix: EdgeMatrix) -> bool
 }
 
 impl SplineTable<'_> {
+    // Sets both entries of a pair to e.
+    pub(crate) fn enter_pair(&mut self, a: usize, b: usize, e: u8)
+        requires { (a * length self.old.coloring.now + b < length self.old.edge_matrix.now)
+            × (b * length self.old.coloring.now + a < length self.old.edge_matrix.now) }
+        ensures entered { self.new.edge_matrix.now ≡ enter_pair (length self.old.coloring.now) self.old.edge_matrix.now a b e }
+        ensures colors { self.new.coloring.now ≡ self.old.coloring.now }
+        ensures same { SameTable self.old self.new }
+    {
+        let n = self.coloring.len();
+        self.edge_matrix[a * n + b] = e;
+        self.edge_matrix[b * n + a] = e;
+    }
+
     // The first refusal of an offer of the splines a and b.
     fn check_offer(&self, a: usize, b: usize) -> Result<(), Refusal>
         ensures { checked_answer result ≡ first_refusal (check_offer (table_in self.now) a b) }
@@ -92,10 +96,14 @@ impl SplineTable<'_> {
         let edge_matrix = &mut *self.edge_matrix;
         let n = coloring.len();
         let mut buffer = [0u8; MAX_SPLINES];
-        let offer = recolor(&mut buffer[..n], coloring, edge_matrix, a, b);
+        let entered = EdgeMatrix {
+            entries: edge_matrix,
+            n,
+        };
+        let offer = recolor(&mut buffer[..n], coloring, entered, a, b);
         match offer {
             Offer::Kept(_) => coloring.copy_from_slice(&buffer[..n]),
-            Offer::Declined(_) => enter_pair(edge_matrix, n, a, b, 0),
+            Offer::Declined(_) => self.enter_pair(a, b, 0),
         }
         offer
     }
@@ -106,16 +114,15 @@ impl SplineTable<'_> {
         ensures answer { offered (rule_answer result) self.new ≡ try_add_edge (table_in self.old) a b }
         ensures same { SameTable self.old self.new }
     {
+        self.enter_pair(a, b, 1);
         let coloring = &mut *self.coloring;
         let edge_matrix = &mut *self.edge_matrix;
-        let n = coloring.len();
-        enter_pair(edge_matrix, n, a, b, 1);
         if coloring[a] != coloring[b] {
             return Offer::Kept(0); // the colours differ
         }
         let entered = EdgeMatrix {
             entries: edge_matrix,
-            n,
+            n: coloring.len(),
         };
         let possible = vertex_possible_colors(coloring, entered.row(b));
         if possible != 0 {

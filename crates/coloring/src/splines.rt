@@ -1,11 +1,7 @@
 // A contour's corners cut it into splines. What a colouring gives to the splines, a byte each, is spread over the edges
 // in one way.
-ghost use Rattle.std.specs.Prelude.{◌≡◌, ◌+◌, ◌-◌, ◌≤◌, ◌<◌, length, get_or, take, drop};
-ghost use mathlib.Core.List.{◌++◌, map, flatten};
-ghost use Rattle.coloring.specs.Limits.{max_result_edges};
-ghost use Rattle.coloring.specs.Places.{total};
-ghost use Rattle.coloring.specs.Splines.{spline_count, spread, paint, paint_contours, Paintable};
-ghost use Rattle.coloring.specs.Outline.{cut};
+ghost use Rattle.std.specs.Prelude.{◌≡◌, ◌-◌, ◌<◌, length, get_or};
+ghost use Rattle.coloring.specs.Splines.{spline_count, spread, paint, Paintable};
 
 use crate::corners::{count_corners, first_corner};
 use crate::settings::Division;
@@ -26,18 +22,18 @@ pub(crate) fn spline_count(flags: &[bool]) -> usize
     corners
 }
 
-// Each edge takes its spline's value. What stands before the first corner belongs to the last spline.
+// Each edge takes its spline's value. What stands before the first corner belongs to the last spline. One place serves
+// the flags and what is written, which are as long as each other.
 fn spread(flags: &[bool], values: &[u8], out: &mut [u8])
     requires { (0 < length values.now) × (length out.old ≡ length flags.now) }
     ensures { out.new ≡
         spread (get_or values.now (length values.now - 1) 0) values.now flags.now }
 {
     let mut value = values[values.len() - 1];
-    let mut next = 0;
+    let mut rest = values.iter();
     for (i, flag) in flags.iter().enumerate() {
-        if *flag && next < values.len() {
-            value = values[next];
-            next += 1;
+        if *flag {
+            value = rest.next().copied().unwrap_or(value);
         }
         out[i] = value;
     }

@@ -24,7 +24,7 @@ use crate::splines::spline_count;
 use crate::switching::{Pen, init_color, switch_each};
 use geometry::edge_color::EdgeColor;
 
-// In the place of a spline's number: the edge is White.
+// In the place of a spline's number: the edge is White. No Option: C gets this byte.
 const NO_SPLINE: u8 = 255;
 
 // ---- colours
@@ -44,7 +44,7 @@ fn spline_colors(strategy: Strategy, contour: Contour, pen: Pen, colors: &mut [u
     }
 }
 
-// All contours, one after the other, each with the pen that the one before left.
+// All contours, one after the other, each with the pen that the one before left. `at` as in count_shape of shape.rt.
 fn shape_colors(strategy: Strategy, contours: Contours, seed: u64, colors: &mut [u8])
     requires { length colors.old ≡ total (map spline_count (cut contours.lengths.now contours.all.flags.now)) }
     ensures { colors.new ≡ map bits_of (shape_colors strategy (init_color seed) (contours_in contours.entry)) }

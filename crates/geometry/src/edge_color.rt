@@ -38,6 +38,7 @@ impl EdgeColor {
         }
     }
 
+    // The source's question for each channel.
     pub fn has_red(self) -> bool
         ensures { result ≡ has_red self }
     {
@@ -56,7 +57,7 @@ impl EdgeColor {
         self.bits() / 4 % 2 == 1
     }
 
-    // Channel i (0 red, 1 green, 2 blue); there is no other.
+    // Channel i, by the source's number (0 red, 1 green, 2 blue); there is no other.
     pub fn has_channel(self, i: usize) -> bool
         ensures { result ≡ has_channel self i }
     {

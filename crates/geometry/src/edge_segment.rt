@@ -319,7 +319,7 @@ impl EdgeSegment {
     }
 
     // The edge of a kind number and eight places, those beyond its control points ignored; none where the kind is none
-    // of 1, 2, 3. The kind is kept.
+    // of 1, 2, 3. The kind is kept; it is a number, as in a buffer of C.
     #[tactic(auto, unfolding(crate::specs::EdgeSegment::from_stored))]
     pub fn from_stored(kind: u8, points: [f64; 8]) -> Option<EdgeSegment>
         ensures { decoded_answer result ≡ from_stored kind points }

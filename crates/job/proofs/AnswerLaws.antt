@@ -54,8 +54,10 @@ pub record Front (file : List ℕ) (contours edges stand_ins : ℕ) (new : Resul
   pub lengths-within : contours ≤ length new.lengths
   pub kinds-within : edges ≤ length new.kinds
   pub colors-within : edges ≤ length new.colors
-  pub listable : (length (take contours new.lengths) < 1000) × (length (take edges new.kinds) < 1000) × (stand_ins < 1000)
-      × (total (take contours new.lengths) ≡ length (take edges new.kinds)) × (length (take edges new.colors) ≡ length (take edges new.kinds))
+  pub listable : (length (take contours new.lengths) < 1000) × (stand_ins < 1000)
+      × (total (take contours new.lengths) ≡ length (take edges new.kinds))
+  pub few : length (take edges new.kinds) < 1000
+  pub colored : length (take edges new.colors) ≡ length (take edges new.kinds)
   pub text : file_text file
       ≡ listing (cut (take contours new.lengths) (take edges new.kinds)) (cut (take contours new.lengths) (take edges new.colors)) stand_ins
 
@@ -88,13 +90,13 @@ front_of file contours edges stand_ins job old new s c e st l k m text =
       lengths-within = within-over shape.lengths old.lengths l lengths;
       kinds-within = within-over shape.kinds old.kinds k kinds;
       colors-within = within-over shape.colors old.colors m colors;
-      listable = rw (l-is, k-is, m-is) (
+      listable = rw (l-is, k-is) (
         omega (arith, s.sized.lengths_long, s.contours_fit),
-        omega (arith, s.sized.kinds_long, s.edges_fit),
         omega (arith, st, s.stand_ins_fit),
         sum,
-        s.sized.colors_long ∙ sym s.sized.kinds_long,
       );
+      few = rw k-is (omega (arith, s.sized.kinds_long, s.edges_fit));
+      colored = rw (k-is, m-is) (s.sized.colors_long ∙ sym s.sized.kinds_long);
       text = rw (l-is, k-is, m-is, st) (text ∙ stored_listing (colored_edges job) (edge_colors job) (corners_in job).stand_ins s.marked);
     }
 

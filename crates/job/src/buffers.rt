@@ -22,7 +22,7 @@ pub struct JobBuffers<'a> {
 }
 
 impl JobBuffers<'_> {
-    // Whether a job has room.
+    // Whether a job has room. Kept beside `have_room` of coloring, which is about the buffers of a result.
     #[tactic(auto, unfolding(crate::specs::Buffers::room_for))]
     pub(crate) fn has_room(&self, n: Numbers) -> bool
         requires { n.edges ≤ max_edges }
@@ -72,7 +72,8 @@ impl JobBuffers<'_> {
     }
 }
 
-// Floats from bytes.
+// Floats from bytes. The words go by index: over `zip` the invariant would be about the references that the iterator
+// hands out, and not about what is written.
 fn write_floats(bytes: &[u8], to: &mut [f64])
     requires { 8 * length to.old ≤ length bytes.now }
     ensures { to.new ≡ floats (words (length to.old) bytes.now) }

@@ -16,7 +16,7 @@ use coloring::edge_coloring::edge_coloring;
 use coloring::limits::{MAX_CONTOURS, MAX_DISTANCES, MAX_EDGES, MAX_RESULT_EDGES, MAX_SPLINES};
 use coloring::outline::{Counts, ResultBuffers};
 use coloring::refusal::Refusal;
-use coloring::settings::{Marking, Settings, Strategy as Pen};
+use coloring::settings::{Marking, Settings, Strategy as PenStrategy};
 use coloring::spline_colors::pair_count;
 use math::bits::float;
 
@@ -26,8 +26,8 @@ impl Strategy {
         ensures { result ≡ marking_by self seed }
     {
         match self {
-            Strategy::Simple => Marking::Colors(Pen::Simple, seed),
-            Strategy::InkTrap => Marking::Colors(Pen::InkTrap, seed),
+            Strategy::Simple => Marking::Colors(PenStrategy::Simple, seed),
+            Strategy::InkTrap => Marking::Colors(PenStrategy::InkTrap, seed),
             Strategy::ByDistance => Marking::Distances(seed),
         }
     }
@@ -112,7 +112,8 @@ fn check_in(file: &[u8], job: &mut JobBuffers, out: &mut ResultBuffers) -> Resul
     paired(counts, n.distances)
 }
 
-// The answer of reading and colouring a file where every result has room: how many edges, or the first refusal.
+// The answer of reading and colouring a file where every result has room: how many edges, or the first refusal. The
+// places of a job are declared here and in `color`: there is no heap, and no function can hand out its own arrays.
 pub fn check(file: &[u8]) -> Result<Counts, Refusal>
     ensures { colored_answer result ≡ check_file file.now }
 {

@@ -21,7 +21,7 @@ fn digit(n: usize) -> u8
     b'0' + n as u8
 }
 
-// L, Q or C.
+// L, Q or C. The kind is a byte as a result's buffer has it, and a byte that is no kind has a letter too.
 fn letter(kind: u8) -> u8
     ensures { result ≡ letter kind }
 {
@@ -31,6 +31,16 @@ fn letter(kind: u8) -> u8
         2 => b'Q',
         _ => b'C',
     }
+}
+
+// The kinds of a contour's edges or of a shape's, and a colour for each.
+#[derive(Clone, Copy)]
+struct Edges<'a> {
+    kinds: &'a [u8],
+    colors: &'a [u8],
+    ghost colored: { length colors.now ≡ length kinds.now },
+    // numbers of up to three digits
+    ghost few: { length kinds.now < 1000 },
 }
 
 // A text that is written into a buffer, and the place after it. It has no heap, so the bytes go straight to the buffer;
@@ -60,7 +70,7 @@ impl<'a> Writer<'a> {
         self.at = end;
     }
 
-    // A number of up to three digits.
+    // A number of up to three digits. `n < 1000` stays a clause here and below: each time it is about another number.
     #[tactic(auto, using(crate::proofs::listing::ListingLaws::decimals))]
     fn put_decimal(&mut self, n: usize)
         requires { (n < 1000) × HasRoom self.old (decimal n) }
@@ -82,6 +92,7 @@ impl<'a> Writer<'a> {
         self.put(&[byte]);
     }
 
+    // The kind and the colour are bytes as a result's buffers have them.
     fn put_line(&mut self, contour: usize, place: usize, kind: u8, color: u8)
         requires { (contour < 1000) × (place < 1000) × HasRoom self.old (edge_line contour place kind color) }
         ensures { Writes self.old (edge_line contour place kind color) self.new }
@@ -92,28 +103,31 @@ impl<'a> Writer<'a> {
         self.put_field(usize::from(color), b'\n');
     }
 
-    // The lines of a contour.
-    fn put_contour(&mut self, contour: usize, kinds: &[u8], colors: &[u8])
-        requires sizes { (contour < 1000) × (length kinds.now < 1000) × (length colors.now ≡ length kinds.now) }
-        requires room { HasRoom self.old (contour_lines contour 0 kinds.now colors.now) }
-        ensures { Writes self.old (contour_lines contour 0 kinds.now colors.now) self.new }
+    // The lines of a contour. Each has its place in it, so the colours go by place.
+    fn put_contour(&mut self, contour: usize, edges: Edges)
+        requires { (contour < 1000) × HasRoom self.old (contour_lines contour 0 edges.kinds.now edges.colors.now) }
+        ensures { Writes self.old (contour_lines contour 0 edges.entry.kinds.now edges.entry.colors.now) self.new }
     {
-        for (place, kind) in kinds.iter().enumerate() {
-            self.put_line(contour, place, *kind, colors[place]);
+        for (place, kind) in edges.kinds.iter().enumerate() {
+            self.put_line(contour, place, *kind, edges.colors[place]);
         }
     }
 
-    // The lines of all contours, whose edges stand one after another.
-    fn put_shape(&mut self, lengths: &[u16], kinds: &[u8], colors: &[u8])
-        requires sizes { (length lengths.now < 1000) × (length kinds.now < 1000)
-            × (total lengths.now ≡ length kinds.now) × (length colors.now ≡ length kinds.now) }
-        requires room { HasRoom self.old (shape_lines 0 (cut lengths.now kinds.now) (cut lengths.now colors.now)) }
-        ensures { Writes self.old (shape_lines 0 (cut lengths.now kinds.now) (cut lengths.now colors.now)) self.new }
+    // The lines of all contours, whose edges stand one after another: a contour begins where the one before ends, and
+    // no iterator of slices has such steps.
+    fn put_shape(&mut self, lengths: &[u16], edges: Edges)
+        requires sizes { (length lengths.now < 1000) × (total lengths.now ≡ length edges.kinds.now) }
+        requires room { HasRoom self.old (shape_lines 0 (cut lengths.now edges.kinds.now) (cut lengths.now edges.colors.now)) }
+        ensures { Writes self.old (shape_lines 0 (cut lengths.now edges.entry.kinds.now) (cut lengths.now edges.entry.colors.now)) self.new }
     {
         let mut from = 0;
         for (contour, length) in lengths.iter().enumerate() {
             let end = from + usize::from(*length);
-            self.put_contour(contour, &kinds[from..end], &colors[from..end]);
+            let part = Edges {
+                kinds: &edges.kinds[from..end],
+                colors: &edges.colors[from..end],
+            };
+            self.put_contour(contour, part);
             from = end;
         }
     }
@@ -128,14 +142,13 @@ impl<'a> Writer<'a> {
     }
 
     // The text of a coloured shape and of the stand-ins of its outline.
-    fn put_listing(&mut self, lengths: &[u16], kinds: &[u8], colors: &[u8], stand_ins: usize)
-        requires sizes { (length lengths.now < 1000) × (length kinds.now < 1000) × (stand_ins < 1000)
-            × (total lengths.now ≡ length kinds.now) × (length colors.now ≡ length kinds.now) }
-        requires room { HasRoom self.old (listing (cut lengths.now kinds.now) (cut lengths.now colors.now) stand_ins) }
-        ensures { Writes self.old (listing (cut lengths.now kinds.now) (cut lengths.now colors.now) stand_ins) self.new }
+    fn put_listing(&mut self, lengths: &[u16], edges: Edges, stand_ins: usize)
+        requires sizes { (length lengths.now < 1000) × (stand_ins < 1000) × (total lengths.now ≡ length edges.kinds.now) }
+        requires room { HasRoom self.old (listing (cut lengths.now edges.kinds.now) (cut lengths.now edges.colors.now) stand_ins) }
+        ensures { Writes self.old (listing (cut lengths.now edges.entry.kinds.now) (cut lengths.now edges.entry.colors.now) stand_ins) self.new }
     {
-        self.put_shape(lengths, kinds, colors);
-        self.put_word_line(b"edges ", kinds.len());
+        self.put_shape(lengths, edges);
+        self.put_word_line(b"edges ", edges.kinds.len());
         self.put_word_line(b"standins ", stand_ins);
     }
 
@@ -161,18 +174,20 @@ impl<'a> Writer<'a> {
             colors,
         } = shape;
         match colored {
-            Ok(counts) => self.put_listing(
-                &lengths[..counts.contours],
-                &kinds[..counts.edges],
-                &colors[..counts.edges],
-                counts.stand_ins,
-            ),
+            Ok(counts) => {
+                let edges = Edges {
+                    kinds: &kinds[..counts.edges],
+                    colors: &colors[..counts.edges],
+                };
+                self.put_listing(&lengths[..counts.contours], edges, counts.stand_ins);
+            }
             Err(refusal) => self.put_refusal(refusal),
         }
     }
 }
 
 // The text of a file's answer, at the start of a buffer that holds every text; how many bytes. What `channels` prints.
+// The places of a result are declared here and in `check`, as those of a job.
 pub fn text(file: &[u8], out: &mut [u8; MAX_TEXT]) -> usize
     ensures { Printed (file_text file.now) out.old result out.new }
 {

@@ -8,8 +8,8 @@ use crate::color;
 use crate::progress::Progress;
 use crate::records::Item;
 
-// From a byte up to another.
-#[derive(Clone, Copy, PartialEq, Eq, Debug, Default)]
+// From a byte up to another; from 0 up to 0 where there is none, as C gets it. Not std's Range, which is not Copy.
+#[derive(Clone, Copy, PartialEq, Eq, Default)]
 pub struct Span {
     pub start: usize,
     pub end: usize,

@@ -11,6 +11,7 @@ fn magnitude(pattern: u64) -> u64
     pattern % SIGN_BIT
 }
 
+// The tests that specs/ names, each with a bound of its own.
 pub(crate) fn is_threshold(pattern: u64) -> bool
     ensures { result ≡ is_threshold pattern }
 {

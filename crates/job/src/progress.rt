@@ -68,6 +68,7 @@ pub struct Progress {
 }
 
 impl Progress {
+    // Before the first record. No derived default: the phase and a strategy are named.
     pub(crate) fn begin() -> Progress
         ensures { result ≡ begin }
     {
@@ -90,7 +91,8 @@ impl Progress {
         Progress { at: 0, state }
     }
 
-    // The record at that place, or the end.
+    // The record at that place, or the end. The loops over records (`scan`, `fill`, `contour_span`) are no iterator:
+    // each needs the place or the numbers before the record beside it, and only `scan` the refusal that ends it.
     pub(crate) fn next(self, file: &[u8]) -> Result<Option<Item>, Refusal>
         requires { self.at ≤ length file.now }
         ensures { found_answer result ≡ found_of (read_record self.state (drop self.at file.now)) }

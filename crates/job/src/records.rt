@@ -10,7 +10,7 @@ use crate::progress::Numbers;
 use coloring::limits::{MAX_CONTOURS, MAX_DISTANCES, MAX_EDGES};
 use coloring::refusal::Refusal;
 
-#[derive(Clone, Copy, PartialEq, Eq, Debug)]
+#[derive(Clone, Copy, PartialEq, Eq)]
 pub enum Strategy {
     Simple = 1,
     InkTrap = 2,
@@ -50,7 +50,7 @@ impl TryFrom<u8> for Strategy {
     }
 }
 
-#[derive(Clone, Copy, PartialEq, Eq, Debug)]
+#[derive(Clone, Copy, PartialEq, Eq)]
 pub enum Kind {
     Line = 1,
     Quadratic = 2,
@@ -74,7 +74,7 @@ impl From<Kind> for u8 {
     }
 }
 
-#[derive(Clone, Copy, PartialEq, Eq, Debug)]
+#[derive(Clone, Copy, PartialEq, Eq)]
 pub enum Mark {
     // JB
     Header,
@@ -108,7 +108,7 @@ impl Mark {
 const HEADER_SIZE: usize = 17;
 
 // Where in a file a record stands.
-#[derive(Clone, Copy, PartialEq, Eq, Debug)]
+#[derive(Clone, Copy, PartialEq, Eq)]
 pub enum Phase {
     // before JB
     Start,
@@ -123,7 +123,7 @@ pub enum Phase {
 }
 
 // The fields of JB, the threshold as its bit pattern.
-#[derive(Clone, Copy, PartialEq, Eq, Debug)]
+#[derive(Clone, Copy, PartialEq, Eq)]
 pub struct Header {
     pub strategy: Strategy,
     pub seed: u64,
@@ -157,7 +157,7 @@ impl State {
 }
 
 // A record without its floats: of an edge its kind, of DS how many distances.
-#[derive(Clone, Copy, PartialEq, Eq, Debug)]
+#[derive(Clone, Copy, PartialEq, Eq)]
 pub enum Item {
     Header(Header),
     Balanced,
@@ -181,7 +181,7 @@ impl Item {
 }
 
 #[tactic(auto, unfolding(crate::specs::Records::mark_of, crate::specs::Records::mark_among))]
-pub(crate) fn mark_of(a: u8, b: u8) -> Option<Mark>
+fn mark_of(a: u8, b: u8) -> Option<Mark>
     ensures { result ≡ mark_of a b }
 {
     match &[a, b] {

@@ -1,5 +1,6 @@
 // Scalar helpers of math/scalar.rs. The minimum and the maximum of two numbers are functions here: std's `min` and
-// `max` promise either of two equal numbers, as -0 and 0 are, and the first one is promised here.
+// `max` promise either of two equal numbers, as -0 and 0 are, and the first one is promised here. They are two, as
+// Rust's are.
 ghost use Rattle.std.specs.Prelude.{◌≡◌};
 ghost use Rattle.math.specs.Scalar.{min_of, max_of, median, mix, clamp, clamp01, sign, non_zero_sign};
 
@@ -64,7 +65,7 @@ pub fn sign(n: f64) -> i32
     if n < 0.0 { -1 } else { 0 }
 }
 
-// 1 for positive, -1 for everything else: zeros and NaN too.
+// 1 for positive, -1 for everything else, zeros and NaN too: the source's numbers.
 pub fn non_zero_sign(n: f64) -> i32
     ensures { result ≡ non_zero_sign n }
 {

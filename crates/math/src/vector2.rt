@@ -13,8 +13,8 @@ pub struct Vector2 {
     pub y: f64,
 }
 
-// A vector by its length, and whether that was 0, so that another stands in for it. No Option: both have a vector,
-// which callers use alike, and the flag is only counted.
+// A vector by its length, and whether that was 0, so that another stands in for it. No Option: there is a vector in
+// both cases, which callers use alike, and the flag says which it is.
 #[derive(Clone, Copy)]
 pub struct Normalized {
     pub vector: Vector2,

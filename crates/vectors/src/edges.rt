@@ -1,6 +1,6 @@
 // Records of edges and their colours, 20 words each: the function's number; a kind or a colour, eight places, a
 // parameter; a number and eight places that are the answer. Where the kind is unknown the answer is the number 0.
-// Kept as numbers: each is matched once, by the arm that names its function.
+// Kept as numbers: they are those of the recorded file, and each has one arm; 40 is the last one, `_`.
 use crate::words::{Reader, is_vector, same, vector};
 use geometry::edge_color::EdgeColor;
 use geometry::edge_segment::EdgeSegment;

@@ -32,7 +32,7 @@ pub(crate) enum Call {
 
 #[derive(Clone, Copy)]
 pub(crate) enum Function {
-    // By its number.
+    // By its number in the recorded file, which has one arm in leaves.rt or edges.rt.
     Leaf(u64),
     Edge(u64),
     Offers,

@@ -2,7 +2,7 @@
 // how many contours are asked for, what checking answers, whether teardrops are balanced), two words for each contour
 // (the place of its part and how many bytes it has), the file, and its listing, each filled up to words.
 use crate::shapes::BYTE;
-use crate::words::{Reader, are_bytes, size};
+use crate::words::{Reader, are_bytes};
 use capi::job_file::{
     BYTES, merelsplum_job_balanced, merelsplum_job_check, merelsplum_job_contour_part,
     merelsplum_job_listing,
@@ -28,17 +28,16 @@ fn is_listing(file: &[u8], s: &[u8]) -> bool {
 }
 
 pub(crate) fn is_right(s: &[u8]) -> bool {
-    let mut record = Reader::new(s);
-    let [_, _, file_bytes, listing_bytes, contours, check, balanced] = record.words::<7>();
-    let places = record.words_of(size(contours, 300).saturating_mul(2));
-    let n = size(file_bytes, 65536);
-    let mut filled = Reader::new(record.part(n.next_multiple_of(8)));
-    let file = filled.part(n);
+    let mut record = Reader::body(s);
+    let [file_bytes, listing_bytes, contours, check, balanced] = record.words::<5>();
+    let places = record.words_of((contours as usize).saturating_mul(2));
+    let filled = record.words_of((file_bytes as usize).div_ceil(8));
+    let file = Reader::new(filled).part(file_bytes as usize);
     merelsplum_job_check(file) == check
         && merelsplum_job_balanced(file) == balanced
         && places
             .chunks_exact(16)
             .enumerate()
             .all(|(contour, words)| is_part(file, contour, words))
-        && is_listing(file, record.part(size(listing_bytes, 5611)))
+        && is_listing(file, record.part(listing_bytes as usize))
 }

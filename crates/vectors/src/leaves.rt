@@ -1,5 +1,5 @@
 // Records of the number leaves, eight words each: the function's number, five inputs, two outputs.
-// Kept as numbers: each is matched once, by the arm that names its function.
+// Kept as numbers: they are those of the recorded file, and each has one arm; the last one is `_`.
 use crate::words::{Reader, is_vector, same, vector};
 use math::bits::float;
 use math::vector2::{self, Vector2};

@@ -3,28 +3,16 @@
 // have, the answer, where the job begins); the six numbers at the end; the file; and the job: lengths, kinds, point
 // places, distances. A length is a word.
 use crate::shapes::{BYTE, LENGTH, PLACE, are_lengths, are_points};
-use crate::words::{Reader, are_bytes, size};
+use crate::words::{Reader, are_bytes, first};
 use capi::job_file::merelsplum_job_read;
 use math::bits::float;
 
 // Makes the call of the record s: whether its answer, the numbers and all four buffers are as recorded.
 pub(crate) fn is_right(s: &[u8]) -> bool {
-    let mut record = Reader::new(s);
-    let [
-        _,
-        _,
-        bytes,
-        distance_count,
-        contours,
-        edges,
-        _,
-        a,
-        b,
-        c,
-        d,
-        answer,
-        start,
-    ] = record.words::<13>();
+    let mut record = Reader::body(s);
+    let [bytes, pairs, contours, edges, _] = record.words::<5>();
+    let [out_lengths, out_kinds, out_points, out_distances] = record.words::<4>();
+    let [answer, start] = record.words::<2>();
     let expected = record.words::<6>();
     let mut job = Reader::new(s);
     job.part(start as usize);
@@ -35,10 +23,10 @@ pub(crate) fn is_right(s: &[u8]) -> bool {
     let mut numbers = [PLACE; 6];
     let found = merelsplum_job_read(
         record.part(bytes as usize),
-        &mut lengths[..size(a, 90)],
-        &mut kinds[..size(b, 540)],
-        &mut points[..size(c, 2120)],
-        &mut distances[..size(d, 2100)],
+        first(&mut lengths, out_lengths),
+        first(&mut kinds, out_kinds),
+        first(&mut points, out_points),
+        first(&mut distances, out_distances),
         &mut numbers,
     );
     found == answer
@@ -46,5 +34,5 @@ pub(crate) fn is_right(s: &[u8]) -> bool {
         && are_lengths(job.words_of(contours as usize), &lengths)
         && are_bytes(job.part(edges as usize), &kinds, BYTE)
         && are_points(job.words_of((edges as usize).saturating_mul(8)), &points)
-        && are_points(job.words_of(distance_count as usize), &distances)
+        && are_points(job.words_of(pairs as usize), &distances)
 }

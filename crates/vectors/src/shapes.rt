@@ -5,10 +5,8 @@
 // job file (71) the threshold's word has the bytes of the file, and what goes in is the file. The directions of an
 // outline (72) go to the buffer of point places, four an edge, and the marks of stand-ins to that of colours, two an
 // edge; they are the whole result. 73 to 76 are 65 to 68 by the balanced division.
-ghost use Rattle.std.specs.Prelude.{length};
-
 use crate::function::{Call, Entry};
-use crate::words::{Reader, are_bytes, are_words, load_words, same, size};
+use crate::words::{Reader, are_bytes, are_words, first, load_words, same};
 use capi::answers::{COUNT, REFUSED};
 use capi::balanced::{
     merelsplum_collect_splines_balanced, merelsplum_edge_coloring_by_distance_balanced,
@@ -28,6 +26,9 @@ pub(crate) const BYTE: u8 = 0xA5;
 
 pub(crate) const PLACE: u64 = 0xC0FE_2408_0000_0000;
 
+// How many bytes the thirteen words have.
+const HEAD_BYTES: usize = 104;
+
 pub(crate) fn are_lengths(s: &[u8], lengths: &[u16]) -> bool {
     are_words(s, lengths, u64::from(LENGTH), |x, w| u64::from(x) == w)
 }
@@ -36,7 +37,7 @@ pub(crate) fn are_points(s: &[u8], points: &[f64]) -> bool {
     are_words(s, points, PLACE, same)
 }
 
-// The words at the start of a record, behind its bytes.
+// The thirteen words, but for the number and the record's bytes.
 #[derive(Clone, Copy)]
 struct Head {
     threshold: u64,
@@ -54,31 +55,19 @@ struct Head {
 
 impl Head {
     fn read(record: &mut Reader) -> Head {
-        let [
-            _,
-            _,
-            threshold,
-            seed,
-            lengths,
-            kinds,
-            points,
-            a,
-            b,
-            c,
-            d,
-            answer,
-            start,
-        ] = record.words::<13>();
+        let [threshold, seed, lengths, kinds, points] = record.words::<5>();
+        let [out_lengths, out_kinds, out_points, out_colors] = record.words::<4>();
+        let [answer, start] = record.words::<2>();
         Head {
             threshold,
             seed,
             lengths,
             kinds,
             points,
-            out_lengths: a,
-            out_kinds: b,
-            out_points: c,
-            out_colors: d,
+            out_lengths,
+            out_kinds,
+            out_points,
+            out_colors,
             answer,
             start,
         }
@@ -106,7 +95,8 @@ struct Input<'a> {
     distances: &'a [f64],
 }
 
-// A colouring by a strategy, the collecting pass, and a colouring by distance.
+// A colouring by a strategy, the collecting pass, and a colouring by distance: one each, since C's functions take
+// other parameters.
 fn by_strategy<F>(color: F, i: Input, out: &mut ResultBuffers) -> u64
 where
     F: FnOnce(&[u16], &[u8], &[f64], f64, u64, &mut [u16], &mut [u8], &mut [f64], &mut [u8]) -> u64,
@@ -235,46 +225,26 @@ fn make(call: Call, head: &Head, mut input: Reader, out: &mut ResultBuffers) -> 
     }
 }
 
-// What the four result buffers hold after a call.
-#[derive(Clone, Copy)]
-struct Written<'a> {
-    lengths: &'a [u16],
-    kinds: &'a [u8],
-    points: &'a [f64],
-    colors: &'a [u8],
-}
-
-impl Written<'_> {
-    // Whether it is what a record goes on with: contours, edges, colours and point places, so many.
-    fn is_next(self, mut record: Reader, [contours, edges, marks, places]: [usize; 4]) -> bool {
-        are_lengths(record.words_of(contours), self.lengths)
-            && are_bytes(record.part(edges), self.kinds, BYTE)
-            && are_bytes(record.part(marks), self.colors, BYTE)
-            && are_points(record.words_of(places), self.points)
-    }
-}
-
 // Makes the call of the record s: whether its answer and all four buffers are as recorded.
 pub(crate) fn is_right(s: &[u8], call: Call) -> bool {
-    let mut record = Reader::new(s);
+    let mut record = Reader::body(s);
     let head = Head::read(&mut record);
-    let input = Reader::new(record.part(size(head.start, s.len()).saturating_sub(104)));
+    let input = Reader::new(record.part((head.start as usize).saturating_sub(HEAD_BYTES)));
     let mut lengths = [LENGTH; 90];
     let mut kinds = [BYTE; 540];
     let mut points = [float(PLACE); 4100];
     let mut colors = [BYTE; 540];
     let mut out = ResultBuffers {
-        lengths: &mut lengths[..size(head.out_lengths, 90)],
-        kinds: &mut kinds[..size(head.out_kinds, 540)],
-        points: &mut points[..size(head.out_points, 4100)],
-        colors: &mut colors[..size(head.out_colors, 540)],
+        lengths: first(&mut lengths, head.out_lengths),
+        kinds: first(&mut kinds, head.out_kinds),
+        points: first(&mut points, head.out_points),
+        colors: first(&mut colors, head.out_colors),
     };
     let answer = make(call, &head, input, &mut out);
-    let written = Written {
-        lengths: &lengths,
-        kinds: &kinds,
-        points: &points,
-        colors: &colors,
-    };
-    answer == head.answer && written.is_next(record, head.result_sizes(call))
+    let [contours, edges, marks, places] = head.result_sizes(call);
+    answer == head.answer
+        && are_lengths(record.words_of(contours), &lengths)
+        && are_bytes(record.part(edges), &kinds, BYTE)
+        && are_bytes(record.part(marks), &colors, BYTE)
+        && are_points(record.words_of(places), &points)
 }

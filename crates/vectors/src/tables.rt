@@ -12,8 +12,8 @@ fn is_offer(offer: &[u8], coloring: &mut [u8], edge_matrix: &mut [u8]) -> bool {
 
 // Makes the offers of the run s: whether every answer, and the table that they leave, are as recorded.
 pub(crate) fn is_right(s: &[u8]) -> bool {
-    let mut record = Reader::new(s);
-    let [_, _, colors, entries, count] = record.words::<5>();
+    let mut record = Reader::body(s);
+    let [colors, entries, count] = record.words::<3>();
     let mut colors_before = [0; 128];
     let mut entries_before = [0; 8192];
     let coloring = load(record.part(colors as usize), &mut colors_before);

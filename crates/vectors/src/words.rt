@@ -1,12 +1,12 @@
 // Words, floats and parts out of bytes, and whether a value is the one that a word records. The records of one part
 // follow a heading: a word of ones and the part's name, 16 bytes.
-ghost use Rattle.std.specs.Prelude.{◌≡◌, ◌≤◌};
+ghost use Rattle.std.specs.Prelude.{◌≡◌};
 ghost use Rattle.vectors.specs.Words.{word_at, matches};
 
 use math::bits::float;
 use math::vector2::Vector2;
 
-// The word of eight bytes from at on, the lowest first, and 0 where s ends before.
+// The word of eight bytes from at on, the lowest first, and 0 where s ends before, as specs/ has it.
 #[tactic(auto, unfolding(crate::specs::Words::word_at))]
 pub(crate) fn word(s: &[u8], at: usize) -> u64
     ensures { result ≡ word_at s.now at }
@@ -28,6 +28,13 @@ pub(crate) struct Reader<'a> {
 impl<'a> Reader<'a> {
     pub(crate) fn new(s: &'a [u8]) -> Reader<'a> {
         Reader { rest: s }
+    }
+
+    // What follows in a record behind its number and how many bytes it has.
+    pub(crate) fn body(s: &'a [u8]) -> Reader<'a> {
+        let mut record = Reader::new(s);
+        record.words_of(2);
+        record
     }
 
     // The next len bytes, or none where fewer are left.
@@ -62,9 +69,9 @@ pub(crate) fn same(x: f64, bits: u64) -> bool
     ensures { result ≡ matches x bits }
 {
     if x.is_nan() {
-        return 0x7FF0_0000_0000_0000 < bits % 0x8000_0000_0000_0000;
+        return float(bits).is_nan();
     }
-    f64::to_bits(x) == bits
+    x.to_bits() == bits
 }
 
 pub(crate) fn is_vector(v: Vector2, x: u64, y: u64) -> bool {
@@ -72,17 +79,17 @@ pub(crate) fn is_vector(v: Vector2, x: u64, y: u64) -> bool {
 }
 
 pub(crate) fn vector(x: u64, y: u64) -> Vector2 {
-    Vector2 {
-        x: float(x),
-        y: float(y),
-    }
+    Vector2::new(float(x), float(y))
 }
 
-// A recorded number, or 0 where it is above the most that there can be.
-pub(crate) fn size(w: u64, most: usize) -> usize
-    ensures { result ≤ most }
-{
-    if w <= most as u64 { w as usize } else { 0 }
+// The first places of t, as many as are recorded, or none where it has fewer.
+pub(crate) fn first<T>(t: &mut [T], count: u64) -> &mut [T] {
+    let n = if count <= t.len() as u64 {
+        count as usize
+    } else {
+        0
+    };
+    &mut t[..n]
 }
 
 // Puts s at the start of t, where it fits: the part of t that has it.

@@ -6,7 +6,7 @@ use Prim.Native.Nat.{ℕ, zero, suc, ◌+◌, ◌*◌, ◌<◌, ◌≤◌}
 use native.Mathlib.Omega.{arith}
 use lib.Ieee.{Float}
 use lib.Arith.{digits_lt}
-use lib.ListN.{length, get_or, take, drop, replicate, length-replicate, drop_of_length-le}
+use lib.ListN.{length, get_or, take, drop, replicate, length-replicate, length-set, drop_of_length-le}
 use lib.Dec.{ltb}
 use borrow.Author.Tests.{ltb-false}
 use Rattle.std.proofs.Common.{Some, None, cond}
@@ -67,6 +67,11 @@ matrix_pairs n [] edge_matrix a m = m
 matrix_pairs n (e ∷ edges) edge_matrix a m =
     let two = a.0 in
     matrix_pairs n edges _ a.1 (enter_matrix n edge_matrix (pair_of e) two.first two.second two.different 1 (omega arith) m)
+
+pub length_pairs : (n : ℕ) (pairs : List Pair) (edge_matrix : List ℕ) → length (enter_pairs n pairs edge_matrix) ≡ length edge_matrix
+unfolding enter_pairs
+length_pairs n [] edge_matrix = refl
+length_pairs n (p ∷ pairs) edge_matrix = length_pairs n pairs _ ∙ length-set _ _ _ ∙ length-set _ _ _
 
 module _ (n : ℕ) (edges : List GraphEdge) (k : ℕ) (d : GraphEdge) (h : k < length edges) where
   abbrev here : GraphEdge

@@ -1,29 +1,28 @@
 -- What the splines have, spread over the edges place by place.
-use mathlib.Core.Path.{◌≡◌}
+use mathlib.Core.Path.{◌≡◌, refl}
 use mathlib.Core.Bool.{Bool, true, false}
 use mathlib.Core.List.{List, [], ◌∷◌}
-use Prim.Native.Nat.{ℕ, ◌+◌, ◌≤◌, ◌<◌}
+use Prim.Native.Nat.{ℕ, suc, ◌+◌, ◌≤◌, ◌<◌}
 use native.Mathlib.Numerals.{add-one}
 use lib.ListN.{length, drop, get_or, drop_of_length-le}
 use lib.Seq.{drop-cons}
 use Rattle.coloring.specs.Splines.{spread}
 
 module _ {A : Type 0} where
-  module _ (value : A) (values : List A) (flags : List Bool) (next i : ℕ) (h : i < length flags) where
-    -- a corner begins the next spline
-    pub spread_corner : (d : A) → get_or flags i false ≡ true → next < length values
-        → spread value (drop next values) (drop i flags) ≡ get_or values next d ∷ spread (get_or values next d) (drop (next + 1) values) (drop (i + 1) flags)
+  module _ (value : A) (values : List A) (flags : List Bool) (i : ℕ) (h : i < length flags) where
+    -- a corner begins the next spline; beyond the last one nothing changes
+    pub spread_corner : get_or flags i false ≡ true
+        → spread value values (drop i flags)
+        ≡ get_or values 0 value ∷ spread (get_or values 0 value) (drop 1 values) (drop (i + 1) flags)
     unfolding spread
-    spread_corner d t l = rw (drop-cons flags i false h, t, drop-cons values next d l, add-one, add-one)
+    spread_corner t = rw (drop-cons flags i false h, t, add-one) (begun values)
+      where
+        begun : (values : List A)
+            → spread value values (true ∷ drop (suc i) flags) ≡ get_or values 0 value ∷ spread (get_or values 0 value) (drop 1 values) (drop (suc i) flags)
+        begun [] = refl
+        begun (next ∷ values) = refl
 
-    -- beyond the last spline nothing changes
-    pub spread_beyond : get_or flags i false ≡ true → length values ≤ next
-        → spread value (drop next values) (drop i flags) ≡ value ∷ spread value (drop next values) (drop (i + 1) flags)
-    unfolding spread
-    spread_beyond t l = rw (drop-cons flags i false h, t, drop_of_length-le values l, add-one)
-
-    pub spread-edge : get_or flags i false ≡ false → spread value (drop next values) (drop i flags) ≡ value ∷ spread value (drop next values)
-        (drop (i + 1) flags)
+    pub spread-edge : get_or flags i false ≡ false → spread value values (drop i flags) ≡ value ∷ spread value values (drop (i + 1) flags)
     unfolding spread
     spread-edge t = rw (drop-cons flags i false h, t, add-one)
 

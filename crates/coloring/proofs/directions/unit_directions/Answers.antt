@@ -29,14 +29,14 @@ loop-i-init c =
       directing_none 2 stand_in_marks (λ d. refl) (edges start) c.args.marks.now (omega (arith, as_many start)),
     )
 
-pub write_directions-requires : goal.write_directions-requires
-write_directions-requires c =
-    let long = as_many (goal.at.write_directions-requires c).Start in
+pub write_from-requires : goal.write_from-requires
+write_from-requires c =
+    let long = as_many (goal.at.write_from-requires c).Start in
     omega (arith, c.loop-i.invariant.0.room, long)
 
-pub write_marks-requires : goal.write_marks-requires
-write_marks-requires c =
-    let long = as_many (goal.at.write_marks-requires c).Start in
+pub write_from-requires-in-loop-i : goal.write_from-requires-in-loop-i
+write_from-requires-in-loop-i c =
+    let long = as_many (goal.at.write_from-requires-in-loop-i c).Start in
     omega (arith, c.loop-i.invariant.1.room, long)
 
 pub loop-i-preserved : goal.loop-i-preserved
@@ -46,8 +46,8 @@ loop-i-preserved c =
     let all = edges start in
     let e : c.unit_directions-d.result ≡ unit_directions (get_or all s.i any_edge) = c.unit_directions-d.ensures ∙ ap unit_directions c.at.ensures in
     let h : s.i < length all = omega (arith, as_many start) in (
-      rw (c.write_directions.ensures, e) (directing_next 4 direction_places (λ d. refl) all s.out s.i s.invariant.0 any_edge h),
-      rw (c.write_marks.ensures, e) (directing_next 2 stand_in_marks (λ d. refl) all s.marks s.i s.invariant.1 any_edge h),
+      rw (c.write_from.ensures, c.direction_places.ensures, e) (directing_next 4 direction_places (λ d. refl) all s.out s.i s.invariant.0 any_edge h),
+      rw (c.write_from-in-loop-i.ensures, c.stand_in_marks.ensures, e) (directing_next 2 stand_in_marks (λ d. refl) all s.marks s.i s.invariant.1 any_edge h),
     )
 
 pub returns : goal.returns

@@ -27,7 +27,7 @@ module _ (c : After-first_possible_color-d) where
   coloring = c.args.coloring.now
 
   abbrev edge_matrix : List ℕ
-  edge_matrix = c.args.edge_matrix.now
+  edge_matrix = c.args.edge_matrix.entries.now
 
   abbrev a : ℕ
   a = c.args.a
@@ -48,7 +48,7 @@ module _ (c : After-first_possible_color-d) where
   color = c.first_possible_color-d.ensures ∙ ap first_possible_color c.other_colors.ensures
 
   small : d < 3
-  small = rw color (others (get_or coloring a 0) c.requires.0.color).2
+  small = rw color (others (get_or coloring a 0) c.requires.offerable.color).2
 
   size : length (set buffer b d) ≡ length coloring
   size = length-set buffer b d ∙ ap length copy_same
@@ -60,15 +60,18 @@ module _ (c : After-row-entries) where
   abbrev entries : List ℕ
   entries = c.row-entries.result.now
 
+  cut : entries ≡ row (length (coloring color_of_row)) (edge_matrix color_of_row) (b color_of_row)
+  cut = rw c.requires.size at c.row-entries.ensures
+
   -- nobody waits yet
   ready : Uncoloring (record { coloring = set (buffer color_of_row) (b color_of_row) (d color_of_row); queue = [] }) entries (d color_of_row)
   unfolding Waiting
   ready =
-      let o = c.requires.0 in
+      let o = c.requires.offerable in
       record {
         queued = record { few = omega (arith, o.few, size color_of_row); waits = tt };
         row =
-            ap length c.row-entries.ensures
+            ap length cut
             ∙ row-length (length (coloring color_of_row)) (b color_of_row) (edge_matrix color_of_row) o.entries o.second
             ∙ sym (size color_of_row);
         color = small color_of_row;
@@ -96,7 +99,7 @@ module _ (c : After-uncolor_same_neighbors) where
   started =
       moved
       ∙ start_same (coloring color_of_waiting) (edge_matrix color_of_waiting) (buffer color_of_waiting) (entries row_of_waiting)
-      (a color_of_waiting) (b color_of_waiting) (d color_of_waiting) (copy_same color_of_waiting) c.row-entries.ensures (color color_of_waiting)
+      (a color_of_waiting) (b color_of_waiting) (d color_of_waiting) (copy_same color_of_waiting) (cut row_of_waiting) (color color_of_waiting)
 
   walking_size : length begun.coloring ≡ length (coloring color_of_waiting)
   walking_size =
@@ -105,7 +108,7 @@ module _ (c : After-uncolor_same_neighbors) where
 
   walking : Walking begun (length (coloring color_of_waiting)) (a color_of_waiting)
   walking =
-      let o = c.requires.0 in
+      let o = c.requires.offerable in
       let lost = same_uncolors (entries row_of_waiting) (d color_of_waiting) (small color_of_waiting) (b color_of_waiting) before in
       record {
         queued = (still_uncoloring (ready row_of_waiting) lost moved).queued;
@@ -114,15 +117,15 @@ module _ (c : After-uncolor_same_neighbors) where
       }
 
 pub row-entries-requires : goal.row-entries-requires
-row-entries-requires c = c.requires.0.second
+row-entries-requires c = rw c.requires.size c.requires.offerable.second
 
 pub uncolor_same_neighbors-requires : goal.uncolor_same_neighbors-requires
 uncolor_same_neighbors-requires c =
     let r = (goal.at.uncolor_same_neighbors-requires c).After-row-entries in
-    (rw c.new.ensures (ready r), omega (arith, size (color_of_row r), c.requires.0.second))
+    (rw c.new.ensures (ready r), omega (arith, size (color_of_row r), c.requires.offerable.second))
 
 pub walk-requires : goal.walk-requires
-walk-requires c = walking (goal.at.walk-requires c).After-uncolor_same_neighbors
+walk-requires c = rw c.requires.size (walking (goal.at.walk-requires c).After-uncolor_same_neighbors)
 
 pub returns : goal.returns
 unfolding defined.recolor

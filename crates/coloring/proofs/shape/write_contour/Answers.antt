@@ -99,7 +99,7 @@ split_edges-requires-clause-room c =
     let k = thrice (goal.at.split_edges-requires-clause-room c).Then-splits in
     let flagged = c.args.contour.flagged in
     let counted = c.result_edges.ensures in
-    (omega (arith, k, flagged, counted, c.requires.room.kinds_fit), omega (arith, k, flagged, counted, c.requires.room.points_fit))
+    (omega (arith, k, flagged, counted, c.requires.room.edges_fit.0), omega (arith, k, flagged, counted, c.requires.room.edges_fit.1))
 
 pub bounds-values-0 : goal.bounds-values-0
 bounds-values-0 c = omega (arith, two (goal.at.bounds-values-0 c).Then-splits)
@@ -123,7 +123,7 @@ copy_edges-requires c =
     let k = once (goal.at.copy_edges-requires c).Else-splits in
     let flagged = c.args.contour.flagged in
     let counted = c.result_edges.ensures in
-    (omega (arith, k, flagged, counted, c.requires.room.kinds_fit), omega (arith, k, flagged, counted, c.requires.room.points_fit))
+    (omega (arith, k, flagged, counted, c.requires.room.edges_fit.0), omega (arith, k, flagged, counted, c.requires.room.edges_fit.1))
 
 pub paint-requires : goal.paint-requires
 paint-requires c =

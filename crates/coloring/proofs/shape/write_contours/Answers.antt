@@ -116,13 +116,16 @@ write_contour-requires-clause-room c =
     let same = c.loop-i.invariant.same in
     let counted = c.result_edges-edges.ensures in
     record {
-      kinds_fit = omega (arith, fit, counted, same.kinds_long, c.requires.room.kinds_fit);
-      points_fit = omega (arith, fit, counted, same.points_long, c.requires.room.points_fit);
+      edges_fit
+          = (
+            omega (arith, fit, counted, same.kinds_long, c.requires.room.edges_fit.0),
+            omega (arith, fit, counted, same.points_long, c.requires.room.edges_fit.1),
+          );
       colors_fit = omega (arith, fit, counted, same.colors_long, c.requires.room.colors_fit);
     }
 
 pub overflow_add-to : goal.overflow_add-to
-overflow_add-to c = omega (arith, edges-fit (goal.at.overflow_add-to c).After-spline_count, c.requires.room.kinds_fit, c.well_formed)
+overflow_add-to c = omega (arith, edges-fit (goal.at.overflow_add-to c).After-spline_count, c.requires.room.edges_fit.0, c.well_formed)
 
 pub loop-i-preserved : goal.loop-i-preserved
 loop-i-preserved c =
@@ -135,8 +138,8 @@ loop-i-preserved c =
     let room = c.requires.room in
     let w = rw (is counted) at c.write_contour.ensures in
     writing-next _ _ _ _ _ _ _ _ _ _ _ _ _ s.invariant (as_many start) c.loop-i-test.true
-    (omega (arith, same.lengths_long, c.requires.lengths_room, c.loop-i-test.true)) (omega (arith, same.kinds_long, room.kinds_fit))
-    (omega (arith, same.points_long, room.points_fit)) (omega (arith, same.colors_long, room.colors_fit))
+    (omega (arith, same.lengths_long, c.requires.lengths_room, c.loop-i-test.true)) (omega (arith, same.kinds_long, room.edges_fit.0))
+    (omega (arith, same.points_long, room.edges_fit.1)) (omega (arith, same.colors_long, room.colors_fit))
     (edges-counted counted) (splines-counted counted) (ap (λ m. take m (drop s.from c.args.values.now)) whole)
     refl refl refl refl refl w
 

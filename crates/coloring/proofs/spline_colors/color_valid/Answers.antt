@@ -5,15 +5,16 @@ use Prim.Native.Nat.{ℕ, zero, suc, ◌*◌, ◌≤◌}
 use native.Mathlib.Omega.{arith}
 use lib.ListN.{length, take, drop, replicate, length-replicate}
 use lib.Seq.{length-take-le, take_at}
+use Rattle.std.proofs.Common.{rules}
 use Rattle.coloring.specs.PairOrder.{pair_order}
 use Rattle.coloring.specs.Pairs.{spline_pair}
-use Rattle.coloring.specs.SplineColors.{offer_splines, color_in_order}
+use Rattle.coloring.specs.SplineColors.{offer_splines, color_in_order, color_splines}
 use Rattle.coloring.specs.declared.pair_order.GraphEdge.{GraphEdge}
 use Rattle.coloring.proofs.recolor.RowLaws.{square_below}
 use Rattle.coloring.proofs.pair_order.PairLaws.{pairs_most}
 use Rattle.coloring.proofs.spline_colors.OrderLaws.{two_ordered}
 use Rattle.coloring.proofs.spline_colors.color_valid.Goals as goal
-use Rattle.coloring.proofs.spline_colors.color_valid.Goals.{After-order_pairs, After-default-edges}
+use Rattle.coloring.proofs.spline_colors.color_valid.Goals.{After-order_pairs, After-default-edges, After-color_in_order}
 
 take-replicate : (k m : ℕ) → k ≤ m → take k (replicate m 0) ≡ replicate {A = ℕ} k 0
 take-replicate zero m h = refl
@@ -73,8 +74,14 @@ color_in_order-requires c =
       none = take-replicate (n s * n s) 4096 (square s);
     }
 
+module _ (c : After-color_in_order) where
+  colored : c.color_in_order.new.table.coloring.now ≡ color_splines (length c.args.coloring.now) c.args.distances.now c.args.seed
+  unfolding offer_splines
+  colored =
+      let after = (goal.at.After-color_in_order c).After-order_pairs in
+      c.color_in_order.ensures.colored ∙ ap (λ l. color_in_order (n (start after)) l c.args.seed) (ordered after)
+
 pub returns : goal.returns
-unfolding offer_splines
 returns c =
-    let after = (goal.at.returns c).After-order_pairs in
-    c.color_in_order.ensures ∙ ap (λ l. color_in_order (n (start after)) l c.args.seed) (ordered after)
+    let written = colored (goal.at.returns c).After-color_in_order in
+    search (rules, written)

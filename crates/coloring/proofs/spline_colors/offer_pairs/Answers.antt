@@ -7,7 +7,7 @@ use Rattle.coloring.proofs.spline_colors.offer_pairs.Goals as goal
 
 pub loop-edge-init : goal.loop-edge-init
 loop-edge-init c =
-    (record { is_sound = record { splines = refl; size = c.requires.entries; is_sound = c.requires.is_sound }; rest = refl }, (refl, refl))
+    (record { is_sound = record { splines = refl; size = c.requires.entries; is_sound = c.requires.is_sound }; rest = refl }, (refl, refl, refl, refl))
 
 pub try_add_edge_unchecked-requires : goal.try_add_edge_unchecked-requires
 try_add_edge_unchecked-requires c =
@@ -20,7 +20,7 @@ loop-edge-preserved c =
     (ap (λ (o : Offered). o.table) c.try_add_edge_unchecked.ensures.answer) in
     let same = c.try_add_edge_unchecked.ensures.same in
     let were = c.loop-edge.invariant.1 in
-    (offers, (same.0 ∙ were.0, same.1 ∙ were.1))
+    (offers, (same.0 ∙ were.0, same.1 ∙ were.1, same.2 ∙ were.2, same.3 ∙ were.3))
 
 pub returns-clause-offered : goal.returns-clause-offered
 returns-clause-offered c = offers_end _ _ _ _ _ c.loop-edge.invariant.0 c.loop-edge-test.false

@@ -1,10 +1,10 @@
 -- `ResultBuffers::write_edge` meets its contract: the kind at its place, and eight places in theirs.
-use mathlib.Core.Path.{◌≡◌, refl, sym, ◌∙◌}
+use mathlib.Core.Path.{refl, sym, ◌∙◌}
 use mathlib.Core.List.{[], append-nil, flatten}
-use Prim.Native.Nat.{◌+◌, ◌*◌, ◌-◌}
+use Prim.Native.Nat.{◌+◌, ◌*◌}
 use native.Mathlib.Omega.{arith}
 use lib.ListN.{length-set}
-use Rattle.coloring.proofs.Writing.{over-part, part-length, over-next, over_nothing}
+use Rattle.coloring.proofs.Writing.{over-length, over-next, over_nothing}
 use Rattle.coloring.specs.Outline.{kind_stored, places_stored}
 use Rattle.coloring.specs.Sizes.{places-length}
 use Rattle.coloring.proofs.outline.ResultBuffers.write_edge.Goals as goal
@@ -14,10 +14,9 @@ unfolding flatten
 returns c =
     let i = c.args.i in
     let old = c.args.self.now in
-    let eight : 8 * i + 8 - 8 * i ≡ 8 = omega arith in
     let places = places_stored c.args.e in
     let long = places-length c.args.e in
-    rw (eight, c.copy_from_slice.ensures.after, c.to_stored-stored.ensures) (record {
+    rw (c.write_from.ensures, c.to_stored-stored.ensures) (record {
       same = record {
         lengths_same = refl;
         kinds_same = refl;
@@ -25,11 +24,11 @@ returns c =
         colors_same = refl;
         lengths_long = refl;
         kinds_long = length-set old.kinds.now i (kind_stored c.args.e);
-        points_long = part-length (8 * i) 8 places old.points.now long (omega arith);
+        points_long = over-length (8 * i) 8 places old.points.now long (omega arith);
         colors_long = refl;
       };
       lengths_are = refl;
       kinds_are = sym (over-next i (kind_stored c.args.e) [] old.kinds.now (omega arith) ∙ over_nothing (i + 1) _);
-      points_are = rw (append-nil places) (over-part (8 * i) 8 places old.points.now long);
+      points_are = rw (append-nil places) refl;
       colors_are = refl;
     })

@@ -1,6 +1,6 @@
 -- `add_edge_by_walk` meets its contract: the walk on the first n places of a copy, and then the copy taken over or the
 -- pair taken out.
-use mathlib.Core.Path.{◌≡◌, sym, ap, ◌∙◌}
+use mathlib.Core.Path.{◌≡◌, sym, ap, ap₂, ◌∙◌}
 use mathlib.Core.List.{List, ◌++◌}
 use Prim.Native.Nat.{ℕ}
 use lib.ListN.{length, take, drop, replicate}
@@ -51,4 +51,5 @@ returns-in-Kept-clause-answer c =
 pub returns-in-Declined-clause-answer : goal.returns-in-Declined-clause-answer
 returns-in-Declined-clause-answer c =
     let r = (goal.at.returns-in-Declined-clause-answer c).After-recolor-offer in
-    rw c.in-Declined.is (ap (outcome (declined c.in-Declined.field-0) (coloring r)) c.enter_pair.ensures ∙ by_end r _ c.in-Declined.is)
+    rw c.in-Declined.is (ap₂ (outcome (declined c.in-Declined.field-0)) c.enter_pair.ensures.colors c.enter_pair.ensures.entered
+    ∙ by_end r _ c.in-Declined.is)

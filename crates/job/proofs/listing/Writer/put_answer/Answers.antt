@@ -22,23 +22,20 @@ refused c =
     refused_text c.args.file.now (result_in c.args.shape) c.requires.holds_results (refusal_number c.in-Err.refusal) out
     (ap (λ r. outcome (colored_answer r) out) (sym c.in-Err.is) ∙ c.color-colored.ensures.colored)
 
+pub slice_bounds-edges-end : goal.slice_bounds-edges-end
+slice_bounds-edges-end c = sym (length-take-le _ _ (at_front (goal.at.slice_bounds-edges-end c).In-Ok).kinds-within)
+
+pub slice_bounds-edges-end-in-Ok : goal.slice_bounds-edges-end-in-Ok
+slice_bounds-edges-end-in-Ok c = sym (length-take-le _ _ (at_front (goal.at.slice_bounds-edges-end-in-Ok c).In-Ok).colors-within)
+
 pub slice_bounds-put_listing-end : goal.slice_bounds-put_listing-end
-slice_bounds-put_listing-end c = (at_front (goal.at.slice_bounds-put_listing-end c).In-Ok).lengths-within
+slice_bounds-put_listing-end c = sym (length-take-le _ _ (at_front (goal.at.slice_bounds-put_listing-end c).In-Ok).lengths-within)
 
-pub slice_bounds-put_listing-end-in-Ok : goal.slice_bounds-put_listing-end-in-Ok
-slice_bounds-put_listing-end-in-Ok c = sym (length-take-le _ _ (at_front (goal.at.slice_bounds-put_listing-end-in-Ok c).In-Ok).lengths-within)
+pub invariant_of-edges-clause-colored : goal.invariant_of-edges-clause-colored
+invariant_of-edges-clause-colored c = (at_front (goal.at.invariant_of-edges-clause-colored c).In-Ok).colored
 
-pub slice_bounds-put_listing-end-in-Ok-2 : goal.slice_bounds-put_listing-end-in-Ok-2
-slice_bounds-put_listing-end-in-Ok-2 c = (at_front (goal.at.slice_bounds-put_listing-end-in-Ok-2 c).In-Ok).kinds-within
-
-pub slice_bounds-put_listing-end-in-Ok-3 : goal.slice_bounds-put_listing-end-in-Ok-3
-slice_bounds-put_listing-end-in-Ok-3 c = sym (length-take-le _ _ (at_front (goal.at.slice_bounds-put_listing-end-in-Ok-3 c).In-Ok).kinds-within)
-
-pub slice_bounds-put_listing-end-in-Ok-4 : goal.slice_bounds-put_listing-end-in-Ok-4
-slice_bounds-put_listing-end-in-Ok-4 c = (at_front (goal.at.slice_bounds-put_listing-end-in-Ok-4 c).In-Ok).colors-within
-
-pub slice_bounds-put_listing-end-in-Ok-5 : goal.slice_bounds-put_listing-end-in-Ok-5
-slice_bounds-put_listing-end-in-Ok-5 c = sym (length-take-le _ _ (at_front (goal.at.slice_bounds-put_listing-end-in-Ok-5 c).In-Ok).colors-within)
+pub invariant_of-edges-clause-few : goal.invariant_of-edges-clause-few
+invariant_of-edges-clause-few c = (at_front (goal.at.invariant_of-edges-clause-few c).In-Ok).few
 
 pub put_listing-requires : goal.put_listing-requires
 put_listing-requires c =

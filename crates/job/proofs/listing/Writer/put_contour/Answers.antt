@@ -13,21 +13,21 @@ module _ (c : In-loop-place) where
   i = c.loop-place.place
 
   abbrev here : List ℕ
-  here = edge_line c.args.contour i (get_or c.args.kinds.now i 0) (get_or c.args.colors.now i 0)
+  here = edge_line c.args.contour i (get_or c.args.edges.kinds.now i 0) (get_or c.args.edges.colors.now i 0)
 
   abbrev later : List ℕ
-  later = contour_lines c.args.contour (i + 1) (drop (i + 1) c.args.kinds.now) (drop (i + 1) c.args.colors.now)
+  later = contour_lines c.args.contour (i + 1) (drop (i + 1) c.args.edges.kinds.now) (drop (i + 1) c.args.edges.colors.now)
 
-  step : contour_lines c.args.contour i (drop i c.args.kinds.now) (drop i c.args.colors.now) ≡ here ++ later
-  step = contour-step c.args.contour i c.args.kinds.now c.args.colors.now c.loop-place-test.true c.requires.sizes.2
+  step : contour_lines c.args.contour i (drop i c.args.edges.kinds.now) (drop i c.args.edges.colors.now) ≡ here ++ later
+  step = contour-step c.args.contour i c.args.edges.kinds.now c.args.edges.colors.now c.loop-place-test.true c.args.edges.colored
 
 pub loop-place-init : goal.loop-place-init
-loop-place-init c = writing_begin c.requires.room
+loop-place-init c = writing_begin c.requires.1
 
 pub put_line-requires : goal.put_line-requires
 put_line-requires c =
     let place = (goal.at.put_line-requires c).In-loop-place in
-    (c.requires.sizes.0, omega (arith, c.requires.sizes.1), writing_room (here place) (later place) (step place) c.loop-place.invariant)
+    (c.requires.0, omega (arith, c.args.edges.few), writing_room (here place) (later place) (step place) c.loop-place.invariant)
 
 pub loop-place-preserved : goal.loop-place-preserved
 loop-place-preserved c =
@@ -37,5 +37,5 @@ loop-place-preserved c =
 pub returns : goal.returns
 unfolding contour_lines
 returns c =
-    let none : drop c.loop-place.place c.args.kinds.now ≡ [] = drop_of_length-le c.args.kinds.now {i = c.loop-place.place} (omega arith) in
+    let none : drop c.loop-place.place c.args.edges.kinds.now ≡ [] = drop_of_length-le c.args.edges.kinds.now {i = c.loop-place.place} (omega arith) in
     writing_end (rw none at c.loop-place.invariant)

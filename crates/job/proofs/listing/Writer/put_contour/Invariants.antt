@@ -5,5 +5,5 @@ use Rattle.job.proofs.listing.WriterLaws.{Writing}
 use Rattle.job.proofs.listing.Writer.put_contour.Given as goal
 
 abbrev pub invariant-loop-place : goal.invariant-loop-place
-invariant-loop-place l = Writing (contour_lines l.contour 0 l.kinds l.colors) l.initial.self
-    (contour_lines l.contour l.place (drop l.place l.kinds) (drop l.place l.colors)) l.self
+invariant-loop-place l = Writing (contour_lines l.contour 0 l.edges.kinds.now l.edges.colors.now) l.initial.self
+    (contour_lines l.contour l.place (drop l.place l.edges.kinds.now) (drop l.place l.edges.colors.now)) l.self

@@ -9,16 +9,16 @@ use Rattle.job.proofs.listing.Writer.put_listing.Goals.{Start, After-put_shape}
 
 module _ (c : Start) where
   abbrev lines : List ℕ
-  lines = shape_lines 0 (cut c.args.lengths.now c.args.kinds.now) (cut c.args.lengths.now c.args.colors.now)
+  lines = shape_lines 0 (cut c.args.lengths.now c.args.edges.kinds.now) (cut c.args.lengths.now c.args.edges.colors.now)
 
   abbrev edges : List ℕ
-  edges = word_line edges_word (length c.args.kinds.now)
+  edges = word_line edges_word (length c.args.edges.kinds.now)
 
   abbrev last : List ℕ
   last = word_line stand_ins_word c.args.stand_ins
 
   room : HasRoom c.args.self.now (lines ++ (edges ++ last))
-  room = rw (listing_parts c.args.lengths.now c.args.kinds.now c.args.colors.now c.args.stand_ins c.requires.sizes.3) at c.requires.room
+  room = rw (listing_parts c.args.lengths.now c.args.edges.kinds.now c.args.edges.colors.now c.args.stand_ins c.requires.sizes.2) at c.requires.room
 
 -- room for what follows the lines
 counts : (c : After-put_shape) → let s = (goal.at.After-put_shape c).Start in HasRoom c.put_shape.new.self (edges s ++ last s)
@@ -32,16 +32,16 @@ put_shape-requires-clause-room c =
 pub put_word_line-requires : goal.put_word_line-requires
 put_word_line-requires c =
     let s = (goal.at.put_word_line-requires c).Start in
-    (c.requires.sizes.1, room_first (edges s) (last s) (counts (goal.at.put_word_line-requires c).After-put_shape))
+    (c.args.edges.few, room_first (edges s) (last s) (counts (goal.at.put_word_line-requires c).After-put_shape))
 
 pub put_word_line-requires-2 : goal.put_word_line-requires-2
 put_word_line-requires-2 c =
     let s = (goal.at.put_word_line-requires-2 c).Start in
-    (c.requires.sizes.2, room_then (edges s) (last s) (counts (goal.at.put_word_line-requires-2 c).After-put_shape) c.put_word_line.ensures)
+    (c.requires.sizes.1, room_then (edges s) (last s) (counts (goal.at.put_word_line-requires-2 c).After-put_shape) c.put_word_line.ensures)
 
 pub returns : goal.returns
 returns c =
     let s = (goal.at.returns c).Start in
-    rw (listing_parts c.args.lengths.now c.args.kinds.now c.args.colors.now c.args.stand_ins c.requires.sizes.3)
+    rw (listing_parts c.args.lengths.now c.args.edges.kinds.now c.args.edges.colors.now c.args.stand_ins c.requires.sizes.2)
     (writes_then (lines s) (edges s ++ last s) (room s) c.put_shape.ensures
     (writes_then (edges s) (last s) (counts (goal.at.returns c).After-put_shape) c.put_word_line.ensures c.put_word_line-2.ensures))

@@ -21,7 +21,7 @@ module _ (c : After-from) where
   n = c.from.result
 
   -- its edges lie in the buffers
-  inside : from + n ≤ length c.args.kinds.now
+  inside : from + n ≤ length c.args.edges.kinds.now
   inside = omega (arith, c.loop-contour.invariant.edges, c.from.ensures, total-step contour c.args.lengths.now c.loop-contour-test.true)
 
   -- as the code cuts them out
@@ -32,24 +32,24 @@ module _ (c : After-from) where
   is_n = omega arith
 
   abbrev here : List ℕ
-  here = contour_lines contour 0 (take k (drop from c.args.kinds.now)) (take k (drop from c.args.colors.now))
+  here = contour_lines contour 0 (take k (drop from c.args.edges.kinds.now)) (take k (drop from c.args.edges.colors.now))
 
   abbrev later : List ℕ
-  later = lines (contour + 1) (drop (contour + 1) c.args.lengths.now) (drop (from + n) c.args.kinds.now) (drop (from + n) c.args.colors.now)
+  later = lines (contour + 1) (drop (contour + 1) c.args.lengths.now) (drop (from + n) c.args.edges.kinds.now) (drop (from + n) c.args.edges.colors.now)
 
-  step : lines contour (drop contour c.args.lengths.now) (drop from c.args.kinds.now) (drop from c.args.colors.now) ≡ here ++ later
-  step = rw is_n (shape_step contour from n c.args.lengths.now c.args.kinds.now c.args.colors.now c.loop-contour-test.true c.from.ensures)
+  step : lines contour (drop contour c.args.lengths.now) (drop from c.args.edges.kinds.now) (drop from c.args.edges.colors.now) ≡ here ++ later
+  step = rw is_n (shape_step contour from n c.args.lengths.now c.args.edges.kinds.now c.args.edges.colors.now c.loop-contour-test.true c.from.ensures)
 
 pub loop-contour-init : goal.loop-contour-init
-loop-contour-init c = record { edges = omega (arith, c.requires.sizes.2); writing = writing_begin c.requires.room }
+loop-contour-init c = record { edges = omega (arith, c.requires.sizes.1); writing = writing_begin c.requires.room }
 
-pub slice_bounds-put_contour-end : goal.slice_bounds-put_contour-end
-slice_bounds-put_contour-end c = omega (arith, inside (goal.at.slice_bounds-put_contour-end c).After-from)
+pub slice_bounds-part-end : goal.slice_bounds-part-end
+slice_bounds-part-end c = omega (arith, inside (goal.at.slice_bounds-part-end c).After-from)
 
-pub put_contour-requires-clause-room : goal.put_contour-requires-clause-room
-put_contour-requires-clause-room c =
-    let at = (goal.at.put_contour-requires-clause-room c).After-from in
-    writing_room (here at) (later at) (step at) c.loop-contour.invariant.writing
+pub put_contour-requires : goal.put_contour-requires
+put_contour-requires c =
+    let at = (goal.at.put_contour-requires c).After-from in
+    (omega (arith, c.loop-contour-test.true, c.requires.sizes.0), writing_room (here at) (later at) (step at) c.loop-contour.invariant.writing)
 
 pub loop-contour-preserved : goal.loop-contour-preserved
 loop-contour-preserved c =

@@ -12,7 +12,7 @@ lines contour lengths kinds colors = shape_lines contour (cut lengths kinds) (cu
 
 abbrev pub invariant-loop-contour : goal.invariant-loop-contour
 invariant-loop-contour l = record {
-  edges : l.from + total (drop l.contour l.lengths) ≡ length l.kinds;
-  writing : Writing (lines 0 l.lengths l.kinds l.colors) l.initial.self
-      (lines l.contour (drop l.contour l.lengths) (drop l.from l.kinds) (drop l.from l.colors)) l.self;
+  edges : l.from + total (drop l.contour l.lengths) ≡ length l.edges.kinds.now;
+  writing : Writing (lines 0 l.lengths l.edges.kinds.now l.edges.colors.now) l.initial.self
+      (lines l.contour (drop l.contour l.lengths) (drop l.from l.edges.kinds.now) (drop l.from l.edges.colors.now)) l.self;
 }
