@@ -107,7 +107,8 @@ fn coordinates_fit(kinds: &[u8], points: &[f64]) -> bool
         .all(|(kind, places)| places_fit(used(*kind, places)))
 }
 
-// Values, written from place `at` on into a longer buffer.
+// Values, written from place `at` on into a longer buffer. In line, since a few places of a known number are no call.
+#[inline(always)]
 #[tactic(auto, unfolding(crate::specs::Lists::over_from, crate::specs::Lists::over))]
 pub(crate) fn write_from<T: Copy>(values: &[T], at: usize, out: &mut [T])
     requires { at + length values.now ≤ length out.old }
