@@ -2,7 +2,7 @@
 ghost use Rattle.std.specs.Prelude.{◌≡◌};
 ghost use Rattle.geometry.specs.EdgeColor.{bits_of, from_bits, has_red, has_green, has_blue, has_channel};
 
-#[derive(Clone, Copy, Default, PartialEq, Eq)]
+#[derive(Clone, Copy, PartialEq, Eq)]
 pub enum EdgeColor {
     Black,
     Red,
@@ -11,8 +11,18 @@ pub enum EdgeColor {
     Blue,
     Magenta,
     Cyan,
-    #[default]
     White,
+}
+
+// By hand: its law says which colour it is.
+impl Default for EdgeColor {
+    ghost use Rattle.geometry.specs.declared.edge_color.EdgeColor.{EdgeColor};
+
+    ghost is_default = { λ color. color ≡ EdgeColor.White };
+
+    fn default() -> EdgeColor {
+        EdgeColor::White
+    }
 }
 
 impl EdgeColor {

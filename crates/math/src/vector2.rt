@@ -24,6 +24,13 @@ pub struct Normalized {
 impl Vector2 {
     pub const ZERO: Vector2 = Vector2 { x: 0.0, y: 0.0 };
 
+    // The same by a function, whose contract says which vector it is.
+    pub fn zero() -> Vector2
+        ensures { result ≡ zero_vector }
+    {
+        Vector2::ZERO
+    }
+
     pub fn new(x: f64, y: f64) -> Vector2
         ensures { result ≡ new x y }
     {
