@@ -1,6 +1,6 @@
 /* How much stack each function uses. A thread's stack is painted; below the caller's frame, what a call has overwritten
  * is its use. The inputs take every way through the library that needs much: 32 drops of two edges, split in thirds,
- * with 64 splines and 2016 distances. */
+ * with 64 splines and 2016 distances; and a zigzag of 256 edges, each of which starts at a corner. */
 #define _GNU_SOURCE
 #include <pthread.h>
 #include <stdio.h>
@@ -24,6 +24,18 @@ static uint64_t numbers[6];
 #define OUTLINE lengths, CONTOURS, kinds, EDGES, points, 8 * EDGES
 #define RESULT out_lengths, 64, out_kinds, 508, out_points, 8 * 508, out_bytes, 508
 
+static uint16_t zigzag_lengths[] = {MERELSPLUM_MAX_EDGES};
+static uint8_t zigzag_kinds[MERELSPLUM_MAX_EDGES];
+static double zigzag_points[8 * MERELSPLUM_MAX_EDGES];
+
+#define ZIGZAG zigzag_lengths, 1, zigzag_kinds, MERELSPLUM_MAX_EDGES, zigzag_points, 8 * MERELSPLUM_MAX_EDGES
+
+static uint64_t zigzag_simple(void) { return merelsplum_edge_coloring_simple(ZIGZAG, 0.125, 7, RESULT); }
+static uint64_t zigzag_ink_trap(void) { return merelsplum_edge_coloring_ink_trap(ZIGZAG, 0.125, 7, RESULT); }
+static uint64_t zigzag_directions(void) {
+    return merelsplum_edge_directions(
+        ZIGZAG, out_directions, 4 * MERELSPLUM_MAX_EDGES, out_stand_ins, 2 * MERELSPLUM_MAX_EDGES);
+}
 static uint64_t simple(void) { return merelsplum_edge_coloring_simple(OUTLINE, 0.125, 7, RESULT); }
 static uint64_t ink_trap(void) { return merelsplum_edge_coloring_ink_trap(OUTLINE, 0.125, 7, RESULT); }
 static uint64_t by_distance(void) {
@@ -68,6 +80,9 @@ static const struct {
     {"edge_coloring_by_distance_balanced", by_distance_balanced},
     {"collect_splines_balanced", collect_balanced},
     {"edge_directions", directions},
+    {"edge_coloring_simple, 256 edges", zigzag_simple},
+    {"edge_coloring_ink_trap, 256 edges", zigzag_ink_trap},
+    {"edge_directions, 256 edges", zigzag_directions},
     {"try_add_edge", offer},
     {"job_read", job_read},
     {"job_balanced", job_balanced},
@@ -128,6 +143,12 @@ static void prepare(void) {
             memcpy(points + 8 * (2 * c + e), edges[e], sizeof edges[e]);
             put("QD", 2), put(edges[e], sizeof edges[e]);
         }
+    }
+    for (int e = 0; e < MERELSPLUM_MAX_EDGES; e++) {
+        double *p = zigzag_points + 8 * e;
+        zigzag_kinds[e] = MERELSPLUM_LINE;
+        p[0] = e, p[1] = 10 * (e % 2);
+        p[2] = (e + 1) % MERELSPLUM_MAX_EDGES, p[3] = 10 * ((e + 1) % 2);
     }
     for (int i = 0; i < MERELSPLUM_MAX_DISTANCES; i++)
         distances[i] = 1 + i * 37 % 2017;

@@ -3,5 +3,6 @@ pub mod DistanceLaws
 pub mod InsertLaws
 pub mod EachLaws
 pub mod PairLaws
+pub mod MergeLaws
 pub mod OnlyOrder
 pub mod SortedLaws

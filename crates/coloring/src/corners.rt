@@ -95,7 +95,9 @@ fn compare_neighbors(lengths: &[u16], directions: &[f64], threshold: f64, flags:
 
 // The directions of all edges, in arrays of their own, then the corners of all contours. The answer is how many
 // directions are stand-ins. Two flat arrays, since one function fills these and the buffers of C: an array of structs
-// would need a second one. Two sizes, since an array's length is no product of a const parameter.
+// would need a second one. Two sizes, since an array's length is no product of a const parameter. Out of line, so that
+// the arrays are off the stack when the colours are found.
+#[inline(never)]
 fn search_corners<const PLACES: usize, const STAND_INS: usize>(
     lengths: &[u16],
     edges: StoredEdges,
@@ -113,7 +115,7 @@ fn search_corners<const PLACES: usize, const STAND_INS: usize>(
     let mut ends = [0u8; STAND_INS];
     let directions = &mut places[..4 * n];
     let marks = &mut ends[..2 * n];
-    unit_directions(edges, directions, marks);
+    unit_directions(lengths, edges, directions, marks);
     compare_neighbors(lengths, directions, threshold, flags);
     count_marks(marks)
 }
@@ -138,11 +140,15 @@ pub(crate) fn find_corners(
 
 // ---- what the flags of a contour say
 
-// How many corners there are.
+// How many corners there are. No `filter` and `count`: without a branch on a flag it goes over many at a time.
 pub(crate) fn count_corners(flags: &[bool]) -> usize
     ensures { result ≡ corner_count flags.now }
 {
-    flags.iter().filter(|flag| **flag).count()
+    let mut count = 0;
+    for flag in flags {
+        count += usize::from(*flag);
+    }
+    count
 }
 
 // Where the first is; 0 where there is none.

@@ -61,17 +61,29 @@ pub(crate) fn count_marks(marks: &[u8]) -> usize
     marks.iter().map(|mark| *mark as usize).sum()
 }
 
-// The directions of all edges, and whether they are stand-ins. By place, since an edge has places of its own in two
-// buffers.
-pub(crate) fn unit_directions(edges: StoredEdges, out: &mut [f64], marks: &mut [u8])
-    requires { (length out.old ≡ 4 * length edges.kinds.now) × (length marks.old ≡ 2 * length edges.kinds.now) }
+// The directions of all edges, and whether they are stand-ins. Contour by contour, since the compiler puts the root in
+// its place only in two loops; by place, since an edge has places of its own in two buffers. `at` as in count_shape of
+// shape.rt.
+pub(crate) fn unit_directions(
+    lengths: &[u16],
+    edges: StoredEdges,
+    out: &mut [f64],
+    marks: &mut [u8],
+)
+    requires sizes { total lengths.now ≡ length edges.kinds.now }
+    requires out_len { (length out.old ≡ 4 * length edges.kinds.now) × (length marks.old ≡ 2 * length edges.kinds.now) }
     ensures out_after { out.new ≡ encode_directions (directions_of (stored_edges edges.entry)) }
     ensures marks_after { marks.new ≡ marks_of (directions_of (stored_edges edges.entry)) }
 {
-    for i in 0..edges.len() {
-        let d = edges.at(i).unit_directions();
-        write_from(&direction_places(d), 4 * i, out);
-        write_from(&stand_in_marks(d), 2 * i, marks);
+    let mut at: usize = 0;
+    for length in lengths {
+        let end = at + *length as usize;
+        for i in at..end {
+            let d = edges.at(i).unit_directions();
+            write_from(&direction_places(d), 4 * i, out);
+            write_from(&stand_in_marks(d), 2 * i, marks);
+        }
+        at = end;
     }
 }
 
@@ -95,6 +107,7 @@ pub fn edge_directions(
         return Err(Refusal::ResultTooShort);
     }
     unit_directions(
+        outline.lengths,
         edges,
         &mut out_directions[..places],
         &mut out_stand_ins[..marks],

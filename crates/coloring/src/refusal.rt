@@ -5,27 +5,27 @@ ghost use Rattle.coloring.specs.Refusal.{refusal_number};
 
 #[derive(Clone, Copy, PartialEq, Eq, Debug)]
 pub enum Refusal {
-    // "torn": the file ends inside a record or before its end mark
+    // 1, "torn": the file ends inside a record or before its end mark
     Truncated = 1,
-    // "unmarked"
+    // 2, "unmarked"
     UnknownMark = 2,
-    // "stray": a known mark where it may not stand
+    // 3, "stray": a known mark where it may not stand
     MisplacedMark = 3,
-    // "overfull": contours, edges, splines or distances above the maximum
+    // 4, "overfull": contours, edges, splines or distances above the maximum
     TooMany = 4,
-    // "no such kind": strategy or edge kind
+    // 5, "no such kind": strategy or edge kind
     UnknownKind = 5,
-    // "bad threshold"
+    // 6, "bad threshold"
     BadThreshold = 6,
-    // "off the sheet": a coordinate beyond its range or not finite
+    // 7, "off the sheet": a coordinate beyond its range or not finite
     BadCoordinate = 7,
-    // "miscounted": lengths that disagree
+    // 8, "miscounted": lengths that disagree
     LengthMismatch = 8,
-    // "bad distance"
+    // 9, "bad distance"
     BadDistance = 9,
-    // "bad table"
+    // 10, "bad table"
     BadTable = 10,
-    // "short tray": the result would not fit
+    // 11, "short tray": the result would not fit
     ResultTooShort = 11,
 }
 

@@ -1,6 +1,7 @@
 // By-distance colouring without outlines, after coloring/by_distance.rs from "Sorted list of graph
 // edges" to the end of the offers: from the distances between splines and a seed to their colours.
-ghost use Rattle.std.specs.Prelude.{◌≡◌, map, ◌*◌, ◌-◌, ◌/◌, length, position, not};
+ghost use Rattle.std.specs.Prelude.{◌≡◌, ◌≤◌, map, ◌*◌, ◌-◌, ◌/◌, length, position, not};
+ghost use Rattle.coloring.specs.Limits.{max_distances};
 ghost use Rattle.coloring.specs.SplineTable.{table_in, SameTable};
 ghost use Rattle.coloring.specs.Sequence.{run};
 ghost use Rattle.coloring.specs.PairOrder.{ValidDistances};
@@ -10,7 +11,7 @@ ghost use Rattle.coloring.specs.SplineColors.{is_zero, enter_pairs, color_in_ord
 ghost use Rattle.coloring.specs.SplineColors.{check_splines, splines_colored, color_splines_into};
 
 use crate::edge_matrix::EdgeMatrix;
-use crate::limits::{MAX_DISTANCES, MAX_ENTRIES, MAX_SPLINES};
+use crate::limits::{FEW_DISTANCES, MAX_DISTANCES, MAX_ENTRIES, MAX_SPLINES};
 use crate::pair_order::{GraphEdge, distances_valid, order_pairs};
 use crate::refusal::Refusal;
 use crate::second_degree::color_second_degree_graph;
@@ -73,15 +74,18 @@ fn color_in_order(table: &mut SplineTable, order: &[GraphEdge], seed: u64)
     offer_pairs(table, others);
 }
 
-// The colours of splines whose distances passed the checks.
-fn color_valid(distances: &[f64], seed: u64, coloring: &mut [u8])
-    requires { ValidDistances (length coloring.old) distances.now }
+// The colours of splines whose distances passed the checks, with places for so many pairs. Out of line, so that no other
+// colouring has these places on its stack.
+#[inline(never)]
+fn color_with_room<const PAIRS: usize>(distances: &[f64], seed: u64, coloring: &mut [u8])
+    requires valid { ValidDistances (length coloring.old) distances.now }
+    requires room { (length distances.now ≤ PAIRS) × (PAIRS ≤ max_distances) }
     ensures { coloring.new ≡ color_splines (length coloring.old) distances.now seed }
 {
     let n = coloring.len();
     let m = distances.len();
     let size = n * n;
-    let mut edges = [GraphEdge::default(); MAX_DISTANCES];
+    let mut edges = [GraphEdge::default(); PAIRS];
     let mut edge_matrix = [0u8; MAX_ENTRIES];
     order_pairs(&mut edges[..m], distances, n);
     let mut table = SplineTable {
@@ -89,6 +93,18 @@ fn color_valid(distances: &[f64], seed: u64, coloring: &mut [u8])
         edge_matrix: &mut edge_matrix[..size],
     };
     color_in_order(&mut table, &edges[..m], seed);
+}
+
+// The same, in few places for the splines of most glyphs, since they are filled whole.
+fn color_valid(distances: &[f64], seed: u64, coloring: &mut [u8])
+    requires { ValidDistances (length coloring.old) distances.now }
+    ensures { coloring.new ≡ color_splines (length coloring.old) distances.now seed }
+{
+    if distances.len() <= FEW_DISTANCES {
+        color_with_room::<FEW_DISTANCES>(distances, seed, coloring)
+    } else {
+        color_with_room::<MAX_DISTANCES>(distances, seed, coloring)
+    }
 }
 
 // How many pairs so many splines have.

@@ -1,28 +1,44 @@
 -- The flags of a contour, place by place: which of them are corners.
 use mathlib.Core.Path.{◌≡◌, refl, ap, ◌∙◌}
 use Rattle.std.proofs.Common.{unwrap_or}
-use Rattle.std.specs.List.{count_by, position, position_from}
+use Rattle.std.specs.List.{position, position_from}
 use Rattle.std.proofs.lemmas.Iterator.Adapters.{position_from-zero}
-use Rattle.std.proofs.lemmas.List.Sums.{sum_by-cons}
 use mathlib.Core.Bool.{Bool, true, false}
 use mathlib.Core.List.{List, [], ◌∷◌}
 use Prim.Native.Nat.{ℕ, suc, ◌+◌, ◌≤◌, ◌<◌}
 use native.Mathlib.Omega.{arith}
 use native.Mathlib.Numerals.{add-one}
-use lib.ListN.{length, get_or}
+use lib.ListN.{length, drop, get_or, drop_of_length-le}
+use lib.Seq.{drop-cons}
+use mir.Val.{bool_byte}
+use Rattle.coloring.specs.Bools.{split}
 use Rattle.coloring.specs.Corners.{corners_from, corners_of, corner_count, first_corner}
 
--- as the library counts and finds them
-counted_from : (i : ℕ) (flags : List Bool) → count_by (λ flag. flag) flags ≡ length (corners_from i flags)
-unfolding corners_from
-counted_from i [] = refl
-counted_from i (true ∷ flags) = rw sum_by-cons (omega (arith, counted_from (suc i) flags))
-counted_from i (false ∷ flags) = rw sum_by-cons (omega (arith, counted_from (suc i) flags))
+-- a flag counts for at most one
+pub flag_few : (flag : Bool) → bool_byte flag ≤ 1
+flag_few true = omega arith
+flag_few false = omega arith
 
-pub counted : (flags : List Bool) → count_by (λ flag. flag) flags ≡ corner_count flags
-unfolding corner_count corners_of
-counted flags = counted_from 0 flags
+module _ (flags : List Bool) (i : ℕ) where
+  pub places_corner : i < length flags → get_or flags i false ≡ true → corners_from i (drop i flags) ≡ i ∷ corners_from (i + 1) (drop (i + 1) flags)
+  unfolding corners_from
+  places_corner h t = rw (drop-cons flags i false h, t, add-one)
 
+  pub places-none : i < length flags → get_or flags i false ≡ false → corners_from i (drop i flags) ≡ corners_from (i + 1) (drop (i + 1) flags)
+  unfolding corners_from
+  places-none h t = rw (drop-cons flags i false h, t, add-one)
+
+  pub places_end : length flags ≤ i → corners_from i (drop i flags) ≡ []
+  unfolding corners_from
+  places_end h = rw (drop_of_length-le flags h)
+
+  -- a flag more, counted
+  pub places_counted : i < length flags
+      → bool_byte (get_or flags i false) + length (corners_from (i + 1) (drop (i + 1) flags)) ≡ length (corners_from i (drop i flags))
+  places_counted h =
+      split (get_or flags i false) (λ t. rw (t, places_corner h t) (omega arith)) (λ t. rw (t, places-none h t) (omega arith))
+
+-- as the library finds them
 found_from : (i : ℕ) (flags : List Bool) → unwrap_or (position_from (λ flag. flag) i flags) 0 ≡ get_or (corners_from i flags) 0 0
 unfolding corners_from
 found_from i [] = refl

@@ -8,7 +8,7 @@ use native.Mathlib.Numerals.{add-one}
 use lib.Dec.{leb}
 use borrow.Author.Tests.{leb-true}
 use lib.Ieee.{Float}
-use lib.ListN.{length, take, drop, get_or}
+use lib.ListN.{length, take, drop, get_or, drop_of_length-le}
 use lib.Seq.{drop-cons, take-take}
 use Rattle.std.specs.List.{sum, list_all, zip}
 use Rattle.std.specs.Simd.{first_chunks}
@@ -25,6 +25,10 @@ sum-total numbers = sym (is_sum_by total (λ n. n) refl (λ _ _. refl) numbers)
 pub total-step : (lengths : List ℕ) (i : ℕ) → i < length lengths → total (drop i lengths) ≡ get_or lengths i 0 + total (drop (i + 1) lengths)
 unfolding total
 total-step lengths i h = rw (drop-cons lengths i 0, add-one)
+
+pub total_end : (lengths : List ℕ) (i : ℕ) → length lengths ≤ i → total (drop i lengths) ≡ 0
+unfolding total
+total_end lengths i h = rw (drop_of_length-le lengths h)
 
 -- a known kind uses at most eight places
 few_places : (kind : ℕ) → known_kind kind ≡ true → used_places kind ≤ 8

@@ -132,6 +132,10 @@ returns-then-places-out_directions c =
           marks-short (given start) (old start) (passed at) w.if-places-out_directions.false w.if-marks-out_stand_ins.true
     ]
 
+pub unit_directions-requires-clause-sizes : goal.unit_directions-requires-clause-sizes
+unit_directions-requires-clause-sizes c =
+    sym (agreed (goal.at.unit_directions-requires-clause-sizes c).In_ok-check_outline).edges
+
 pub returns : goal.returns
 returns c =
     let at = (goal.at.returns c).In_ok-check_outline in

@@ -164,7 +164,7 @@ returns-then-splits c =
       edges,
       get_d_any values 0 (middle_value a.settings.marking) 0 (omega (arith, two then_splits)),
       get_d_any values 1 (middle_value a.settings.marking) 0 (omega (arith, two then_splits)),
-    )
+    ) refl
     ) in
     let stored : StoredFrom a.to (layout here).edges a.out.now c.split_edges.new.out = rw layout-is (rw c.first_corner.ensures at c.split_edges.ensures) in
     written (layout here) (bytes start) stored
