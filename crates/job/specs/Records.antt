@@ -324,13 +324,13 @@ pub data Finding : Type 0 where
   finished : Finding
   faulty : ℕ → Finding
 
--- how many bytes the record of an item takes
+-- how many bytes the record of an item takes: the mark's two, the body's, and of DS 8 for each distance
 abbrev pub item_size : Item → ℕ
-item_size (item.Header h) = 2 + header_size
-item_size item.Balanced = 2
-item_size item.Contour = 2
-item_size (item.Edge kind) = 2 + 16 * controls kind
-item_size (item.Distances count) = 4 + 8 * count
+item_size (item.Header h) = 2 + body_size Header
+item_size item.Balanced = 2 + body_size Balanced
+item_size item.Contour = 2 + body_size Contour
+item_size (item.Edge kind) = 2 + body_size (Edge kind)
+item_size (item.Distances count) = 2 + body_size Distances + 8 * count
 
 -- what the code reads: an item or a refusal, and with the end
 abbrev pub item_answer : Result Item Refusal → Finding

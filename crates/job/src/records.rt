@@ -173,9 +173,10 @@ impl Item {
     {
         match self {
             Item::Header(_) => 2 + Mark::Header.body_size(),
-            Item::Balanced | Item::Contour => 2,
+            Item::Balanced => 2 + Mark::Balanced.body_size(),
+            Item::Contour => 2 + Mark::Contour.body_size(),
             Item::Edge(kind) => 2 + Mark::Edge(kind).body_size(),
-            Item::Distances(count) => 4 + 8 * usize::from(count),
+            Item::Distances(count) => 2 + Mark::Distances.body_size() + 8 * usize::from(count),
         }
     }
 }
