@@ -2,12 +2,16 @@
 // how many contours are asked for, what checking answers, whether teardrops are balanced), two words for each contour
 // (the place of its part and how many bytes it has), the file, and its listing, each filled up to words.
 use crate::shapes::BYTE;
-use crate::words::{Reader, are_bytes};
+use crate::words::{MOST_FILE_BYTES, Reader, are_bytes, within};
 use capi::job_file::{
     BYTES, merelsplum_job_balanced, merelsplum_job_check, merelsplum_job_contour_part,
     merelsplum_job_listing,
 };
+use job::limits::MAX_TEXT;
 use job::part::contour_part;
+
+// The most contours that are asked for.
+const MOST_ASKED: usize = 300;
 
 // Whether the part of a contour is where two words say, and has the bytes that stand there.
 fn is_part(file: &[u8], contour: usize, words: &[u8]) -> bool {
@@ -30,14 +34,15 @@ fn is_listing(file: &[u8], s: &[u8]) -> bool {
 pub(crate) fn is_right(s: &[u8]) -> bool {
     let mut record = Reader::body(s);
     let [file_bytes, listing_bytes, contours, check, balanced] = record.words::<5>();
-    let places = record.words_of((contours as usize).saturating_mul(2));
-    let filled = record.words_of((file_bytes as usize).div_ceil(8));
-    let file = Reader::new(filled).part(file_bytes as usize);
+    let places = record.words_of(2 * within(contours, MOST_ASKED));
+    let file_bytes = within(file_bytes, MOST_FILE_BYTES);
+    let file = record.part(file_bytes);
+    record.part(file_bytes.next_multiple_of(8) - file_bytes);
     merelsplum_job_check(file) == check
         && merelsplum_job_balanced(file) == balanced
         && places
             .chunks_exact(16)
             .enumerate()
             .all(|(contour, words)| is_part(file, contour, words))
-        && is_listing(file, record.part(listing_bytes as usize))
+        && is_listing(file, record.part(within(listing_bytes, MAX_TEXT)))
 }

@@ -3,7 +3,10 @@
 // have, the answer, where the job begins); the six numbers at the end; the file; and the job: lengths, kinds, point
 // places, distances. A length is a word.
 use crate::shapes::{BYTE, LENGTH, PLACE, are_lengths, are_points};
-use crate::words::{Reader, are_bytes, first};
+use crate::words::{
+    MOST_CONTOURS, MOST_DISTANCES, MOST_EDGES, MOST_FILE_BYTES, MOST_START, Reader, are_bytes,
+    first, within,
+};
 use capi::job_file::merelsplum_job_read;
 use math::bits::float;
 
@@ -15,24 +18,25 @@ pub(crate) fn is_right(s: &[u8]) -> bool {
     let [answer, start] = record.words::<2>();
     let expected = record.words::<6>();
     let mut job = Reader::new(s);
-    job.part(start as usize);
+    job.part(within(start, MOST_START));
     let mut lengths = [LENGTH; 90];
     let mut kinds = [BYTE; 540];
     let mut points = [float(PLACE); 2120];
     let mut distances = [float(PLACE); 2100];
     let mut numbers = [PLACE; 6];
     let found = merelsplum_job_read(
-        record.part(bytes as usize),
+        record.part(within(bytes, MOST_FILE_BYTES)),
         first(&mut lengths, out_lengths),
         first(&mut kinds, out_kinds),
         first(&mut points, out_points),
         first(&mut distances, out_distances),
         &mut numbers,
     );
+    let edges = within(edges, MOST_EDGES);
     found == answer
         && numbers == expected
-        && are_lengths(job.words_of(contours as usize), &lengths)
-        && are_bytes(job.part(edges as usize), &kinds, BYTE)
-        && are_points(job.words_of((edges as usize).saturating_mul(8)), &points)
-        && are_points(job.words_of(pairs as usize), &distances)
+        && are_lengths(job.words_of(within(contours, MOST_CONTOURS)), &lengths)
+        && are_bytes(job.part(edges), &kinds, BYTE)
+        && are_points(job.words_of(8 * edges), &points)
+        && are_points(job.words_of(within(pairs, MOST_DISTANCES)), &distances)
 }

@@ -6,7 +6,10 @@
 // outline (72) go to the buffer of point places, four an edge, and the marks of stand-ins to that of colours, two an
 // edge; they are the whole result. 73 to 76 are 65 to 68 by the balanced division.
 use crate::function::{Call, Entry};
-use crate::words::{Reader, are_bytes, are_words, first, load_words, same};
+use crate::words::{
+    MOST_CONTOURS, MOST_DISTANCES, MOST_EDGES, MOST_FILE_BYTES, MOST_START, Reader, are_bytes,
+    are_words, first, same, within,
+};
 use capi::answers::{COUNT, REFUSED};
 use capi::balanced::{
     merelsplum_collect_splines_balanced, merelsplum_edge_coloring_by_distance_balanced,
@@ -25,9 +28,6 @@ pub(crate) const LENGTH: u16 = 0xA5A5;
 pub(crate) const BYTE: u8 = 0xA5;
 
 pub(crate) const PLACE: u64 = 0xC0FE_2408_0000_0000;
-
-// How many bytes the thirteen words have.
-const HEAD_BYTES: usize = 104;
 
 pub(crate) fn are_lengths(s: &[u8], lengths: &[u16]) -> bool {
     are_words(s, lengths, u64::from(LENGTH), |x, w| u64::from(x) == w)
@@ -81,7 +81,7 @@ impl Head {
         let edges = (self.answer % COUNT) as usize;
         match call {
             Call::Outline(Entry::Directions) => [0, 0, 2 * edges, 4 * edges],
-            _ => [self.lengths as usize, edges, edges, 8 * edges],
+            _ => [within(self.lengths, MOST_CONTOURS), edges, edges, 8 * edges],
         }
     }
 }
@@ -190,25 +190,23 @@ fn call_on(entry: Entry, input: Input, out: &mut ResultBuffers) -> u64 {
     }
 }
 
-// Makes the call of an entry on the outline that goes in, whose end are the distances.
+// Makes the call of an entry on the outline that goes in, and on the distances, which end where the result begins.
 fn call_entry(entry: Entry, head: &Head, mut record: Reader, out: &mut ResultBuffers) -> u64 {
-    let mut lengths = [0; 80];
+    let mut lengths = [0; MOST_CONTOURS];
+    let mut kinds = [0; MOST_EDGES];
     let mut points = [0.0; 2120];
-    let mut distances = [0.0; 2020];
+    let mut distances = [0.0; MOST_DISTANCES];
     let outline = OutlineBuffers {
-        lengths: load_words(
-            record.words_of(head.lengths as usize),
-            &mut lengths,
-            |w| (w % 65536) as u16,
-        ),
-        kinds: record.part(head.kinds as usize),
-        points: load_words(record.words_of(head.points as usize), &mut points, float),
+        lengths: record.load_words(head.lengths, &mut lengths, |w| (w % 65536) as u16),
+        kinds: record.load(head.kinds, &mut kinds),
+        points: record.load_words(head.points, &mut points, float),
     };
+    let distance_bytes = within(head.start, MOST_START).saturating_sub(record.at);
     let input = Input {
         outline,
         threshold: float(head.threshold),
         seed: head.seed,
-        distances: load_words(record.rest, &mut distances, float),
+        distances: record.load_words(distance_bytes as u64 / 8, &mut distances, float),
     };
     call_on(entry, input, out)
 }
@@ -221,7 +219,7 @@ fn call_file(file: &[u8], out: &mut ResultBuffers) -> u64 {
 fn make(call: Call, head: &Head, mut input: Reader, out: &mut ResultBuffers) -> u64 {
     match call {
         Call::Outline(entry) => call_entry(entry, head, input, out),
-        Call::JobFile => call_file(input.part(head.threshold as usize), out),
+        Call::JobFile => call_file(input.part(within(head.threshold, MOST_FILE_BYTES)), out),
     }
 }
 
@@ -229,7 +227,8 @@ fn make(call: Call, head: &Head, mut input: Reader, out: &mut ResultBuffers) -> 
 pub(crate) fn is_right(s: &[u8], call: Call) -> bool {
     let mut record = Reader::body(s);
     let head = Head::read(&mut record);
-    let input = Reader::new(record.part((head.start as usize).saturating_sub(HEAD_BYTES)));
+    let mut result = Reader::new(s);
+    result.part(within(head.start, MOST_START));
     let mut lengths = [LENGTH; 90];
     let mut kinds = [BYTE; 540];
     let mut points = [float(PLACE); 4100];
@@ -240,11 +239,11 @@ pub(crate) fn is_right(s: &[u8], call: Call) -> bool {
         points: first(&mut points, head.out_points),
         colors: first(&mut colors, head.out_colors),
     };
-    let answer = make(call, &head, input, &mut out);
+    let answer = make(call, &head, record, &mut out);
     let [contours, edges, marks, places] = head.result_sizes(call);
     answer == head.answer
-        && are_lengths(record.words_of(contours), &lengths)
-        && are_bytes(record.part(edges), &kinds, BYTE)
-        && are_bytes(record.part(marks), &colors, BYTE)
-        && are_points(record.words_of(places), &points)
+        && are_lengths(result.words_of(contours), &lengths)
+        && are_bytes(result.part(edges), &kinds, BYTE)
+        && are_bytes(result.part(marks), &colors, BYTE)
+        && are_points(result.words_of(places), &points)
 }

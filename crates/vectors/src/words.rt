@@ -1,10 +1,22 @@
 // Words, floats and parts out of bytes, and whether a value is the one that a word records. The records of one part
 // follow a heading: a word of ones and the part's name, 16 bytes.
-ghost use Rattle.std.specs.Prelude.{◌≡◌};
+ghost use Rattle.std.specs.Prelude.{◌≡◌, ◌≤◌};
 ghost use Rattle.vectors.specs.Words.{word_at, matches};
 
 use math::bits::float;
 use math::vector2::Vector2;
+
+// The most that a record says of a job file's bytes, of an outline's contours and edges, of distances, and of the place
+// where its result begins.
+pub(crate) const MOST_FILE_BYTES: usize = 65_536;
+
+pub(crate) const MOST_CONTOURS: usize = 80;
+
+pub(crate) const MOST_EDGES: usize = 264;
+
+pub(crate) const MOST_DISTANCES: usize = 2020;
+
+pub(crate) const MOST_START: usize = 300_000;
 
 // The word of eight bytes from at on, the lowest first, and 0 where s ends before, as specs/ has it.
 #[tactic(auto, unfolding(crate::specs::Words::word_at))]
@@ -19,15 +31,16 @@ pub(crate) fn word(s: &[u8], at: usize) -> u64
     0
 }
 
-// What is left of a record, read from its start on.
+// The bytes of a record, and the place of what is read next, which may lie beyond them.
 #[derive(Clone, Copy)]
 pub(crate) struct Reader<'a> {
-    pub(crate) rest: &'a [u8],
+    bytes: &'a [u8],
+    pub(crate) at: usize,
 }
 
 impl<'a> Reader<'a> {
     pub(crate) fn new(s: &'a [u8]) -> Reader<'a> {
-        Reader { rest: s }
+        Reader { bytes: s, at: 0 }
     }
 
     // What follows in a record behind its number and how many bytes it has.
@@ -37,15 +50,11 @@ impl<'a> Reader<'a> {
         record
     }
 
-    // The next len bytes, or none where fewer are left.
+    // The next len bytes, or none where fewer are left. What comes after them is read next in both cases.
     pub(crate) fn part(&mut self, len: usize) -> &'a [u8] {
-        match self.rest.split_at_checked(len) {
-            Some((part, rest)) => {
-                self.rest = rest;
-                part
-            }
-            None => &[],
-        }
+        let start = self.at;
+        self.at = start.saturating_add(len);
+        self.bytes.get(start..self.at).unwrap_or(&[])
     }
 
     // The bytes of the next count words.
@@ -60,6 +69,33 @@ impl<'a> Reader<'a> {
             *place = word(self.part(8), 0);
         }
         words
+    }
+
+    // The first places of t, as many as are recorded, with the next bytes, or as they were where fewer are left.
+    pub(crate) fn load<'t>(&mut self, count: u64, t: &'t mut [u8]) -> &'t mut [u8] {
+        let start = first(t, count);
+        let part = self.part(start.len());
+        if part.len() == start.len() {
+            start.copy_from_slice(part);
+        }
+        start
+    }
+
+    // The same with the values of the next words.
+    pub(crate) fn load_words<'t, T: Drop, F: Fn(u64) -> T>(
+        &mut self,
+        count: u64,
+        t: &'t mut [T],
+        value: F,
+    ) -> &'t [T]
+        requires { F.IsAlwaysCallable value }
+    {
+        let start = first(t, count);
+        let words = self.words_of(start.len()).as_chunks().0;
+        for (place, bytes) in start.iter_mut().zip(words) {
+            *place = value(u64::from_le_bytes(*bytes));
+        }
+        start
     }
 }
 
@@ -82,43 +118,17 @@ pub(crate) fn vector(x: u64, y: u64) -> Vector2 {
     Vector2::new(float(x), float(y))
 }
 
+// A number that is recorded, or 0 where it is above the most that there can be.
+pub(crate) fn within(n: u64, most: usize) -> usize
+    ensures { result ≤ most }
+{
+    if n <= most as u64 { n as usize } else { 0 }
+}
+
 // The first places of t, as many as are recorded, or none where it has fewer.
 pub(crate) fn first<T>(t: &mut [T], count: u64) -> &mut [T] {
-    let n = if count <= t.len() as u64 {
-        count as usize
-    } else {
-        0
-    };
+    let n = within(count, t.len());
     &mut t[..n]
-}
-
-// Puts s at the start of t, where it fits: the part of t that has it.
-pub(crate) fn load<'t>(s: &[u8], t: &'t mut [u8]) -> &'t mut [u8] {
-    if t.len() < s.len() {
-        return &mut t[..0];
-    }
-    let start = &mut t[..s.len()];
-    start.copy_from_slice(s);
-    start
-}
-
-// Puts the values of the words of s at the start of t, where all fit: the part of t that has them.
-pub(crate) fn load_words<'t, T: Drop, F: Fn(u64) -> T>(
-    s: &[u8],
-    t: &'t mut [T],
-    value: F,
-) -> &'t [T]
-    requires { F.IsAlwaysCallable value }
-{
-    let words = s.as_chunks().0;
-    if t.len() < words.len() {
-        return &[];
-    }
-    let start = &mut t[..words.len()];
-    for (place, bytes) in start.iter_mut().zip(words) {
-        *place = value(u64::from_le_bytes(*bytes));
-    }
-    start
 }
 
 // Whether a buffer holds the bytes of s, and after them what stood there before.
