@@ -43,8 +43,8 @@ fn is_minor(this: f64, next: f64, third: f64) -> bool
     this > next && next < third
 }
 
-// Four splines or more: minor corners by the estimated lengths. Out of line, so that no other colouring has the array on
-// its stack.
+// Four splines or more: minor corners by the estimated lengths. Out of line, so that no other colouring has the array
+// on its stack.
 #[inline(never)]
 fn colors_by_length(contour: Contour, pen: Pen, colors: &mut [u8]) -> Pen
     requires { (3 < corner_count contour.flags.now) × (length colors.old ≡ corner_count contour.flags.now) }

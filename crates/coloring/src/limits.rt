@@ -29,7 +29,7 @@ pub const MAX_SPLINES: usize = 64;
 // One distance for each pair of as many splines.
 pub const MAX_DISTANCES: usize = MAX_SPLINES * (MAX_SPLINES - 1) / 2;
 
-// Pairs of 16 splines. Few glyphs have more splines.
+// Few pairs: those of 16 splines.
 pub(crate) const FEW_DISTANCES: usize = 120;
 
 // The entries of the largest table.

@@ -74,8 +74,8 @@ fn color_in_order(table: &mut SplineTable, order: &[GraphEdge], seed: u64)
     offer_pairs(table, others);
 }
 
-// The colours of splines whose distances passed the checks, with places for so many pairs. Out of line, so that no other
-// colouring has these places on its stack.
+// The colours of splines whose distances passed the checks, with places for so many pairs. Out of line, so that no
+// other colouring has these places on its stack.
 #[inline(never)]
 fn color_with_room<const PAIRS: usize>(distances: &[f64], seed: u64, coloring: &mut [u8])
     requires valid { ValidDistances (length coloring.old) distances.now }
@@ -95,7 +95,8 @@ fn color_with_room<const PAIRS: usize>(distances: &[f64], seed: u64, coloring: &
     color_in_order(&mut table, &edges[..m], seed);
 }
 
-// The same, in few places for the splines of most glyphs, since they are filled whole.
+// The same, in few places where there are few pairs, since they are filled whole.
+#[tactic(auto, using(crate::proofs::pair_order::PairLaws::pairs_most))]
 fn color_valid(distances: &[f64], seed: u64, coloring: &mut [u8])
     requires { ValidDistances (length coloring.old) distances.now }
     ensures { coloring.new ≡ color_splines (length coloring.old) distances.now seed }
